@@ -1,0 +1,5 @@
+mod Digits
+mod KeyLemmas
+pub mod Kept
+pub mod Rows
+pub mod SameRow

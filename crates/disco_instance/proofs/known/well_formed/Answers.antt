@@ -1,0 +1,23 @@
+use Rattle.disco_instance.proofs.known.well_formed.Goals as goal
+
+pub returns : goal.returns
+returns c =
+    let r = c.args.rec.now in
+    record {
+      has_app = r.has_app;
+      has_id = r.has_id;
+      app_in_upper_case = r.app_in_upper_case;
+      country = r.country_in_range;
+      last_dirty = c.is_moment.ensures;
+      last_updated = c.is_moment-2.ensures;
+      lasts = r.lease.lasts;
+      duration = r.lease.duration_in_range;
+      renewal_interval = r.lease.interval_in_range;
+      eviction = c.is_moment-3.ensures;
+      last_renewal = c.is_moment-4.ensures;
+      registration = c.is_moment-5.ensures;
+      service_up = c.is_moment-6.ensures;
+      port = c.is_port.ensures;
+      secure_port = c.is_port-2.ensures;
+      metadata = c.ordered.ensures;
+    }

@@ -1,0 +1,132 @@
+-- The member table: what a JSON tree says of an instance (Eureka's REST operations; ranges are this project's own rule).
+use Rattle.std.specs.Prelude.{ℕ, ◌≡◌, ◌≢◌, true, false, List, codes, Option, Some, None, Result, Ok, Err, IfOk, option_and_then, unwrap_or, []}
+use Rattle.std.specs.Option.{option_or}
+use Rattle.serde_json.specs.Data.{Data}
+use Rattle.disco_instance.specs.Action.{action_named}
+use Rattle.disco_instance.specs.Members.{flag_at, inner_at, non_empty_at, not_empty, number_at, override_at, port_at, status_at, text_at, text_or_empty}
+use Rattle.disco_instance.specs.Metadata.{entries_at}
+use Rattle.disco_instance.specs.Row.{LeaseNumbers, Row}
+use Rattle.disco_instance.specs.Text.{in_upper_case}
+use Rattle.disco_instance.specs.declared.action.Action.{Action}
+use Rattle.disco_instance.specs.declared.data_center.DataCenter.{DataCenter}
+use Rattle.disco_instance.specs.declared.fault.Fault.{Fault}
+use Rattle.disco_instance.specs.declared.fault.Fault.TheVariants.{OutOfMemory, MissingField}
+use Rattle.disco_instance.specs.declared.fault.Field.TheVariants.{InstanceId, App}
+use Rattle.disco_instance.specs.declared.key.Key.{Key}
+use Rattle.disco_instance.specs.declared.lease.Lease.{Lease}
+use Rattle.disco_instance.specs.declared.record.Record.{Record}
+use Rattle.disco_instance.specs.declared.status.Status.TheVariants.{Up}
+
+-- what a call gave, seen by a function, is this, unless memory ran out
+abbrev pub Gives : {X Y : Type 0} → (X → Y) → Result X Fault → Result Y Fault → Type 0
+Gives view (Ok x) wanted = wanted ≡ Ok (view x)
+Gives view (Err e) wanted = e ≢ OutOfMemory → wanted ≡ Err e
+
+-- ---- the key
+
+-- the id, which is the host's name where none is given
+abbrev pub id_at : Data → Option (List ℕ)
+id_at d = option_or (non_empty_at (codes "instanceId") d) (non_empty_at (codes "hostName") d)
+
+-- the app's name, which is that of the application round it where none is given
+abbrev pub app_at : Option (List ℕ) → Data → Option (List ℕ)
+app_at within d = option_or (non_empty_at (codes "app") d) (option_and_then not_empty within)
+
+abbrev pub key_by : Option (List ℕ) → Option (List ℕ) → Result Key Fault
+key_by None app = Err (MissingField InstanceId)
+key_by (Some id) None = Err (MissingField App)
+key_by (Some id) (Some app) = Ok (record { app = in_upper_case app; id = id })
+
+-- the key, or the first of its parts that is missing
+abbrev pub key_at : Option (List ℕ) → Data → Result Key Fault
+key_at within d = key_by (id_at d) (app_at within d)
+
+-- ---- the other members
+
+abbrev pub data_center_at : Data → DataCenter
+data_center_at d = let inner = inner_at (codes "dataCenterInfo") d in record {
+  class = unwrap_or (text_at (codes "@class") inner) (codes "com.netflix.appinfo.InstanceInfo$DefaultDataCenterInfo");
+  name = unwrap_or (text_at (codes "name") inner) (codes "MyOwn");
+}
+
+abbrev pub lease_at : Data → LeaseNumbers
+lease_at d = record {
+  duration_secs = number_at (codes "durationInSecs") 1 2147483647 90 d;
+  renewal_interval_secs = number_at (codes "renewalIntervalInSecs") 0 2147483647 30 d;
+  eviction = number_at (codes "evictionTimestamp") 0 18446744073709551615 0 d;
+  last_renewal = number_at (codes "lastRenewalTimestamp") 0 18446744073709551615 0 d;
+  registration = number_at (codes "registrationTimestamp") 0 18446744073709551615 0 d;
+  service_up = number_at (codes "serviceUpTimestamp") 0 18446744073709551615 0 d;
+}
+
+-- the row of that key that a tree says
+unfoldable pub row_at : Data → Key → Row
+row_at d k = record {
+  key = k;
+  country_id = number_at (codes "countryId") 0 2147483647 1 d;
+  data_center = data_center_at d;
+  health_check_url = text_or_empty (codes "healthCheckUrl") d;
+  home_page_url = text_or_empty (codes "homePageUrl") d;
+  status_page_url = text_or_empty (codes "statusPageUrl") d;
+  host_name = text_or_empty (codes "hostName") d;
+  ip_addr = text_or_empty (codes "ipAddr") d;
+  is_coordinating = unwrap_or (flag_at (codes "isCoordinatingDiscoveryServer") d) false;
+  last_dirty = number_at (codes "lastDirtyTimestamp") 0 18446744073709551615 0 d;
+  last_updated = number_at (codes "lastUpdatedTimestamp") 0 18446744073709551615 0 d;
+  lease = lease_at (inner_at (codes "leaseInfo") d);
+  metadata = entries_at (codes "metadata") d;
+  overridden_status = override_at d;
+  port = port_at (codes "port") 7001 true d;
+  secure_port = port_at (codes "securePort") 7002 false d;
+  secure_vip_address = text_or_empty (codes "secureVipAddress") d;
+  vip_address = text_or_empty (codes "vipAddress") d;
+  status = status_at (codes "status") Up d;
+}
+
+abbrev pub with_row : Data → Result Key Fault → Result Row Fault
+with_row d (Ok k) = Ok (row_at d k)
+with_row d (Err e) = Err e
+
+-- what a tree says of an instance within an application of that name, or what is missing
+abbrev pub told_by : Option (List ℕ) → Data → Result Row Fault
+told_by within d = with_row d (key_at within d)
+
+-- what was done to the instance, where the tree says so
+abbrev pub action_at : Data → Option Action
+action_at d = option_and_then action_named (text_at (codes "actionType") d)
+
+-- ---- the same of a record, a member at a time
+
+abbrev pub lease_matches : Lease → Data → Type 0
+lease_matches l d = (l.duration_secs ≡ number_at (codes "durationInSecs") 1 2147483647 90 d) × (l.renewal_interval_secs ≡ number_at (codes "renewalIntervalInSecs") 0 2147483647 30 d)
+    × (l.eviction ≡ number_at (codes "evictionTimestamp") 0 18446744073709551615 0 d) × (l.last_renewal ≡ number_at (codes "lastRenewalTimestamp") 0 18446744073709551615 0 d)
+    × (l.registration ≡ number_at (codes "registrationTimestamp") 0 18446744073709551615 0 d) × (l.service_up ≡ number_at (codes "serviceUpTimestamp") 0 18446744073709551615 0 d)
+
+pub record Says (d : Data) (r : Record) : Type 0 where
+  pub country : r.country_id ≡ number_at (codes "countryId") 0 2147483647 1 d
+  pub data_center : r.data_center ≡ data_center_at d
+  pub health_check_url : r.health_check_url ≡ text_or_empty (codes "healthCheckUrl") d
+  pub home_page_url : r.home_page_url ≡ text_or_empty (codes "homePageUrl") d
+  pub status_page_url : r.status_page_url ≡ text_or_empty (codes "statusPageUrl") d
+  pub host_name : r.host_name ≡ text_or_empty (codes "hostName") d
+  pub ip_addr : r.ip_addr ≡ text_or_empty (codes "ipAddr") d
+  pub is_coordinating : r.is_coordinating ≡ unwrap_or (flag_at (codes "isCoordinatingDiscoveryServer") d) false
+  pub last_dirty : r.last_dirty ≡ number_at (codes "lastDirtyTimestamp") 0 18446744073709551615 0 d
+  pub last_updated : r.last_updated ≡ number_at (codes "lastUpdatedTimestamp") 0 18446744073709551615 0 d
+  pub lease : lease_matches r.lease (inner_at (codes "leaseInfo") d)
+  pub metadata : r.metadata ≡ entries_at (codes "metadata") d
+  pub overridden_status : r.overridden_status ≡ override_at d
+  pub port : r.port ≡ port_at (codes "port") 7001 true d
+  pub secure_port : r.secure_port ≡ port_at (codes "securePort") 7002 false d
+  pub secure_vip_address : r.secure_vip_address ≡ text_or_empty (codes "secureVipAddress") d
+  pub vip_address : r.vip_address ≡ text_or_empty (codes "vipAddress") d
+  pub status : r.status ≡ status_at (codes "status") Up d
+
+abbrev pub IfSays : Data → Result Record Fault → Type 0
+IfSays d r = IfOk r (λ x. Says d x)
+
+-- a key that a record may have
+pub record IsRecordKey (k : Key) : Type 0 where
+  pub has_app : k.app ≢ []
+  pub has_id : k.id ≢ []
+  pub upper : in_upper_case k.app ≡ k.app

@@ -1,0 +1,12 @@
+pub mod Action
+pub mod Entries
+pub mod Fault
+pub mod Instance
+pub mod Key
+pub mod Members
+pub mod Metadata
+pub mod Moments
+pub mod Row
+pub mod Since
+pub mod Status
+pub mod Text

@@ -1,0 +1,22 @@
+-- The moments that the registry sets in a record, all of them this project's own rule.
+use Rattle.std.specs.Prelude.{ℕ}
+use Rattle.disco_instance.specs.Row.{LeaseNumbers, Row}
+use Rattle.disco_instance.specs.Since.{since}
+use Rattle.disco_instance.specs.declared.status.Status.{Status}
+
+-- the lease of a record that is put at a moment
+abbrev pub put_lease : LeaseNumbers → ℕ → ℕ → ℕ → LeaseNumbers
+put_lease l registration service_up now = record l { last_renewal = now; eviction = 0; registration = registration; service_up = service_up }
+
+-- the record that a registration at a moment puts, with the status and the override that were settled
+abbrev pub registered_at : Row → Status → Status → ℕ → ℕ → Row
+registered_at r status overridden held_up now = record r {
+  status = status;
+  overridden_status = overridden;
+  last_updated = now;
+  lease = put_lease r.lease now (since held_up status now) now;
+}
+
+-- the last record of an instance that is cancelled at a moment
+abbrev pub cancelled_at : Row → ℕ → Row
+cancelled_at r now = record r { last_updated = now; lease = record r.lease { eviction = now } }

@@ -1,0 +1,32 @@
+//! What is known of every record.
+ghost use Rattle.std.specs.Prelude.{◌<◌, ◌^◌};
+ghost use Rattle.disco_instance.specs.Row.{IsWellFormed, row};
+
+use crate::record::Record;
+
+fn is_moment(moment: u64)
+    ensures { moment < 2 ^ 64 }
+{
+    let _ = moment;
+}
+
+fn is_port(number: u16)
+    ensures { number < 2 ^ 16 }
+{
+    let _ = number;
+}
+
+/// Says what is true of every record, and does nothing.
+pub fn well_formed(rec: &Record)
+    ensures { IsWellFormed (row rec.now) }
+{
+    rec.metadata.ordered();
+    is_moment(rec.last_dirty);
+    is_moment(rec.last_updated);
+    is_moment(rec.lease.eviction);
+    is_moment(rec.lease.last_renewal);
+    is_moment(rec.lease.registration);
+    is_moment(rec.lease.service_up);
+    is_port(rec.port.number);
+    is_port(rec.secure_port.number);
+}

@@ -1,0 +1,44 @@
+//! The lease of an instance.
+ghost use Rattle.std.specs.Prelude.{◌≡◌, ◌<◌, ◌^◌};
+
+/// The lease of an instance: the member `leaseInfo`. Moments are in milliseconds.
+#[derive(Clone, Copy, Debug)]
+pub struct Lease {
+    /// How long a renewal lasts, in seconds: 1 to 2,147,483,647.
+    pub duration_secs: u32,
+    /// How often the instance means to renew, in seconds: 0 to 2,147,483,647.
+    pub renewal_interval_secs: u32,
+    pub eviction: u64,
+    pub last_renewal: u64,
+    pub registration: u64,
+    pub service_up: u64,
+    pub ghost lasts: { 0 < duration_secs },
+    pub ghost duration_in_range: { duration_secs < 2 ^ 31 },
+    pub ghost interval_in_range: { renewal_interval_secs < 2 ^ 31 },
+}
+
+impl Lease {
+    ghost use Rattle.disco_instance.specs.Row.{numbers};
+    ghost use Rattle.disco_instance.specs.Moments.{put_lease};
+
+    /// The lease of a record that is put at a moment.
+    pub fn put(self, registration: u64, service_up: u64, now: u64) -> Lease
+        ensures { numbers result ≡ put_lease (numbers self) registration service_up now }
+    {
+        let mut new = self;
+        new.last_renewal = now;
+        new.eviction = 0;
+        new.registration = registration;
+        new.service_up = service_up;
+        new
+    }
+
+    /// The lease of an instance that is cancelled at a moment.
+    pub fn evicted(self, now: u64) -> Lease
+        ensures { numbers result ≡ record (numbers self) { eviction = now } }
+    {
+        let mut new = self;
+        new.eviction = now;
+        new
+    }
+}

@@ -1,0 +1,56 @@
+//! The member `metadata` of a JSON value.
+ghost use Rattle.std.specs.Prelude.{◌≡◌, IfOk};
+ghost use Rattle.serde_json.specs.View.{view, members_view};
+ghost use Rattle.disco_instance.specs.Metadata.{entries_at, entry_text, kept_entries};
+
+use crate::entries::Entries;
+use crate::text::Text;
+use serde_json::{Map, Value};
+use std::alloc::{AllocError, Global};
+
+/// The text that an entry is kept as, where it is kept.
+fn kept_text(alloc: Global, value: &Value) -> Result<Option<Text>, AllocError>
+    ensures { IfOk result (λ o. o ≡ entry_text (view value.now)) }
+{
+    match value {
+        Value::String(text) => Ok(Some(Text::new(alloc, text.as_str())?)),
+        Value::Bool(flag) => Ok(Some(Text::new(alloc, if *flag { "true" } else { "false" })?)),
+        Value::Number(number) => match number.as_u64() {
+            Some(number) => Ok(Some(Text::new(alloc, format!(in alloc; "{number}")?.as_str())?)),
+            None => Ok(None),
+        },
+        _ => Ok(None),
+    }
+}
+
+fn kept_pairs(alloc: Global, map: &Map<String, Value>) -> Result<Vec<(Text, Text)>, AllocError>
+    ensures { IfOk result (λ v. v.items ≡ kept_entries (members_view map.now.entries)) }
+{
+    let mut kept = Vec::new(alloc);
+    for (name, value) in map {
+        if name.as_str() != "@class" {
+            if let Some(text) = kept_text(alloc, value)? {
+                kept.push((Text::new(alloc, name.as_str())?, text))?;
+            }
+        }
+    }
+    Ok(kept)
+}
+
+/// The entries at a name: texts, whole numbers and truth values, in byte order of their names.
+#[tactic(auto, using(crate::proofs::Kept::kept_sorted))]
+pub(crate) fn entries_member(
+    alloc: Global,
+    value: &Value,
+    name: &str,
+) -> Result<Entries, AllocError>
+    ensures { IfOk result (λ e. e ≡ entries_at name.now (view value.now)) }
+{
+    match value.get(name).and_then(Value::as_object) {
+        Some(map) => {
+            let _ordered = map.len();
+            Ok(Entries::from_sorted(kept_pairs(alloc, map)?))
+        }
+        None => Ok(Entries::new(alloc)),
+    }
+}

@@ -1,0 +1,153 @@
+//! A record from a JSON value.
+ghost use Rattle.std.specs.Prelude.{◌≡◌, ◌<◌, ◌^◌, codes, IfOk};
+ghost use Rattle.std.specs.Option.{option_copied};
+ghost use Rattle.serde_json.specs.View.{view};
+ghost use Rattle.disco_instance.specs.Instance.{Gives, Says, action_at, data_center_at, key_at, lease_matches, told_by};
+ghost use Rattle.disco_instance.specs.Members.{inner_at, number_at};
+ghost use Rattle.disco_instance.specs.Row.{row};
+
+use crate::action::{Action, action_of};
+use crate::data_center::DataCenter;
+use crate::fault::{Fault, Field};
+use crate::key::Key;
+use crate::lease::Lease;
+use crate::members::{
+    flag_member, non_empty_member, number_member, override_member, port_member, status_member,
+    text_member, text_or_empty,
+};
+use crate::metadata::entries_member;
+use crate::record::Record;
+use crate::status::Status;
+use crate::text::{Text, upper_text};
+use serde_json::Value;
+use std::alloc::{AllocError, Global};
+
+fn key_from_value(alloc: Global, value: &Value, within: Option<&str>) -> Result<Key, Fault>
+    ensures { Gives (λ k. k) result (key_at (option_copied within.entry) (view value.now)) }
+{
+    let Some(id) = non_empty_member(value, "instanceId").or(non_empty_member(value, "hostName"))
+    else {
+        return Err(Fault::MissingField(Field::InstanceId));
+    };
+    let app = match non_empty_member(value, "app") {
+        Some(app) => app,
+        None => match within {
+            Some(name) if !name.is_empty() => name,
+            _ => return Err(Fault::MissingField(Field::App)),
+        },
+    };
+    Ok(Key {
+        app: upper_text(alloc, app)?,
+        id: Text::new(alloc, id)?,
+    })
+}
+
+fn data_center_member(alloc: Global, value: &Value) -> Result<DataCenter, AllocError>
+    ensures { IfOk result (λ c. c ≡ data_center_at (view value.now)) }
+{
+    let (class, name) = match value.get("dataCenterInfo") {
+        Some(inner) => (text_member(inner, "@class"), text_member(inner, "name")),
+        None => (None, None),
+    };
+    Ok(DataCenter {
+        class: Text::new(
+            alloc,
+            class.unwrap_or("com.netflix.appinfo.InstanceInfo$DefaultDataCenterInfo"),
+        )?,
+        name: Text::new(alloc, name.unwrap_or("MyOwn"))?,
+    })
+}
+
+fn country_member(value: &Value) -> u32
+    ensures value { result ≡ number_at (codes "countryId") 0 2147483647 1 (view value.now) }
+    ensures in_range { result < 2 ^ 31 }
+{
+    number_member(value, "countryId", 0, 2147483647, 1) as u32
+}
+
+fn lease_member(value: &Value) -> Lease
+    ensures { lease_matches result (inner_at (codes "leaseInfo") (view value.now)) }
+{
+    let nothing = Value::Null;
+    match value.get("leaseInfo") {
+        Some(inner) => lease_from_value(inner),
+        None => lease_from_value(&nothing),
+    }
+}
+
+fn lease_from_value(value: &Value) -> Lease
+    ensures { lease_matches result (view value.now) }
+{
+    Lease {
+        duration_secs: number_member(value, "durationInSecs", 1, 2147483647, 90) as u32,
+        renewal_interval_secs: number_member(
+            value,
+            "renewalIntervalInSecs",
+            0,
+            2147483647,
+            30,
+        ) as u32,
+        eviction: number_member(value, "evictionTimestamp", 0, u64::MAX, 0),
+        last_renewal: number_member(value, "lastRenewalTimestamp", 0, u64::MAX, 0),
+        registration: number_member(value, "registrationTimestamp", 0, u64::MAX, 0),
+        service_up: number_member(value, "serviceUpTimestamp", 0, u64::MAX, 0),
+    }
+}
+
+/// What was done to an instance, where its value says so: the member `actionType`.
+pub fn action_from_value(value: &Value) -> Option<Action>
+    ensures { result ≡ action_at (view value.now) }
+{
+    text_member(value, "actionType").and_then(action_of)
+}
+
+fn read_record(alloc: Global, value: &Value, within: Option<&str>) -> Result<Record, Fault>
+    ensures table { IfOk result (λ r. Says (view value.now) r) }
+    ensures key { Gives (λ r. r.key) result (key_at (option_copied within.entry) (view value.now)) }
+{
+    let key = key_from_value(alloc, value, within)?;
+    let data_center = data_center_member(alloc, value)?;
+    let health_check_url = text_or_empty(alloc, value, "healthCheckUrl")?;
+    let home_page_url = text_or_empty(alloc, value, "homePageUrl")?;
+    let status_page_url = text_or_empty(alloc, value, "statusPageUrl")?;
+    let host_name = text_or_empty(alloc, value, "hostName")?;
+    let ip_addr = text_or_empty(alloc, value, "ipAddr")?;
+    let secure_vip_address = text_or_empty(alloc, value, "secureVipAddress")?;
+    let vip_address = text_or_empty(alloc, value, "vipAddress")?;
+    let overridden_status = override_member(alloc, value)?;
+    let status = status_member(alloc, value, "status", Status::Up)?;
+    let metadata = entries_member(alloc, value, "metadata")?;
+    let lease = lease_member(value);
+    Ok(Record {
+        key,
+        country_id: country_member(value),
+        data_center,
+        health_check_url,
+        home_page_url,
+        status_page_url,
+        host_name,
+        ip_addr,
+        is_coordinating: flag_member(value, "isCoordinatingDiscoveryServer").unwrap_or(false),
+        last_dirty: number_member(value, "lastDirtyTimestamp", 0, u64::MAX, 0),
+        last_updated: number_member(value, "lastUpdatedTimestamp", 0, u64::MAX, 0),
+        lease,
+        metadata,
+        overridden_status,
+        port: port_member(value, "port", 7001, true),
+        secure_port: port_member(value, "securePort", 7002, false),
+        secure_vip_address,
+        vip_address,
+        status,
+    })
+}
+
+impl Record {
+    /// The record that a JSON value says, within an application of that name. Refused as
+    /// `MissingField` for no id and else for no app, and as `OutOfMemory`.
+    #[tactic(auto, using(crate::proofs::Rows::told))]
+    pub fn from_value(alloc: Global, value: &Value, within: Option<&str>) -> Result<Record, Fault>
+        ensures { Gives row result (told_by (option_copied within.entry) (view value.now)) }
+    {
+        read_record(alloc, value, within)
+    }
+}

@@ -1,0 +1,124 @@
+//! A record of an instance.
+ghost use Rattle.std.specs.Prelude.{◌≡◌, ◌≢◌, ◌<◌, ◌^◌, [], IfOk, IfErr};
+ghost use Rattle.disco_instance.specs.Since.{since};
+ghost use Rattle.disco_instance.specs.Text.{in_upper_case};
+ghost use Rattle.disco_instance.specs.declared.fault.Fault.TheVariants.{OutOfMemory};
+
+use crate::data_center::DataCenter;
+use crate::entries::Entries;
+use crate::fault::Fault;
+use crate::key::Key;
+use crate::lease::Lease;
+use crate::port::Port;
+use crate::status::Status;
+use crate::text::Text;
+
+/// What an instance registered, as the registry keeps it. Moments are in milliseconds.
+#[derive(Debug, Drop)]
+pub struct Record {
+    /// The members `app` and `instanceId`.
+    pub key: Key,
+    /// 0 to 2,147,483,647.
+    pub country_id: u32,
+    pub data_center: DataCenter,
+    pub health_check_url: Text,
+    pub home_page_url: Text,
+    pub status_page_url: Text,
+    pub host_name: Text,
+    pub ip_addr: Text,
+    /// The member `isCoordinatingDiscoveryServer`.
+    pub is_coordinating: bool,
+    /// When the instance last changed its own record.
+    pub last_dirty: u64,
+    /// When the registry last put the record.
+    pub last_updated: u64,
+    pub lease: Lease,
+    pub metadata: Entries,
+    pub overridden_status: Status,
+    pub port: Port,
+    pub secure_port: Port,
+    /// Vips separated by commas.
+    pub secure_vip_address: Text,
+    /// Vips separated by commas.
+    pub vip_address: Text,
+    pub status: Status,
+    pub ghost has_app: { key.app ≢ [] },
+    pub ghost has_id: { key.id ≢ [] },
+    pub ghost app_in_upper_case: { in_upper_case key.app ≡ key.app },
+    pub ghost country_in_range: { country_id < 2 ^ 31 },
+}
+
+impl Record {
+    ghost use Rattle.disco_instance.specs.Row.{row};
+    ghost use Rattle.disco_instance.specs.Moments.{registered_at, cancelled_at};
+
+    /// The same record once more. Refused only as `OutOfMemory`.
+    pub fn copy(&self) -> Result<Record, Fault>
+        ensures same { IfOk result (λ r. r ≡ self.now) }
+        ensures memory { IfErr result (λ e. e ≡ OutOfMemory) }
+    {
+        Ok(Record {
+            key: self.key.clone()?,
+            country_id: self.country_id,
+            data_center: self.data_center.clone()?,
+            health_check_url: self.health_check_url.clone()?,
+            home_page_url: self.home_page_url.clone()?,
+            status_page_url: self.status_page_url.clone()?,
+            host_name: self.host_name.clone()?,
+            ip_addr: self.ip_addr.clone()?,
+            is_coordinating: self.is_coordinating,
+            last_dirty: self.last_dirty,
+            last_updated: self.last_updated,
+            lease: self.lease,
+            metadata: self.metadata.copy()?,
+            overridden_status: self.overridden_status,
+            port: self.port,
+            secure_port: self.secure_port,
+            secure_vip_address: self.secure_vip_address.clone()?,
+            vip_address: self.vip_address.clone()?,
+            status: self.status,
+        })
+    }
+
+    /// The record as a registration at a moment puts it, with the status and the override that
+    /// were settled. `held_up` is since when the held record says that the instance is up, 0 for
+    /// no such moment.
+    pub fn registered(
+        self,
+        status: Status,
+        overridden_status: Status,
+        held_up: u64,
+        now: u64,
+    ) -> Record
+        ensures { row result ≡ registered_at (row self) status overridden_status held_up now }
+    {
+        let mut new = self;
+        new.status = status;
+        new.overridden_status = overridden_status;
+        new.last_updated = now;
+        new.lease = new.lease.put(now, up_since(held_up, status, now), now);
+        new
+    }
+
+    /// The last record of an instance that is cancelled at a moment.
+    pub fn cancelled(self, now: u64) -> Record
+        ensures { row result ≡ cancelled_at (row self) now }
+    {
+        let mut new = self;
+        new.last_updated = now;
+        new.lease = new.lease.evicted(now);
+        new
+    }
+}
+
+fn up_since(held_up: u64, status: Status, now: u64) -> u64
+    ensures { result ≡ since held_up status now }
+{
+    if held_up > 0 {
+        held_up
+    } else if status == Status::Up {
+        now
+    } else {
+        0
+    }
+}
