@@ -1,0 +1,41 @@
+-- The place of the last change of a key, one change on.
+use Rattle.std.proofs.Common.{◌≡◌, ℕ, ◌+◌, ◌<◌, Bool, true, false, ◌&&◌, cond, List, [], ◌∷◌, ◌++◌, map, take, length, Option, Some, None, option_map, MatchOption, slice_get, get_or, sym, ap, ◌∙◌, arith}
+use Rattle.disco_instance.specs.Key.{same_key}
+use Rattle.disco_instance.specs.declared.key.Key.{Key}
+use Rattle.disco_history.specs.declared.change.Change.{Change}
+use Rattle.disco_history.specs.Change.{key_of, last, seen}
+use Rattle.std.specs.Str.{bytes_eq}
+use Rattle.std.proofs.lemmas.List.{take_more, map-append}
+use Rattle.std.proofs.lemmas.Option.{slice_get-get_or}
+use Rattle.disco_history.proofs.Keys.{same_key-parts, same_key-sym}
+use Rattle.disco_history.proofs.Lasts.{last_more}
+
+-- o is the place of the last of the first i changes that is of the key
+abbrev pub IsLastOf : List Change → Key → ℕ → Option ℕ → Type 0
+IsLastOf cs k i o = MatchOption o
+    (last (map seen (take i cs)) k ≡ None)
+    (λ j. (j < i) × (last (map seen (take i cs)) k ≡ option_map seen (slice_get cs j)))
+
+module _ (cs : List Change) (k : Key) (i : ℕ) (c : Change) (inside : i < length cs) (is : c ≡ get_or cs i c) where
+  one_more : map seen (take (i + 1) cs) ≡ map seen (take i cs) ++ seen c ∷ []
+  one_more = ap (map seen) (take_more cs i c inside ∙ ap (λ x. take i cs ++ x ∷ []) (sym is)) ∙ map-append seen (take i cs) (c ∷ [])
+
+  last_at : last (map seen (take (i + 1) cs)) k ≡ cond (same_key k (key_of (seen c))) (Some (seen c)) (last (map seen (take i cs)) k)
+  last_at = ap (λ h. last h k) one_more ∙ last_more (map seen (take i cs)) (seen c) k
+
+  -- the test of the code
+  tested : (b : Bool) → b ≡ (bytes_eq (key_of (seen c)).app k.app && bytes_eq (key_of (seen c)).id k.id) → same_key k (key_of (seen c)) ≡ b
+  tested b e = same_key-sym k (key_of (seen c)) ∙ same_key-parts (key_of (seen c)) k ∙ sym e
+
+  there : slice_get cs i ≡ Some c
+  there = slice_get-get_or cs i c inside ∙ ap (λ x. Some x) (sym is)
+
+  pub found : (b : Bool) → b ≡ (bytes_eq (key_of (seen c)).app k.app && bytes_eq (key_of (seen c)).id k.id) → b ≡ true → IsLastOf cs k (i + 1) (Some i)
+  found b e hit = (omega arith, last_at ∙ ap (λ t. cond t (Some (seen c)) (last (map seen (take i cs)) k)) (tested b e ∙ hit) ∙ ap (option_map seen) (sym there))
+
+  miss : (o : Option ℕ) → last (map seen (take (i + 1) cs)) k ≡ last (map seen (take i cs)) k → IsLastOf cs k i o → IsLastOf cs k (i + 1) o
+  miss None same so_far = same ∙ so_far
+  miss (Some j) same so_far = (omega (arith, so_far.0), same ∙ so_far.1)
+
+  pub passed : (b : Bool) (o : Option ℕ) → b ≡ (bytes_eq (key_of (seen c)).app k.app && bytes_eq (key_of (seen c)).id k.id) → b ≡ false → IsLastOf cs k i o → IsLastOf cs k (i + 1) o
+  passed b o e other so_far = miss o (last_at ∙ ap (λ t. cond t (Some (seen c)) (last (map seen (take i cs)) k)) (tested b e ∙ other)) so_far

@@ -1,0 +1,31 @@
+-- Changes of a registry as plain data, and the last one of each key.
+use Rattle.std.specs.Prelude.{List, [], ◌∷◌, if◌then◌else◌, Option, Some, None, take}
+use Rattle.std.specs.Option.{option_or}
+use Rattle.disco_instance.specs.Key.{same_key}
+use Rattle.disco_instance.specs.Row.{Row, row}
+use Rattle.disco_instance.specs.declared.action.Action.{Action}
+use Rattle.disco_instance.specs.declared.action.Action.TheVariants.{Deleted}
+use Rattle.disco_instance.specs.declared.key.Key.{Key}
+use Rattle.disco_history.specs.declared.change.Change.{Change}
+use Rattle.disco_history.specs.declared.change.Change.TheVariants.{Put, Gone}
+use Rattle.std.specs.Prelude.{ℕ}
+
+-- a change: its record, and what it did to it; DELETED is that the record went
+abbrev pub Entry : Type 0
+Entry = Row × Action
+
+abbrev pub seen : Change → Entry
+seen (Put action rec) = (row rec.value, action)
+seen (Gone rec) = (row rec.value, Deleted)
+
+abbrev pub key_of : Entry → Key
+key_of e = e.0.key
+
+-- version v of a history: its first v changes
+abbrev pub front : List Entry → ℕ → List Entry
+front h v = take v h
+
+-- the last change of the key
+abbrev pub last : List Entry → Key → Option Entry
+last [] k = None
+last (e ∷ es) k = option_or (last es k) (if same_key k (key_of e) then Some e else None)

@@ -1,0 +1,9 @@
+pub mod Change
+pub mod Chosen
+pub mod Forms
+pub mod Hash
+pub mod Laws
+pub mod Mentions
+pub mod Query
+pub mod Registry
+pub mod Worked

@@ -1,0 +1,33 @@
+-- What changed in a registry, and what a client makes of it (Eureka's delta update).
+use Rattle.std.specs.Prelude.{ℕ, List, map, drop, ◌++◌, Option, Some, None, option_map}
+use Rattle.std.specs.List.{filter_map}
+use Rattle.std.specs.FinMap.{FinMap, get, keys}
+use Rattle.disco_instance.specs.Key.{key_cmp}
+use Rattle.disco_instance.specs.Row.{Row}
+use Rattle.disco_instance.specs.declared.action.Action.{Action}
+use Rattle.disco_history.specs.Change.{Entry, key_of, last}
+use Rattle.disco_history.specs.Chosen.{chosen}
+use Rattle.disco_history.specs.Registry.{kept_by}
+
+-- a mention: a record, and what was done to it where that is said
+abbrev pub Mention : Type 0
+Mention = Row × Option Action
+
+abbrev pub mention_of : Entry → Mention
+mention_of e = (e.0, Some e.1)
+
+-- the delta from base o: each key of the changes after the first o, with its last change
+abbrev pub delta : List Entry → ℕ → FinMap key_cmp Entry
+delta h o = chosen (last (drop o h)) (map key_of (drop o h))
+
+-- the mentions that say what was done
+abbrev pub known : List Mention → List Entry
+known ms = filter_map (λ m. option_map (λ action. (m.0, action)) m.1) ms
+
+abbrev pub overlaid_by : Option Row → Option Entry → Option Row
+overlaid_by held None = held
+overlaid_by held (Some e) = kept_by e.1 e.0
+
+-- the overlay: of each key its last known mention, else the record that is there
+abbrev pub overlay : FinMap key_cmp Row → List Mention → FinMap key_cmp Row
+overlay s ms = let es = known ms in chosen (λ k. overlaid_by (get s k) (last es k)) (keys s ++ map key_of es)

@@ -1,0 +1,52 @@
+-- Which records a query asks for (Eureka's REST operations).
+use Rattle.std.specs.Prelude.{ℕ, Bool, true, false, not, ◌==◌, ◌&&◌, List, [], ◌∷◌, length, filter, if◌then◌else◌, Some, None, option_and_then}
+use Rattle.std.specs.List.{list_any}
+use Rattle.std.specs.Str.{bytes_eq}
+use Rattle.std.specs.FinMap.{FinMap, get, keys, len}
+use Rattle.disco_instance.specs.Key.{key_cmp, same_key}
+use Rattle.disco_instance.specs.Row.{Row}
+use Rattle.disco_instance.specs.declared.key.Key.{Key}
+use Rattle.disco_history.specs.Chosen.{chosen}
+
+-- what a query asks for
+pub data Asked : Type 0 where
+  all : Asked
+  of_app : List ℕ → Asked
+  of_vip : List ℕ → Asked
+  of_secure_vip : List ℕ → Asked
+  of_key : Key → Asked
+
+abbrev pub onto_first : ℕ → List (List ℕ) → List (List ℕ)
+onto_first c [] = (c ∷ []) ∷ []
+onto_first c (p ∷ ps) = (c ∷ p) ∷ ps
+
+-- the pieces between commas, empty ones too
+abbrev pub between_commas : List ℕ → List (List ℕ)
+between_commas [] = [] ∷ []
+between_commas (c ∷ cs) = if c == 44 then [] ∷ between_commas cs else onto_first c (between_commas cs)
+
+-- the vips of an address: its pieces that aren't empty, nothing trimmed
+abbrev pub vips : List ℕ → List (List ℕ)
+vips address = filter (λ p. not (length p == 0)) (between_commas address)
+
+abbrev pub asks_for : Asked → Row → Bool
+asks_for all r = true
+asks_for (of_app name) r = bytes_eq r.key.app name
+asks_for (of_vip vip) r = list_any (bytes_eq vip) (vips r.vip_address)
+asks_for (of_secure_vip vip) r = list_any (bytes_eq vip) (vips r.secure_vip_address)
+asks_for (of_key k) r = same_key r.key k
+
+-- the restriction: the records that are asked for
+abbrev pub restrict : FinMap key_cmp Row → Asked → FinMap key_cmp Row
+restrict s q = chosen (λ k. option_and_then (λ r. if asks_for q r then Some r else None) (get s k)) (keys s)
+
+abbrev pub may_be_empty : Asked → Bool
+may_be_empty all = true
+may_be_empty (of_app name) = false
+may_be_empty (of_vip vip) = false
+may_be_empty (of_secure_vip vip) = false
+may_be_empty (of_key k) = false
+
+-- absent: no record is asked for, and the query wants one
+abbrev pub is_absent : FinMap key_cmp Row → Asked → Bool
+is_absent s q = (len (restrict s q) == 0) && not (may_be_empty q)

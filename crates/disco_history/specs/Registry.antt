@@ -1,0 +1,27 @@
+-- The registry that a history leaves, and its mentions.
+use Rattle.std.specs.Prelude.{List, map, Option, Some, None, option_map, option_and_then}
+use Rattle.std.specs.FinMap.{FinMap, keys}
+use Rattle.disco_instance.specs.Key.{key_cmp}
+use Rattle.disco_instance.specs.Row.{Row}
+use Rattle.disco_instance.specs.declared.action.Action.{Action}
+use Rattle.disco_instance.specs.declared.action.Action.TheVariants.{Added, Modified, Deleted}
+use Rattle.disco_history.specs.Change.{Entry, key_of, last}
+use Rattle.disco_history.specs.Chosen.{chosen}
+
+-- x, unless the action took it out
+abbrev pub kept_by : {X : Type 0} → Action → X → Option X
+kept_by Added x = Some x
+kept_by Modified x = Some x
+kept_by Deleted x = None
+
+-- a change that put its record
+abbrev pub put_of : Entry → Option Entry
+put_of e = kept_by e.1 e
+
+-- the registry: the records whose key's last change is a put
+abbrev pub reg : List Entry → FinMap key_cmp Row
+reg h = chosen (λ k. option_map (λ e. e.0) (option_and_then put_of (last h k))) (map key_of h)
+
+-- the mentions of records of the registry: each with what its key's last change did
+abbrev pub said : List Entry → FinMap key_cmp Row → FinMap key_cmp Entry
+said h s = chosen (λ k. option_and_then put_of (last h k)) (keys s)

@@ -1,0 +1,48 @@
+//! Changes of a registry.
+ghost use Rattle.std.specs.Prelude.{◌≡◌, ◌<◌, None, MatchOption, length, map, slice_get, option_map};
+ghost use Rattle.disco_history.specs.Change.{key_of, last, seen};
+
+use disco_instance::{Action, Key, Record};
+use std::alloc::Global;
+use std::sync::Arc;
+
+/// An accepted change of a registry.
+#[derive(Debug, Drop)]
+pub enum Change {
+    /// The record was put, as `Added` or `Modified`.
+    Put {
+        action: Action,
+        rec: Arc<Record, Global>,
+    },
+    /// The record went. This is its last state.
+    Gone {
+        rec: Arc<Record, Global>,
+    },
+}
+
+impl Change {
+    /// The key of its record.
+    pub fn key(&self) -> &Key
+        ensures { result.now ≡ key_of (seen self.now) }
+    {
+        match self {
+            Change::Put { action: _, rec } => &rec.key,
+            Change::Gone { rec } => &rec.key,
+        }
+    }
+}
+
+/// The index of the last change of a key.
+pub fn last_of(changes: &[Change], key: &Key) -> Option<usize>
+    ensures { MatchOption result
+        (last (map seen changes.now) key.now ≡ None)
+        (λ i. (i < length changes.now) × (last (map seen changes.now) key.now ≡ option_map seen (slice_get changes.now i))) }
+{
+    let mut last = None;
+    for (i, change) in changes.iter().enumerate() {
+        if change.key() == key {
+            last = Some(i);
+        }
+    }
+    last
+}

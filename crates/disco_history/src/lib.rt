@@ -1,0 +1,10 @@
+//! The history of a registry, and the definitions that every layer above speaks in.
+//!
+//! A history is the list of the changes that were accepted. Version v of the registry is what the
+//! first v of them leave. Nothing keeps a whole history: it stands in contracts alone.
+#![tactic(auto)]
+
+mod change;
+pub mod laws;
+
+pub use change::{Change, last_of};
