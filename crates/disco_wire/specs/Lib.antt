@@ -1,0 +1,6 @@
+pub mod Documents
+pub mod Laws
+pub mod Meaning
+pub mod Registration
+pub mod Tree
+pub mod Wire

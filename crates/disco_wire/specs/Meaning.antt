@@ -1,0 +1,92 @@
+-- What a JSON tree means as a document (the JSON of Eureka's REST operations).
+use Rattle.std.specs.Prelude.{ℕ, List, [], ◌∷◌, ◌++◌, codes, Option, Some, None, option_map, option_and_then, Result, Ok, Err}
+use Rattle.std.specs.Result.{result_ok}
+use Rattle.serde_json.specs.Data.{Data, null, boolean, number, string, array, object, Items, no_items, item}
+use Rattle.serde_json.specs.Find.{get}
+use Rattle.disco_instance.specs.Instance.{told_by, action_at}
+use Rattle.disco_instance.specs.Members.{text_at, as_whole}
+use Rattle.disco_instance.specs.Row.{Row}
+use Rattle.disco_instance.specs.declared.action.Action.{Action}
+use Rattle.disco_instance.specs.declared.fault.Fault.{Fault}
+use Rattle.disco_instance.specs.declared.fault.Fault.TheVariants.{BadDocument}
+use Rattle.disco_wire.specs.Tree.{as_tree, object_at}
+use Rattle.disco_wire.specs.declared.wire.Shape.{Shape}
+use Rattle.disco_wire.specs.declared.wire.Shape.TheVariants.{Many, App, One}
+
+-- a mention: an instance's row, and what was done to it where that is said
+abbrev pub Told : Type 0
+Told = Row × Option Action
+
+-- what a document means: its shape, its mentions in the order of the text, its hash code and its version where they are given
+pub record Meaning : Type 0 where
+  pub shape : Shape
+  pub mentions : List Told
+  pub hash : Option (List ℕ)
+  pub version : Option ℕ
+
+abbrev pub list_of : Items → List Data
+list_of no_items = []
+list_of (item d ds) = d ∷ list_of ds
+
+-- an array, one object, or null: what stands there
+abbrev pub listed_in : Data → Option (List Data)
+listed_in null = Some []
+listed_in (boolean b) = None
+listed_in (number n) = None
+listed_in (string s) = None
+listed_in (array ds) = Some (list_of ds)
+listed_in (object ms) = Some (object ms ∷ [])
+
+abbrev pub listed : Option Data → Option (List Data)
+listed None = Some []
+listed (Some d) = listed_in d
+
+-- what all of them tell, in order; nothing where one tells nothing
+abbrev pub all_told : (Data → Option (List Told)) → List Data → Option (List Told)
+all_told f [] = Some []
+all_told f (d ∷ ds) = option_and_then (λ ms. option_map (λ rest. ms ++ rest) (all_told f ds)) (f d)
+
+-- an instance with an id and an app, which may be that of the application round it
+unfoldable pub told_in : Option (List ℕ) → Data → Option (List Told)
+told_in app d = option_map (λ r. (r, action_at d) ∷ []) (result_ok (told_by app d))
+
+-- an application
+abbrev pub told_app : Data → Option (List Told)
+told_app d = option_and_then (all_told (told_in (text_at (codes "name") d))) (listed (get (codes "instance") d))
+
+-- an application in an array
+abbrev pub told_item : Data → Option (List Told)
+told_item d = option_and_then told_app (as_tree d)
+
+abbrev pub told_apps : Data → Option (List Told)
+told_apps d = option_and_then (all_told told_item) (listed (get (codes "application") d))
+
+abbrev pub meant : Shape → Option (List ℕ) → Option ℕ → List Told → Meaning
+meant shape hash version ms = record { shape = shape; mentions = ms; hash = hash; version = version }
+
+abbrev pub many_meant : Data → Option Meaning
+many_meant d = option_map (meant Many (text_at (codes "apps__hashcode") d) (option_and_then as_whole (get (codes "versions__delta") d))) (told_apps d)
+
+-- by the first of the three members that is an object
+abbrev pub meaning_by : Option Data → Option Data → Option Data → Option Meaning
+meaning_by (Some d) app one = many_meant d
+meaning_by None (Some d) one = option_map (meant App None None) (told_app d)
+meaning_by None None (Some d) = option_map (meant One None None) (told_in None d)
+meaning_by None None None = None
+
+unfoldable pub meaning_of : Data → Option Meaning
+meaning_of d = meaning_by (object_at (codes "applications") d) (object_at (codes "application") d) (object_at (codes "instance") d)
+
+-- what a tree means where it is of the shape Many
+abbrev pub many_of : Data → Option Meaning
+many_of d = option_and_then many_meant (object_at (codes "applications") d)
+
+-- a meaning, or the refusal of what has none
+abbrev pub or_bad : {A : Type 0} → Option A → Result A Fault
+or_bad None = Err BadDocument
+or_bad (Some x) = Ok x
+
+-- the same after what was told before
+abbrev pub told_on : List Told → Option (List Told) → Result (List Told) Fault
+told_on before None = Err BadDocument
+told_on before (Some ms) = Ok (before ++ ms)

@@ -1,0 +1,15 @@
+-- What was read, as plain data.
+use Rattle.std.specs.Prelude.{List, map}
+use Rattle.disco_instance.specs.Row.{row}
+use Rattle.disco_wire.specs.Meaning.{Told, Meaning}
+use Rattle.disco_wire.specs.declared.wire.Mention.{Mention}
+use Rattle.disco_wire.specs.declared.wire.Wire.{Wire}
+
+abbrev pub tell : Mention → Told
+tell m = (row m.rec, m.action)
+
+abbrev pub tell_all : List Mention → List Told
+tell_all ms = map tell ms
+
+abbrev pub seen : Wire → Meaning
+seen w = record { shape = w.shape; mentions = tell_all w.mentions; hash = w.hash; version = w.version }

@@ -1,0 +1,156 @@
+//! Reading a document.
+ghost use Rattle.std.specs.Prelude.{◌≡◌, codes, map, option_map, option_and_then, IfOk, Err, Some};
+ghost use Rattle.std.specs.Option.{option_copied};
+ghost use Rattle.serde_json.specs.Data.{Data};
+ghost use Rattle.serde_json.specs.Find.{get};
+ghost use Rattle.serde_json.specs.View.{view};
+ghost use Rattle.disco_instance.specs.Instance.{Gives};
+ghost use Rattle.disco_instance.specs.Members.{as_whole, text_at};
+ghost use Rattle.disco_wire.specs.Meaning.{all_told, listed, listed_in, many_meant, many_of, or_bad, told_app, told_in, told_item, told_on};
+ghost use Rattle.disco_wire.specs.Documents.{many_read};
+ghost use Rattle.disco_wire.specs.Wire.{seen, tell_all};
+
+use crate::tree::{object_member, tree_of};
+use crate::wire::{Mention, Mentions, Shape, Wire};
+use disco_instance::{Fault, Record, Text, action_from_value, text_member, whole};
+use serde_json::Value;
+use std::alloc::{AllocError, Global};
+
+/// What a document of many apps means. Refused as `BadJson` where the bytes are no JSON text, as
+/// `BadDocument` where its tree means nothing or isn't of the shape `Many`, and as `OutOfMemory`.
+pub fn read_document(alloc: Global, bytes: &[u8]) -> Result<Wire, Fault>
+    ensures { Gives seen result (many_read bytes.now) }
+{
+    let tree = tree_of(alloc, bytes)?;
+    many_from_tree(alloc, &tree)
+}
+
+fn many_from_tree(alloc: Global, tree: &Value) -> Result<Wire, Fault>
+    ensures { Gives seen result (or_bad (many_of (view tree.now))) }
+{
+    match object_member(tree, "applications") {
+        Some(applications) => many(alloc, applications),
+        None => Err(Fault::BadDocument),
+    }
+}
+
+fn many(alloc: Global, applications: &Value) -> Result<Wire, Fault>
+    ensures { Gives seen result (or_bad (many_meant (view applications.now))) }
+{
+    let hash = text_of_member(alloc, applications, "apps__hashcode")?;
+    let version = version_of(applications);
+    let Some(items) = items_of(applications.get("application")) else {
+        return Err(Fault::BadDocument);
+    };
+    let mut mentions = Vec::new(alloc);
+    push_apps(alloc, &mut mentions, items)?;
+    Ok(Wire {
+        shape: Shape::Many,
+        mentions: Mentions::from_vec(mentions),
+        hash,
+        version,
+    })
+}
+
+fn text_of_member(alloc: Global, value: &Value, name: &str) -> Result<Option<Text>, AllocError>
+    ensures { IfOk result (λ o. o ≡ text_at name.now (view value.now)) }
+{
+    match text_member(value, name) {
+        Some(text) => Ok(Some(Text::new(alloc, text)?)),
+        None => Ok(None),
+    }
+}
+
+/// The items of an array, one object, or nothing.
+fn items_of(place: Option<&Value>) -> Option<&[Value]>
+    ensures { option_map (λ s. map view s.now) result ≡ listed (option_map (λ v. view v.now) place.entry) }
+{
+    match place {
+        None => Some(&[]),
+        Some(value) => items_in(value),
+    }
+}
+
+fn items_in(value: &Value) -> Option<&[Value]>
+    ensures { option_map (λ s. map view s.now) result ≡ listed_in (view value.now) }
+{
+    match value {
+        Value::Null => Some(&[]),
+        Value::Array(list) => Some(list.as_slice()),
+        Value::Object(_) => Some(std::slice::from_ref(value)),
+        _ => None,
+    }
+}
+
+fn version_of(applications: &Value) -> Option<u64>
+    ensures { result ≡ option_and_then as_whole (get (codes "versions__delta") (view applications.now)) }
+{
+    match applications.get("versions__delta") {
+        Some(value) => whole(value),
+        None => None,
+    }
+}
+
+#[tactic(auto, using(crate::proofs::Telling::step, crate::proofs::Telling::stop))]
+fn push_apps(alloc: Global, out: &mut Vec<Mention>, values: &[Value]) -> Result<(), Fault>
+    ensures { Gives (λ _. tell_all out.new.items) result (told_on (tell_all out.old.items) (all_told told_item (map view values.now))) }
+{
+    for value in values {
+        push_item(alloc, out, value)?;
+    }
+    Ok(())
+}
+
+fn push_item(alloc: Global, out: &mut Vec<Mention>, value: &Value) -> Result<(), Fault>
+    ensures { Gives (λ _. tell_all out.new.items) result (told_on (tell_all out.old.items) (told_item (view value.now))) }
+{
+    if value.is_object() {
+        push_app(alloc, out, value)
+    } else {
+        Err(Fault::BadDocument)
+    }
+}
+
+fn push_app(alloc: Global, out: &mut Vec<Mention>, app: &Value) -> Result<(), Fault>
+    ensures { Gives (λ _. tell_all out.new.items) result (told_on (tell_all out.old.items) (told_app (view app.now))) }
+{
+    match items_of(app.get("instance")) {
+        Some(items) => push_instances(alloc, out, text_member(app, "name"), items),
+        None => Err(Fault::BadDocument),
+    }
+}
+
+#[tactic(auto, using(crate::proofs::Telling::step, crate::proofs::Telling::stop))]
+fn push_instances(
+    alloc: Global,
+    out: &mut Vec<Mention>,
+    within: Option<&str>,
+    values: &[Value],
+) -> Result<(), Fault>
+    ensures { Gives (λ _. tell_all out.new.items) result (told_on (tell_all out.old.items) (all_told (told_in (option_copied within.entry)) (map view values.now))) }
+{
+    for value in values {
+        push_instance(alloc, out, within, value)?;
+    }
+    Ok(())
+}
+
+#[tactic(auto, unfolding(crate::specs::Meaning::told_in))]
+fn push_instance(
+    alloc: Global,
+    out: &mut Vec<Mention>,
+    within: Option<&str>,
+    value: &Value,
+) -> Result<(), Fault>
+    ensures { Gives (λ _. tell_all out.new.items) result (told_on (tell_all out.old.items) (told_in (option_copied within.entry) (view value.now))) }
+{
+    match Record::from_value(alloc, value, within) {
+        Ok(rec) => {
+            let action = action_from_value(value);
+            out.push(Mention { rec, action })?;
+            Ok(())
+        }
+        Err(Fault::OutOfMemory) => Err(Fault::OutOfMemory),
+        Err(_) => Err(Fault::BadDocument),
+    }
+}

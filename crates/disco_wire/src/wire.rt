@@ -1,0 +1,60 @@
+//! What a document means, as it was read.
+ghost use Rattle.std.specs.Prelude.{◌≡◌};
+
+use disco_instance::{Action, Record, Text};
+use std::marker::Model;
+
+/// Whether a document is of many apps, of one app, or of one instance.
+#[derive(Clone, Copy, Debug, PartialEq, Eq)]
+pub enum Shape {
+    Many,
+    App,
+    One,
+}
+
+/// An instance in a document, and what was done to it where that is said.
+#[derive(Debug, Drop)]
+pub struct Mention {
+    pub rec: Record,
+    pub action: Option<Action>,
+}
+
+/// Mentions in the order of the text.
+#[derive(Debug, Drop)]
+pub struct Mentions {
+    mentions: Vec<Mention>,
+}
+
+impl Model for Mentions {
+    ghost use Rattle.std.specs.Prelude.{List};
+    ghost use Rattle.disco_wire.specs.declared.wire.Mention.{Mention};
+
+    ghost Value = { List Mention };
+
+    ghost view = { λ m. m.mentions.items };
+}
+
+impl Mentions {
+    pub fn from_vec(mentions: Vec<Mention>) -> Mentions
+        ensures { result ≡ mentions.items }
+    {
+        Mentions { mentions }
+    }
+
+    pub fn as_slice(&self) -> &[Mention]
+        ensures { result.now ≡ self.now }
+    {
+        &self.mentions
+    }
+}
+
+/// What a document means.
+#[derive(Debug, Drop)]
+pub struct Wire {
+    pub shape: Shape,
+    pub mentions: Mentions,
+    /// The hash code: the member `apps__hashcode`.
+    pub hash: Option<Text>,
+    /// The version at which the document was built: the member `versions__delta`.
+    pub version: Option<u64>,
+}
