@@ -1,0 +1,4 @@
+mod Histories
+mod Places
+mod Readies
+mod Searches

@@ -1,0 +1,23 @@
+use Rattle.std.proofs.Common.{sym, ap, ◌∙◌, Some, option_map}
+use Rattle.std.specs.FinMap as map
+use Rattle.disco_history.specs.Change.{Entry}
+use Rattle.disco_instance.specs.declared.record.Record.{Record}
+use Rattle.disco_instance.specs.Row.{row}
+use Rattle.disco_registry.specs.declared.held.Held.{Held}
+use Rattle.disco_registry.specs.List.{Room}
+use Rattle.disco_registry.proofs.Places.{get_at, get_gap}
+use Rattle.disco_registry.proofs.list.RecordList.get.Goals as goal
+
+pub returns-in-Ok : goal.returns-in-Ok
+returns-in-Ok c =
+    let at = rw c.deref.ensures.value at c.in-Ok.ensures.found in
+    ap (λ (r : Record). Some (row r)) c.deref-in-Ok.ensures
+    ∙ ap (λ (h : Held). Some (row h.rec.value)) c.index.ensures
+    ∙ ap (option_map (λ (e : Entry). e.0)) (sym (get_at c.self.inside.records.items c.args.key.now c.in-Ok.i c.index.result.now c.self.invariant at)
+    ∙ ap (λ (h : Room). map.get h.held c.args.key.now) c.self.view_is)
+
+pub returns-in-Err : goal.returns-in-Err
+returns-in-Err c =
+    let gap = rw c.deref.ensures.value at c.in-Err.ensures.absent in
+    ap (option_map (λ (e : Entry). e.0)) (sym (get_gap c.self.inside.records.items c.args.key.now _ c.self.invariant gap)
+    ∙ ap (λ (h : Room). map.get h.held c.args.key.now) c.self.view_is)

@@ -1,0 +1,55 @@
+-- What commits a change.
+use Rattle.std.specs.Prelude.{◌≡◌, ◌<◌, ◌+◌, List, [], ◌∷◌, ◌++◌, Option, Some, None, option_map, Result, Ok, Err}
+use Rattle.std.specs.FinMap.{FinMap, get, insert, remove}
+use Rattle.disco_instance.specs.Key.{key_cmp}
+use Rattle.disco_instance.specs.Row.{row}
+use Rattle.disco_instance.specs.declared.fault.Fault.{Fault}
+use Rattle.disco_instance.specs.declared.key.Key.{Key}
+use Rattle.disco_history.specs.Change.{Entry, key_of, seen}
+use Rattle.disco_history.specs.Registry.{put_of}
+use Rattle.disco_history.specs.declared.change.Change.{Change}
+use Rattle.disco_history.specs.declared.change.Change.TheVariants.{Put, Gone}
+use Rattle.disco_registry.specs.Held.{entry_of}
+use Rattle.disco_registry.specs.State.{State}
+use Rattle.disco_registry.specs.declared.op.Applied.{Applied}
+use Rattle.disco_registry.specs.declared.op.Applied.TheVariants.{Changed, Same}
+use Rattle.disco_registry.specs.declared.registry.Ready.{Ready}
+
+-- the record of a put is kept, and there is room for it
+abbrev pub HasRoomFor : State → Change → Option Entry → Type 0
+HasRoomFor s (Put action rec) kept = let e : Entry = (row rec.value, action) in (put_of e ≡ Some e) × (kept ≡ Some e) × (get s.held rec.value.key ≡ None → 0 < s.room)
+HasRoomFor s (Gone rec) kept = Unit {0}
+
+-- the registry can commit it without memory
+pub record IsReady (s : State) (r : Ready) : Type 0 where
+  pub left : s.version < s.versions
+  pub room : HasRoomFor s r.change (option_map entry_of r.kept)
+
+abbrev put_at : FinMap key_cmp Entry → Key → Option Entry → FinMap key_cmp Entry
+put_at m k None = remove m k
+put_at m k (Some e) = insert m k e
+
+-- the mentions after a change: its record goes in, or out
+abbrev pub held_after : FinMap key_cmp Entry → Entry → FinMap key_cmp Entry
+held_after m c = put_at m (key_of c) (put_of c)
+
+-- the registry has made this change and no other
+pub record Takes (old : State) (c : Entry) (new : State) : Type 0 where
+  pub held : new.held ≡ held_after old.held c
+  pub version : new.version ≡ old.version + 1
+  pub versions : new.versions ≡ old.versions
+  pub instances : new.instances ≡ old.instances
+
+-- the change that was made, if any
+abbrev pub done_by : Applied → Option Entry
+done_by (Changed c) = Some (seen c)
+done_by Same = None
+
+abbrev pub outcome : Result Applied Fault → Option Entry
+outcome (Ok a) = done_by a
+outcome (Err e) = None
+
+-- a history with the change, if there is one
+abbrev pub extended : List Entry → Option Entry → List Entry
+extended h None = h
+extended h (Some c) = h ++ c ∷ []

@@ -1,0 +1,7 @@
+pub mod Accept
+pub mod Commit
+pub mod Held
+pub mod List
+pub mod Op
+pub mod Settle
+pub mod State

@@ -1,0 +1,52 @@
+-- What a registration makes of the posted and of the held record (this project's own rule).
+use Rattle.std.specs.Prelude.{ℕ, Bool, true, false, nat_lt, if◌then◌else◌, Option, Some, None}
+use Rattle.disco_instance.specs.Moments.{registered_at}
+use Rattle.disco_instance.specs.Row.{Row}
+use Rattle.disco_instance.specs.declared.status.Status.{Status}
+use Rattle.disco_instance.specs.declared.status.Status.TheVariants.{Up, Down, Starting, OutOfService, Unknown}
+
+-- the registrant: the posted record, or the held one where that is the later change
+abbrev pub registrant : Option Row → Row → Row
+registrant None posted = posted
+registrant (Some held) posted = if nat_lt posted.last_dirty held.last_dirty then held else posted
+
+-- a status, or another where it is Unknown
+abbrev pub known_or : Status → Status → Status
+known_or Unknown other = other
+known_or Up other = Up
+known_or Down other = Down
+known_or Starting other = Starting
+known_or OutOfService other = OutOfService
+
+-- the override: the held one where there is one, else the registrant's own
+abbrev pub override_of : Option Row → Status → Status
+override_of None own = own
+override_of (Some held) own = known_or held.overridden_status own
+
+-- the statuses that give way to an override and to the held status
+abbrev pub is_open : Status → Bool
+is_open Up = true
+is_open OutOfService = true
+is_open Down = false
+is_open Starting = false
+is_open Unknown = false
+
+abbrev pub held_or : Option Row → Status → Status
+held_or None own = own
+held_or (Some held) own = if is_open held.status then held.status else own
+
+-- the status: the first that applies of the registrant's, where it is not open, the override, the held one, where it is open, and the registrant's
+abbrev pub settled_status : Option Row → Status → Status → Status
+settled_status held overridden own = if is_open own then known_or overridden (held_or held own) else own
+
+-- since when the held record says that the instance is up, 0 where it doesn't
+abbrev pub held_up : Option Row → ℕ
+held_up None = 0
+held_up (Some held) = held.lease.service_up
+
+-- the record that a registration at a moment puts
+abbrev pub settle : Option Row → Row → ℕ → Row
+settle held posted now =
+    let r = registrant held posted in
+    let overridden = override_of held r.overridden_status in
+    registered_at r (settled_status held overridden r.status) overridden (held_up held) now

@@ -1,0 +1,99 @@
+//! Held records in the order of their keys.
+ghost use Rattle.std.specs.Prelude.{◌≡◌, ◌<◌, IfOk, IfErr, OnOk, None, map};
+ghost use Rattle.std.specs.FinMap as finmap;
+ghost use Rattle.std.specs.FinMap.{values};
+ghost use Rattle.disco_registry.specs.Held.{entry_of, record_at, seen_record};
+ghost use Rattle.disco_registry.specs.List.{AreSorted, IsAt, IsGap};
+
+use crate::held::Held;
+use disco_instance::{Key, Record};
+use std::alloc::{AllocError, Global};
+use std::marker::Model;
+
+/// Held records in the order of their keys, each key once.
+#[derive(Drop)]
+pub(crate) struct RecordList {
+    records: Vec<Held>,
+}
+
+impl Model for RecordList {
+    ghost use Rattle.std.specs.Prelude.{◌-◌, vec_len};
+    ghost use Rattle.std.specs.Vec.{vec_capacity};
+    ghost use Rattle.disco_registry.specs.List.{Room, coded_room, AreSorted, map_of};
+
+    ghost Value = { Room };
+
+    ghost coded = { coded_room };
+
+    ghost view = { λ r. record { held = map_of r.records.items; room = vec_capacity r.records - vec_len r.records } };
+
+    ghost invariant = { λ r. AreSorted r.records.items };
+}
+
+/// Where the key is, or where it would go, among records in the order of their keys.
+fn place(records: &[Held], key: &Key) -> Result<usize, usize>
+    requires { AreSorted records.now }
+    ensures found { IfOk result (λ i. IsAt records.now key.now i) }
+    ensures absent { IfErr result (λ i. IsGap records.now key.now i) }
+{
+    records.binary_search_by(|held| held.rec.key.cmp(key))
+}
+
+impl RecordList {
+    pub(crate) fn new(alloc: Global) -> RecordList
+        ensures { result.held ≡ finmap.empty }
+    {
+        RecordList {
+            records: Vec::new(alloc),
+        }
+    }
+
+    pub(crate) fn get(&self, key: &Key) -> Option<&Record>
+        ensures { seen_record result ≡ record_at self.now.held key.now }
+    {
+        match place(&self.records, key) {
+            Ok(i) => Some(&*self.records[i].rec),
+            Err(_) => None,
+        }
+    }
+
+    pub(crate) fn len(&self) -> usize
+        ensures { result ≡ finmap.len self.now.held }
+    {
+        self.records.len()
+    }
+
+    pub(crate) fn as_slice(&self) -> &[Held]
+        ensures { map entry_of result.now ≡ values self.now.held }
+    {
+        &self.records
+    }
+
+    /// Makes room for one more record.
+    pub(crate) fn reserve(&mut self) -> Result<(), AllocError>
+        ensures same { self.new.held ≡ self.old.held }
+        ensures ok { OnOk result (0 < self.new.room) }
+    {
+        self.records.reserve(1)
+    }
+
+    /// Puts a record in, in the place of that of its key or in room that is there.
+    pub(crate) fn put(&mut self, added: Held)
+        requires { finmap.get self.old.held added.rec.value.key ≡ None → 0 < self.old.room }
+        ensures { self.new.held ≡ finmap.insert self.old.held added.rec.value.key (entry_of added) }
+    {
+        match place(&self.records, &added.rec.key) {
+            Ok(i) => self.records[i] = added,
+            Err(i) => self.records.insert(i, added).unwrap(),
+        }
+    }
+
+    /// Takes the record of a key out.
+    pub(crate) fn take(&mut self, key: &Key)
+        ensures { self.new.held ≡ finmap.remove self.old.held key.now }
+    {
+        if let Ok(i) = place(&self.records, key) {
+            let _ = self.records.remove(i);
+        }
+    }
+}
