@@ -1,0 +1,79 @@
+-- A written document tells the instances in their order.
+use Rattle.std.proofs.Common.{◌≡◌, ℕ, ◌<◌, ◌^◌, Bool, true, false, cond, List, [], ◌∷◌, ◌++◌, map, codes, Option, Some, None, option_map, option_and_then, decimal, refl, ap, sym, ◌∙◌, arith}
+use Rattle.std.specs.List.{AllByRecursion, flat_map}
+use Rattle.std.specs.Str.{bytes_eq}
+use Rattle.serde_json.specs.Data.{Data, array}
+use Rattle.serde_json.specs.View.{items_of}
+use Rattle.disco_instance.specs.Members.{digits_number}
+use Rattle.disco_wire.specs.Meaning.{Told, Meaning, told_in, told_app, told_item, told_apps, all_told, meaning_of, meant, list_of}
+use Rattle.disco_wire.specs.declared.wire.Shape.TheVariants.{Many}
+use Rattle.disco_history.specs.Change.{Entry}
+use Rattle.disco_instance.specs.Row.{IsWellFormed}
+use Rattle.disco_writer.specs.Trees.{instance_tree, app_tree, many_tree, document_tree, by_app, with_first}
+use Rattle.disco_history.specs.Mentions.{mention_of}
+use Rattle.disco_writer.specs.Laws.{DocumentLaw}
+use Rattle.disco_writer.proofs.Again.{digits_again}
+use Rattle.disco_writer.proofs.Back.{instance_law}
+
+abbrev Fit : List Entry → Type 0
+Fit es = AllByRecursion (λ e. IsWellFormed e.0) es
+
+abbrev GroupsFit : List (List ℕ × List Entry) → Type 0
+GroupsFit gs = AllByRecursion (λ g. Fit g.1) gs
+
+abbrev flat : List (List ℕ × List Entry) → List Entry
+flat [] = []
+flat (g ∷ gs) = g.1 ++ flat gs
+
+-- ---- grouping
+
+flat_put : (e : Entry) (g : List ℕ × List Entry) (gs : List (List ℕ × List Entry)) (b : Bool) → flat (cond b ((g.0, e ∷ g.1) ∷ gs) ((e.0.key.app, e ∷ []) ∷ g ∷ gs)) ≡ e ∷ flat (g ∷ gs)
+flat_put e g gs true = refl
+flat_put e g gs false = refl
+
+flat_first : (e : Entry) (gs : List (List ℕ × List Entry)) → flat (with_first e gs) ≡ e ∷ flat gs
+flat_first e [] = refl
+flat_first e (g ∷ gs) = flat_put e g gs (bytes_eq g.0 e.0.key.app)
+
+pub flat_by_app : (es : List Entry) → flat (by_app es) ≡ es
+flat_by_app [] = refl
+flat_by_app (e ∷ es) = flat_first e (by_app es) ∙ ap (λ r. e ∷ r) (flat_by_app es)
+
+fit_put : (e : Entry) (g : List ℕ × List Entry) (gs : List (List ℕ × List Entry)) (b : Bool) → IsWellFormed e.0 → GroupsFit (g ∷ gs) → GroupsFit (cond b ((g.0, e ∷ g.1) ∷ gs) ((e.0.key.app, e ∷ []) ∷ g ∷ gs))
+fit_put e g gs true is all = ((is, all.0), all.1)
+fit_put e g gs false is all = ((is, tt), all)
+
+fit_first : (e : Entry) (gs : List (List ℕ × List Entry)) → IsWellFormed e.0 → GroupsFit gs → GroupsFit (with_first e gs)
+fit_first e [] is all = ((is, tt), tt)
+fit_first e (g ∷ gs) is all = fit_put e g gs (bytes_eq g.0 e.0.key.app) is all
+
+fit_by_app : (es : List Entry) → Fit es → GroupsFit (by_app es)
+fit_by_app [] all = tt
+fit_by_app (e ∷ es) all = fit_first e (by_app es) all.0 (fit_by_app es all.1)
+
+-- ---- lists
+
+list_of_items : (ds : List Data) → list_of (items_of ds) ≡ ds
+list_of_items [] = refl
+list_of_items (d ∷ ds) = ap (λ r. d ∷ r) (list_of_items ds)
+
+map_append : (xs ys : List Entry) → map mention_of (xs ++ ys) ≡ map mention_of xs ++ map mention_of ys
+map_append [] ys = refl
+map_append (x ∷ xs) ys = ap (λ r. mention_of x ∷ r) (map_append xs ys)
+
+instances_told : (app : Option (List ℕ)) (es : List Entry) → Fit es → all_told (told_in app) (map instance_tree es) ≡ Some (map mention_of es)
+instances_told app [] all = refl
+instances_told app (e ∷ es) all = rw (instance_law e app all.0, instances_told app es all.1) refl
+
+app_told : (g : List ℕ × List Entry) → Fit g.1 → told_item (app_tree g) ≡ Some (map mention_of g.1)
+app_told g all = rw (list_of_items (map instance_tree g.1)) (instances_told (Some g.0) g.1 all)
+
+apps_told : (gs : List (List ℕ × List Entry)) → GroupsFit gs → all_told told_item (map app_tree gs) ≡ Some (map mention_of (flat gs))
+apps_told [] all = refl
+apps_told (g ∷ gs) all = rw (app_told g all.0, apps_told gs all.1) (ap Some (sym (map_append g.1 (flat gs))))
+
+pub document_law : DocumentLaw
+unfolding meaning_of document_tree
+document_law es hash version all small =
+    let apps = apps_told (by_app es) (fit_by_app es all) in
+    rw (list_of_items (map app_tree (by_app es)), apps, flat_by_app es, digits_again version small) refl

@@ -1,0 +1,8 @@
+mod Again
+pub mod Back
+pub mod Documents
+mod Counts
+mod Instances
+pub mod Metadata
+mod Runs
+mod Texts

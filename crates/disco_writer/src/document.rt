@@ -1,0 +1,141 @@
+//! The document of all apps.
+ghost use Rattle.std.specs.Prelude.{◌≡◌, ◌≤◌, List, IfOk, IfErr, Ok, map, length};
+ghost use Rattle.std.specs.FinMap.{values};
+ghost use Rattle.std.specs.List.{prefix_len};
+ghost use Rattle.serde_json.specs.View.{view};
+ghost use Rattle.serde_json.specs.Written.{compact_text};
+ghost use Rattle.disco_instance.specs.declared.fault.Fault.TheVariants.{OutOfMemory};
+ghost use Rattle.disco_instance.specs.declared.form.Form.TheVariants.{Full};
+ghost use Rattle.disco_history.specs.Change.{Entry};
+ghost use Rattle.disco_history.specs.Hash.{hash};
+ghost use Rattle.disco_history.specs.Mentions.{mention_of};
+ghost use Rattle.disco_registry.specs.State.{StandsFor};
+ghost use Rattle.disco_wire.specs.Documents.{document_of};
+ghost use Rattle.disco_wire.specs.Meaning.{meant};
+ghost use Rattle.disco_wire.specs.declared.wire.Shape.TheVariants.{Many};
+ghost use Rattle.disco_writer.specs.Documents.{apps_meant};
+ghost use Rattle.disco_writer.specs.Rows.{entries_of, is_of, AreWellFormed};
+ghost use Rattle.disco_writer.specs.Trees.{instance_tree, app_tree, by_app, many_tree, document_tree, app_of};
+
+use crate::hash::hash_of;
+use crate::instance::{digits_value, instance_value};
+use disco_instance::{Fault, Text, well_formed};
+use disco_registry::{Held, Registry};
+use serde_json::{Value, json};
+use std::alloc::{AllocError, Global};
+
+/// The document of all apps in the full form: the body of Eureka's `GET /apps`, as compact JSON.
+/// Refused only as `OutOfMemory`.
+pub fn write_apps(alloc: Global, registry: &Registry) -> Result<Vec<u8>, Fault>
+    ensures text { IfOk result (λ v. let es = values registry.now.held in v.items ≡ compact_text (document_tree es (hash (map (λ e. e.0) es)) registry.now.version)) }
+    ensures means { IfOk result (λ v. (h : List Entry) → StandsFor registry.now h → document_of v.items ≡ Ok (apps_meant Full h)) }
+    ensures memory { IfErr result (λ e. e ≡ OutOfMemory) }
+{
+    let hash = hash_of(alloc, registry.records())?;
+    Ok(write_document(alloc, registry.records(), &hash, registry.version())?)
+}
+
+fn write_document(
+    alloc: Global,
+    held: &[Held],
+    hash: &Text,
+    version: u64,
+) -> Result<Vec<u8>, AllocError>
+    ensures text { IfOk result (λ v. v.items ≡ compact_text (document_tree (entries_of held.now) hash.now version)) }
+    ensures means { IfOk result (λ v. document_of v.items ≡ Ok (meant Many (Some hash.now) (Some version) (map mention_of (entries_of held.now)))) }
+{
+    let tree = document_value(alloc, held, hash, version)?;
+    let text = tree.to_string(alloc)?;
+    let _utf8 = text.as_str();
+    Ok(text.into_bytes())
+}
+
+#[tactic(auto, unfolding(crate::specs::Trees::document_tree))]
+fn document_value(
+    alloc: Global,
+    held: &[Held],
+    hash: &Text,
+    version: u64,
+) -> Result<Value, AllocError>
+    ensures tree { IfOk result (λ v. view v ≡ document_tree (entries_of held.now) hash.now version) }
+    ensures rows { IfOk result (λ _. AreWellFormed (entries_of held.now)) }
+{
+    let list = apps(alloc, held)?;
+    many_value(alloc, list, hash, version)
+}
+
+fn many_value(
+    alloc: Global,
+    list: Vec<Value>,
+    hash: &Text,
+    version: u64,
+) -> Result<Value, AllocError>
+    ensures { IfOk result (λ v. view v ≡ many_tree (map view list.items) hash.now version) }
+{
+    let digits = digits_value(alloc, version)?;
+    json!(in alloc; {"applications": {
+        "application": list,
+        "apps__hashcode": hash.as_str(),
+        "versions__delta": digits,
+    }})
+}
+
+fn apps(alloc: Global, held: &[Held]) -> Result<Vec<Value>, AllocError>
+    ensures trees { IfOk result (λ v. map view v.items ≡ map app_tree (by_app (entries_of held.now))) }
+    ensures rows { IfOk result (λ _. AreWellFormed (entries_of held.now)) }
+{
+    let mut list = Vec::new(alloc);
+    let mut rest = held;
+    while let Some(first) = rest.first() {
+        let app = app_name(first);
+        let (group, after) = rest.split_at(run_len(rest, app));
+        list.push(app_value(alloc, app, group)?)?;
+        rest = after;
+    }
+    Ok(list)
+}
+
+fn app_name(held: &Held) -> &Text
+    ensures { result.now ≡ held.now.rec.value.key.app }
+{
+    &held.rec.key.app
+}
+
+/// How many records at the front are of the app.
+fn run_len(held: &[Held], app: &Text) -> usize
+    ensures run { result ≡ prefix_len (is_of app.now) held.now }
+    ensures within { result ≤ length held.now }
+{
+    for i in 0..held.len() {
+        if *app_name(&held[i]) != *app {
+            return i;
+        }
+    }
+    held.len()
+}
+
+fn app_value(alloc: Global, name: &Text, held: &[Held]) -> Result<Value, AllocError>
+    ensures tree { IfOk result (λ v. view v ≡ app_tree (name.now, entries_of held.now)) }
+    ensures rows { IfOk result (λ _. AreWellFormed (entries_of held.now)) }
+{
+    let list = instances(alloc, held)?;
+    one_app(alloc, name, list)
+}
+
+fn one_app(alloc: Global, name: &Text, list: Vec<Value>) -> Result<Value, AllocError>
+    ensures { IfOk result (λ v. view v ≡ app_of (map view list.items) name.now) }
+{
+    json!(in alloc; {"instance": list, "name": name.as_str()})
+}
+
+fn instances(alloc: Global, held: &[Held]) -> Result<Vec<Value>, AllocError>
+    ensures trees { IfOk result (λ v. map view v.items ≡ map instance_tree (entries_of held.now)) }
+    ensures rows { IfOk result (λ _. AreWellFormed (entries_of held.now)) }
+{
+    let mut list = Vec::new(alloc);
+    for one in held {
+        well_formed(&one.rec);
+        list.push(instance_value(alloc, &one.rec, one.action)?)?;
+    }
+    Ok(list)
+}
