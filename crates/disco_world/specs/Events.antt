@@ -1,0 +1,58 @@
+-- What events do to a history.
+use Rattle.std.specs.Prelude.{ℕ, zero, suc, ◌==◌, List, [], Bool, false, if◌then◌else◌, Option, Some, None, Result, Ok, Err, slice_get}
+use Rattle.std.specs.Str.{bytes_eq}
+use Rattle.disco_instance.specs.Fault.{fault_number}
+use Rattle.disco_instance.specs.Row.{Row}
+use Rattle.disco_instance.specs.Text.{in_upper_case}
+use Rattle.disco_instance.specs.declared.fault.Fault.{Fault}
+use Rattle.disco_instance.specs.declared.fault.Fault.TheVariants.{MismatchedApp}
+use Rattle.disco_history.specs.Change.{Entry}
+use Rattle.disco_registry.specs.Accept.{Limits, accept_after}
+use Rattle.disco_registry.specs.Commit.{extended}
+use Rattle.disco_registry.specs.Op.{Ask, register, cancel}
+use Rattle.disco_wire.specs.Registration.{registration_of}
+use Rattle.disco_world.specs.declared.event.Event.{Event}
+use Rattle.disco_world.specs.declared.event.Event.TheVariants.{Register, Cancel, Load}
+use Rattle.disco_world.specs.declared.event.Reply.{Reply}
+use Rattle.disco_world.specs.declared.event.Reply.TheVariants.{Changed, Same, Doc, Refused}
+
+-- what a registration under an app's name asks: a record of another app is refused
+abbrev pub registers : List ℕ → Result Row Fault → Result Ask Fault
+registers app (Err e) = Err e
+registers app (Ok r) = if bytes_eq (in_upper_case app) r.key.app then Ok (register r) else Err MismatchedApp
+
+abbrev pub done_by_ask : Limits → List Entry → ℕ → Result Ask Fault → Result (Option Entry) Fault
+done_by_ask limits h now (Err e) = Err e
+done_by_ask limits h now (Ok ask) = accept_after limits h ask now
+
+-- what an event does to the registry after a history: its change or none, or the first cause against it; a load does nothing to it
+abbrev pub done_after : Limits → List Entry → Event → Option (Result (Option Entry) Fault)
+done_after limits h (Register now app json) = Some (done_by_ask limits h now (registers app (registration_of json)))
+done_after limits h (Cancel now app id) = Some (accept_after limits h (cancel (record { app = in_upper_case app; id = id })) now)
+done_after limits h (Load key) = None
+
+abbrev pub change_of : Option (Result (Option Entry) Fault) → Option Entry
+change_of None = None
+change_of (Some (Err e)) = None
+change_of (Some (Ok c)) = c
+
+-- the event found no memory
+abbrev pub ran_out : Reply → Bool
+ran_out (Changed v) = false
+ran_out Same = false
+ran_out (Doc p) = false
+ran_out (Refused e) = fault_number e == 1
+
+-- the history after an event that answered so
+abbrev pub after : Limits → List Entry → Event → Reply → List Entry
+after limits h event reply = extended h (if ran_out reply then None else change_of (done_after limits h event))
+
+abbrev pub after_at : Limits → List Entry → Option Event → Option Reply → List Entry
+after_at limits h None reply = h
+after_at limits h (Some event) None = h
+after_at limits h (Some event) (Some reply) = after limits h event reply
+
+-- the history after the first i events: their accepted changes
+unfoldable pub hist : Limits → List Event → List Reply → ℕ → List Entry
+hist limits events replies zero = []
+hist limits events replies (suc i) = after_at limits (hist limits events replies i) (slice_get events i) (slice_get replies i)
