@@ -1,0 +1,12 @@
+#!/bin/sh
+# Times runs of 5,000, 10,000 and 20,000 registrations over 100 apps with one load of all apps
+# behind them. For each it prints the seconds and the peak memory in KiB, and how they grew from the
+# size before. Other sizes may be given as words.
+set -eu
+root=$(CDPATH='' cd -- "$(dirname -- "$0")/.." && pwd)
+work=$(mktemp -d)
+trap 'rm -rf "$work"' EXIT
+trap 'exit 1' HUP INT TERM
+[ $# -gt 0 ] || set -- 5000 10000 20000
+"$root/discovery" replay </dev/null
+python3 "$root/bench/registrations.py" "$root/discovery" "$work" "$@"

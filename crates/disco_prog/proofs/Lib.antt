@@ -1,0 +1,3 @@
+mod Digits
+mod Feeds
+mod Spelling

@@ -1,0 +1,24 @@
+-- Answer lines (this project's own format).
+use Rattle.std.specs.Prelude.{ℕ, List, ◌++◌, codes, decimal}
+use Rattle.std.specs.Arc.{arc_value}
+use Rattle.disco_instance.specs.Fault.{fault_number, field_name}
+use Rattle.disco_instance.specs.declared.fault.Fault.{Fault}
+use Rattle.disco_instance.specs.declared.fault.Fault.TheVariants.{MissingField}
+use Rattle.disco_world.specs.declared.event.Payload.{Payload}
+use Rattle.disco_world.specs.declared.event.Reply.{Reply}
+use Rattle.disco_world.specs.declared.event.Reply.TheVariants.{Changed, Same, Doc, Refused}
+
+-- `doc BASE VERSION TEXT`
+abbrev pub document_line : Payload → List ℕ
+document_line p = codes "doc " ++ decimal p.base ++ codes " " ++ decimal p.version ++ codes " " ++ p.text ++ codes "\n"
+
+-- `fault N`, and the member's name where one is missing
+abbrev pub refusal_line : Fault → List ℕ
+refusal_line (MissingField field) = codes "fault " ++ decimal 3 ++ codes " " ++ field_name field ++ codes "\n"
+refusal_line fault = codes "fault " ++ decimal (fault_number fault) ++ codes "\n"
+
+abbrev pub answer_line : Reply → List ℕ
+answer_line (Changed version) = codes "ok " ++ decimal version ++ codes "\n"
+answer_line Same = codes "same\n"
+answer_line (Doc payload) = document_line (arc_value payload)
+answer_line (Refused fault) = refusal_line fault
