@@ -6,5 +6,7 @@
 
 mod change;
 pub mod laws;
+#[cfg(test)]
+mod tests;
 
 pub use change::{Change, last_of};

@@ -6,6 +6,8 @@
 mod document;
 pub mod laws;
 mod registration;
+#[cfg(test)]
+mod tests;
 mod tree;
 mod wire;
 
