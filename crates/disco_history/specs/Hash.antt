@@ -2,17 +2,10 @@
 use Rattle.std.specs.Prelude.{ℕ, ◌+◌, ◌==◌, List, [], ◌∷◌, ◌++◌, map, count_by, if◌then◌else◌}
 use Rattle.std.specs.Int.Digits.{digits_of}
 use Rattle.disco_instance.specs.Row.{Row}
+pub use Rattle.disco_instance.specs.Status.{place_of}
 use Rattle.disco_instance.specs.Status.{status_name}
 use Rattle.disco_instance.specs.declared.status.Status.{Status}
 use Rattle.disco_instance.specs.declared.status.Status.TheVariants.{Up, Down, Starting, OutOfService, Unknown}
-
--- the place of a status in the hash code
-abbrev pub place_of : Status → ℕ
-place_of Down = 0
-place_of OutOfService = 1
-place_of Starting = 2
-place_of Unknown = 3
-place_of Up = 4
 
 -- how many records have the status
 abbrev pub count_of : List Row → Status → ℕ

@@ -3,3 +3,4 @@ mod KeyLemmas
 pub mod Kept
 pub mod Rows
 pub mod SameRow
+mod Puts

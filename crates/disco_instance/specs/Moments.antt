@@ -20,3 +20,12 @@ registered_at r status overridden held_up now = record r {
 -- the last record of an instance that is cancelled at a moment
 abbrev pub cancelled_at : Row → ℕ → Row
 cancelled_at r now = record r { last_updated = now; lease = record r.lease { eviction = now } }
+
+-- the record that a change of its status or its override puts
+abbrev pub modified_at : Row → Status → Status → ℕ → Row
+modified_at r status overridden now = record r {
+  status = status;
+  overridden_status = overridden;
+  last_updated = now;
+  lease = put_lease r.lease r.lease.registration (since r.lease.service_up status now) now;
+}

@@ -49,8 +49,9 @@ pub struct Record {
 }
 
 impl Record {
+    ghost use Rattle.disco_instance.specs.Entries.{with_entries};
     ghost use Rattle.disco_instance.specs.Row.{row};
-    ghost use Rattle.disco_instance.specs.Moments.{registered_at, cancelled_at};
+    ghost use Rattle.disco_instance.specs.Moments.{registered_at, modified_at, cancelled_at};
 
     /// The same record once more. Refused only as `OutOfMemory`.
     pub fn copy(&self) -> Result<Record, Fault>
@@ -98,6 +99,30 @@ impl Record {
         new.last_updated = now;
         new.lease = new.lease.put(now, up_since(held_up, status, now), now);
         new
+    }
+
+    /// The record as a change of its status or its override at a moment puts it.
+    pub fn modified(self, status: Status, overridden_status: Status, now: u64) -> Record
+        ensures { row result ≡ modified_at (row self) status overridden_status now }
+    {
+        let mut new = self;
+        new.status = status;
+        new.overridden_status = overridden_status;
+        new.last_updated = now;
+        let registration = new.lease.registration;
+        let service_up = up_since(new.lease.service_up, status, now);
+        new.lease = new.lease.put(registration, service_up, now);
+        new
+    }
+
+    /// The record with these entries put into its metadata. Refused only as `OutOfMemory`.
+    pub fn with_entries(self, entries: &Entries) -> Result<Record, Fault>
+        ensures record_is { IfOk result (λ r. row r ≡ record (row self) { metadata = with_entries (row self).metadata entries.now }) }
+        ensures memory { IfErr result (λ e. e ≡ OutOfMemory) }
+    {
+        let mut new = self;
+        new.metadata.put_all(entries)?;
+        Ok(new)
     }
 
     /// The last record of an instance that is cancelled at a moment.
