@@ -1,0 +1,4 @@
+pub mod Changes
+mod Entries
+mod Numbers
+mod Texts

@@ -1,0 +1,107 @@
+//! How many instances have each status.
+ghost use Rattle.std.specs.Prelude.{◌≡◌, ◌<◌, ◌≤◌, ◌+◌, ◌-◌, ◌^◌, ◌++◌, [], IfOk, IfErr, string_bytes, vec_len};
+ghost use Rattle.std.specs.Vec.{vec_capacity};
+ghost use Rattle.disco_instance.specs.declared.fault.Fault.TheVariants.{OutOfMemory};
+ghost use Rattle.disco_history.specs.Hash.{hash_by};
+ghost use Rattle.disco_index.specs.Tally.{count_in, fewer, more, tally_of};
+
+use crate::pieces::{push_piece, write_piece};
+use disco_instance::{Fault, Status, Text};
+use std::alloc::{AllocError, Global};
+use std::marker::Model;
+
+/// How many instances have each status.
+#[derive(Debug, Drop)]
+pub struct Counts {
+    down: u64,
+    out_of_service: u64,
+    starting: u64,
+    unknown: u64,
+    up: u64,
+}
+
+impl Model for Counts {
+    ghost use Rattle.disco_index.specs.Tally.{Tally, coded_tally};
+
+    ghost Value = { Tally };
+
+    ghost coded = { coded_tally };
+
+    ghost view = { λ c. record { down = c.down; out_of_service = c.out_of_service; starting = c.starting; unknown = c.unknown; up = c.up } };
+}
+
+impl Counts {
+    /// No instances.
+    pub fn new() -> Counts
+        ensures { result ≡ tally_of [] }
+    {
+        Counts {
+            down: 0,
+            out_of_service: 0,
+            starting: 0,
+            unknown: 0,
+            up: 0,
+        }
+    }
+
+    /// One more instance has the status. Takes no memory.
+    pub fn add(&mut self, status: Status)
+        requires { count_in self.old status < 2 ^ 64 - 1 }
+        ensures { self.new ≡ more self.old status }
+    {
+        match status {
+            Status::Down => self.down += 1,
+            Status::OutOfService => self.out_of_service += 1,
+            Status::Starting => self.starting += 1,
+            Status::Unknown => self.unknown += 1,
+            Status::Up => self.up += 1,
+        }
+    }
+
+    /// One instance fewer has the status. Takes no memory.
+    pub fn take(&mut self, status: Status)
+        requires { 0 < count_in self.old status }
+        ensures { self.new ≡ fewer self.old status }
+    {
+        match status {
+            Status::Down => self.down -= 1,
+            Status::OutOfService => self.out_of_service -= 1,
+            Status::Starting => self.starting -= 1,
+            Status::Unknown => self.unknown -= 1,
+            Status::Up => self.up -= 1,
+        }
+    }
+
+    /// The hash code: Eureka's `apps__hashcode`. Refused only as `OutOfMemory`.
+    pub fn text(&self, alloc: Global) -> Result<Text, Fault>
+        ensures text { IfOk result (λ t. t ≡ hash_by (count_in self.now)) }
+        ensures memory { IfErr result (λ e. e ≡ OutOfMemory) }
+    {
+        Ok(Text::from_string(self.written(alloc)?))
+    }
+
+    fn written(&self, alloc: Global) -> Result<String, AllocError>
+        ensures { IfOk result (λ t. string_bytes t ≡ hash_by (count_in self.now)) }
+    {
+        let mut text = String::new(alloc);
+        write_piece(&mut text, alloc, Status::Down, self.down)?;
+        write_piece(&mut text, alloc, Status::OutOfService, self.out_of_service)?;
+        write_piece(&mut text, alloc, Status::Starting, self.starting)?;
+        write_piece(&mut text, alloc, Status::Unknown, self.unknown)?;
+        write_piece(&mut text, alloc, Status::Up, self.up)?;
+        Ok(text)
+    }
+
+    /// Pushes the hash code into room that is there. Takes no memory.
+    pub fn text_into(&self, out: &mut Vec<u8>)
+        requires { vec_len out.old + 160 ≤ vec_capacity out.old }
+        ensures text { out.new.items ≡ out.old.items ++ hash_by (count_in self.now) }
+        ensures capacity { vec_capacity out.new ≡ vec_capacity out.old }
+    {
+        push_piece(out, Status::Down, self.down);
+        push_piece(out, Status::OutOfService, self.out_of_service);
+        push_piece(out, Status::Starting, self.starting);
+        push_piece(out, Status::Unknown, self.unknown);
+        push_piece(out, Status::Up, self.up);
+    }
+}

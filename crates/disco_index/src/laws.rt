@@ -1,0 +1,37 @@
+//! Laws of the counts, each the contract of a function that does nothing.
+ghost use Rattle.disco_index.specs.Laws.{CountLaw, EmptyLaw, HashLaw, HeldLaw, InsertLaw, RemoveLaw, RoomLaw};
+
+/// The hash code by the counts of some rows is the hash code of these rows.
+pub fn hash_law()
+    ensures { HashLaw }
+{}
+
+/// The counts of no instances.
+pub fn empty_law()
+    ensures { EmptyLaw }
+{}
+
+/// The counts after an instance was put in.
+pub fn insert_law()
+    ensures { InsertLaw }
+{}
+
+/// The counts after an instance was taken out.
+pub fn remove_law()
+    ensures { RemoveLaw }
+{}
+
+/// The status of an instance that is there has a count above 0.
+pub fn held_law()
+    ensures { HeldLaw }
+{}
+
+/// No count is above the number of instances.
+pub fn count_law()
+    ensures { CountLaw }
+{}
+
+/// Without what was at a key, no count is above the number of instances.
+pub fn room_law()
+    ensures { RoomLaw }
+{}

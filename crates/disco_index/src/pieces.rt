@@ -1,0 +1,65 @@
+//! The pieces of a hash code.
+ghost use Rattle.std.specs.Prelude.{◌≡◌, ◌≤◌, ◌+◌, ◌++◌, [], OnOk, length, string_bytes, vec_len};
+ghost use Rattle.std.specs.Vec.{vec_capacity};
+ghost use Rattle.disco_instance.specs.Status.{status_name};
+ghost use Rattle.disco_history.specs.Hash.{digits, then_piece};
+
+use disco_instance::Status;
+use std::alloc::{AllocError, Global};
+
+/// Writes the piece of a status behind a text.
+pub(crate) fn write_piece(
+    text: &mut String,
+    alloc: Global,
+    status: Status,
+    count: u64,
+) -> Result<(), AllocError>
+    ensures { OnOk result (string_bytes text.new ≡ string_bytes text.old ++ then_piece (status_name status) count []) }
+{
+    if count > 0 {
+        text.push_str(status.name())?;
+        text.push_str("_")?;
+        text.push_str(format!(in alloc; "{count}")?.as_str())?;
+        text.push_str("_")?;
+    }
+    Ok(())
+}
+
+fn push_text(out: &mut Vec<u8>, text: &str)
+    requires { vec_len out.old + length text.now ≤ vec_capacity out.old }
+    ensures text { out.new.items ≡ out.old.items ++ text.now }
+    ensures len { vec_len out.new ≡ vec_len out.old + length text.now }
+    ensures capacity { vec_capacity out.new ≡ vec_capacity out.old }
+{
+    for byte in text.as_bytes() {
+        out.push_reserved(*byte);
+    }
+}
+
+/// Pushes a number in decimal digits, none for 0.
+fn push_digits(out: &mut Vec<u8>, number: u64)
+    requires { vec_len out.old + length (digits number) ≤ vec_capacity out.old }
+    ensures text { out.new.items ≡ out.old.items ++ digits number }
+    ensures len { vec_len out.new ≡ vec_len out.old + length (digits number) }
+    ensures capacity { vec_capacity out.new ≡ vec_capacity out.old }
+{
+    if number > 0 {
+        push_digits(out, number / 10);
+        out.push_reserved(48 + (number % 10) as u8);
+    }
+}
+
+/// Pushes the piece of a status into room that is there.
+pub(crate) fn push_piece(out: &mut Vec<u8>, status: Status, count: u64)
+    requires { vec_len out.old + (length (status_name status) + 22) ≤ vec_capacity out.old }
+    ensures text { out.new.items ≡ out.old.items ++ then_piece (status_name status) count [] }
+    ensures len { vec_len out.new ≤ vec_len out.old + (length (status_name status) + 22) }
+    ensures capacity { vec_capacity out.new ≡ vec_capacity out.old }
+{
+    if count > 0 {
+        push_text(out, status.name());
+        out.push_reserved(b'_');
+        push_digits(out, count);
+        out.push_reserved(b'_');
+    }
+}

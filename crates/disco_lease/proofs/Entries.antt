@@ -1,0 +1,74 @@
+-- The finite map that a tree's entries stand for.
+use Rattle.std.proofs.Common.{◌≡◌, Bool, true, false, cond, List, [], ◌∷◌, map, Option, Some, None, option_map, is_some, IsSome, refl, sym, ap, subst, ◌∙◌}
+use Rattle.std.specs.BTreeMap.{is_at}
+use Rattle.std.specs.Map.{lookup}
+use Rattle.std.specs.Option.{option_flatten}
+use Rattle.std.specs.FinMap.{find, get, insert, remove, same_map, get-from_entries, get-insert, get-remove}
+use Rattle.disco_instance.specs.Key.{key_cmp, same_key}
+use Rattle.disco_instance.specs.declared.key.Key.{Key}
+use Rattle.disco_history.proofs.Keys.{keys_total, exact_keys, same_key-sym}
+use Rattle.disco_lease.specs.Leases as leases
+use Rattle.disco_lease.specs.Seen.{seen, seen_places}
+use Rattle.disco_lease.specs.declared.lease.Lease.{Lease}
+
+abbrev Entries : Type 0
+Entries = List (Key × Option Lease)
+
+-- what a tree has at a key
+abbrev at_key : Entries → Key → Option (Option Lease)
+at_key es q = lookup (is_at (key_cmp q)) es
+
+abbrev seen_place : Option (Option Lease) → Option (Option leases.Lease)
+seen_place o = option_map (option_map seen) o
+
+step : (b : Bool) (p : Option Lease) (x : Option (Option leases.Lease)) (o : Option (Option Lease)) → x ≡ seen_place o → cond b (Some (option_map seen p)) x ≡ seen_place (cond b (Some p) o)
+step true p x o e = refl
+step false p x o e = e
+
+find_seen : (es : Entries) (q : Key) → find key_cmp q (map (λ (e : Key × Option Lease). (e.0, option_map seen e.1)) es) ≡ seen_place (at_key es q)
+find_seen [] q = refl
+find_seen (e ∷ es) q = step (is_at (key_cmp q) e.0) e.1 _ (at_key es q) (find_seen es q)
+
+pub get_seen : (es : Entries) (q : Key) → get (seen_places es) q ≡ seen_place (at_key es q)
+get_seen es q = get-from_entries keys_total (map (λ (e : Key × Option Lease). (e.0, option_map seen e.1)) es) q ∙ find_seen es q
+
+through : (b : Bool) (w o : Option (Option Lease)) → seen_place (cond b w o) ≡ cond b (seen_place w) (seen_place o)
+through true w o = refl
+through false w o = refl
+
+-- the tree fs is es with w at the key
+abbrev pub Updated : Entries → Entries → Key → Option (Option Lease) → Type 0
+Updated es fs k w = (q : Key) → at_key fs q ≡ cond (is_at (key_cmp k) q) w (at_key es q)
+
+get_updated : (es fs : Entries) (k : Key) (w : Option (Option Lease)) → Updated es fs k w → (q : Key) → get (seen_places fs) q ≡ cond (same_key q k) (seen_place w) (get (seen_places es) q)
+get_updated es fs k w h q =
+    get_seen fs q ∙ ap seen_place (h q) ∙ through (same_key k q) w (at_key es q)
+    ∙ ap (λ b. cond b (seen_place w) (seen_place (at_key es q))) (same_key-sym k q)
+    ∙ ap (cond (same_key q k) (seen_place w)) (sym (get_seen es q))
+
+pub one_put : (es fs : Entries) (k : Key) (p : Option Lease) → Updated es fs k (Some p) → seen_places fs ≡ insert (seen_places es) k (option_map seen p)
+one_put es fs k p h = same_map keys_total exact_keys _ _ (λ q. get_updated es fs k (Some p) h q ∙ sym (get-insert keys_total (seen_places es) k (option_map seen p) q))
+
+pub one_out : (es fs : Entries) (k : Key) → Updated es fs k None → seen_places fs ≡ remove (seen_places es) k
+one_out es fs k h = same_map keys_total exact_keys _ _ (λ q. get_updated es fs k None h q ∙ sym (get-remove keys_total (seen_places es) k q))
+
+some_seen : (o : Option (Option Lease)) → is_some (seen_place o) ≡ is_some o
+some_seen None = refl
+some_seen (Some p) = refl
+
+pub has_seen : (es : Entries) (q : Key) → is_some (at_key es q) ≡ is_some (get (seen_places es) q)
+has_seen es q = sym (ap is_some (get_seen es q) ∙ some_seen (at_key es q))
+
+flat : (o : Option (Option Lease)) → option_map seen (option_flatten o) ≡ option_flatten (seen_place o)
+flat None = refl
+flat (Some p) = refl
+
+pub lease_seen : (es : Entries) (q : Key) → option_map seen (option_flatten (at_key es q)) ≡ option_flatten (get (seen_places es) q)
+lease_seen es q = flat (at_key es q) ∙ ap option_flatten (sym (get_seen es q))
+
+seen_some : (o : Option (Option Lease)) → IsSome (seen_place o) → IsSome o
+seen_some None h = h
+seen_some (Some p) h = refl
+
+pub place_seen : (es : Entries) (q : Key) → IsSome (get (seen_places es) q) → IsSome (at_key es q)
+place_seen es q h = seen_some (at_key es q) (subst (λ (o : Option (Option leases.Lease)). IsSome o) (get_seen es q) h)

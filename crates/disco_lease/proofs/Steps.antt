@@ -1,0 +1,62 @@
+-- What a step does to the leases, and which places it leaves.
+use Rattle.std.proofs.Common.{◌≡◌, ℕ, Bool, true, false, cond, Option, Some, None, option_map, is_some, IsSome, refl, sym, ap, subst, ◌∙◌}
+use Rattle.std.specs.Ordering.{is_eq}
+use Rattle.std.specs.Cmp.{tied_itself}
+use Rattle.std.specs.Option.{option_flatten}
+use Rattle.std.specs.FinMap.{FinMap, get, insert, remove, get-insert, get-remove}
+use Rattle.disco_instance.specs.Key.{key_cmp, same_key}
+use Rattle.disco_instance.specs.declared.key.Key.{Key}
+use Rattle.disco_history.proofs.Keys.{keys_total, same_is}
+use Rattle.disco_lease.specs.Leases.{Lease, extended}
+
+abbrev Places : Type 0
+Places = FinMap key_cmp (Option Lease)
+
+flat_cond : (b : Bool) (x y : Option (Option Lease)) → option_flatten (cond b x y) ≡ cond b (option_flatten x) (option_flatten y)
+flat_cond true x y = refl
+flat_cond false x y = refl
+
+pub lease-put : (m n : Places) (k : Key) (l : Lease) → n ≡ insert m k (Some l) → (q : Key) → option_flatten (get n q) ≡ cond (same_key q k) (Some l) (option_flatten (get m q))
+lease-put m n k l e q = ap (λ p. option_flatten (get p q)) e ∙ ap option_flatten (get-insert keys_total m k (Some l) q) ∙ flat_cond (same_key q k) (Some (Some l)) (get m q)
+
+pub lease-touch : (m n : Places) (k : Key) (now : ℕ) (l : Lease) → option_flatten (get m k) ≡ Some l → n ≡ insert m k (Some (extended now l)) → (q : Key) → option_flatten (get n q) ≡ cond (same_key q k) (option_map (extended now) (option_flatten (get m k))) (option_flatten (get m q))
+lease-touch m n k now l there e q = lease-put m n k (extended now l) e q ∙ ap (λ o. cond (same_key q k) (option_map (extended now) o) (option_flatten (get m q))) (sym there)
+
+pub lease-out : (m n : Places) (k : Key) → n ≡ remove m k → (q : Key) → option_flatten (get n q) ≡ cond (same_key q k) None (option_flatten (get m q))
+lease-out m n k e q = ap (λ p. option_flatten (get p q)) e ∙ ap option_flatten (get-remove keys_total m k q) ∙ flat_cond (same_key q k) None (get m q)
+
+absent : (o : Option (Option Lease)) → is_some o ≡ false → o ≡ None
+absent None e = refl
+absent (Some p) e = absurd (cc)
+
+opened : (m : Places) (k q : Key) (b : Bool) → get m k ≡ None → same_key q k ≡ b → option_flatten (cond b (Some None) (get m q)) ≡ option_flatten (get m q)
+opened m k q true none same = ap option_flatten (sym (ap (get m) (same_is q k same) ∙ none))
+opened m k q false none same = refl
+
+-- an empty place where there was none shows nothing
+pub lease-open : (m n : Places) (k : Key) → is_some (get m k) ≡ false → n ≡ insert m k None → (q : Key) → option_flatten (get n q) ≡ option_flatten (get m q)
+lease-open m n k none e q =
+    ap (λ p. option_flatten (get p q)) e ∙ ap option_flatten (get-insert keys_total m k None q)
+    ∙ opened m k q (same_key q k) (absent (get m k) none) refl
+
+stays : (b : Bool) (v : Option Lease) (o : Option (Option Lease)) → IsSome o → IsSome (cond b (Some v) o)
+stays true v o h = refl
+stays false v o h = h
+
+pub place-put : (m n : Places) (k : Key) (v : Option Lease) → n ≡ insert m k v → (q : Key) → IsSome (get m q) → IsSome (get n q)
+place-put m n k v e q h =
+    let now : get n q ≡ cond (same_key q k) (Some v) (get m q) = ap (λ p. get p q) e ∙ get-insert keys_total m k v q in
+    subst (λ (o : Option (Option Lease)). IsSome o) (sym now) (stays (same_key q k) v (get m q) h)
+
+itself : (k : Key) → same_key k k ≡ true
+itself k = ap is_eq (tied_itself keys_total k)
+
+pub place-open : (m n : Places) (k : Key) (v : Option Lease) → n ≡ insert m k v → IsSome (get n k)
+place-open m n k v e =
+    let now : get n k ≡ Some v = ap (λ p. get p k) e ∙ get-insert keys_total m k v k ∙ ap (λ b. cond b (Some v) (get m k)) (itself k) in
+    subst (λ (o : Option (Option Lease)). IsSome o) (sym now) refl
+
+pub place-out : (m n : Places) (k : Key) → n ≡ remove m k → (q : Key) → same_key q k ≡ false → IsSome (get m q) → IsSome (get n q)
+place-out m n k e q apart h =
+    let now : get n q ≡ get m q = ap (λ p. get p q) e ∙ get-remove keys_total m k q ∙ ap (λ b. cond b None (get m q)) apart in
+    subst (λ (o : Option (Option Lease)). IsSome o) (sym now) h

@@ -1,0 +1,8 @@
+use Rattle.disco_lease.proofs.Steps.{lease-out, place-out}
+use Rattle.disco_lease.proofs.book.LeaseBook.cancel.Goals as goal
+
+pub returns-clause-leases : goal.returns-clause-leases
+returns-clause-leases c = rw (← c.self.view_is) (lease-out c.self.inside.places c.close.new.self c.args.key.now c.close.ensures)
+
+pub returns-clause-places : goal.returns-clause-places
+returns-clause-places c = rw (← c.self.view_is) (place-out c.self.inside.places c.close.new.self c.args.key.now c.close.ensures)

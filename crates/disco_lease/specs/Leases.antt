@@ -1,0 +1,67 @@
+-- Leases as plain data.
+use Rattle.std.specs.Prelude.{◌≡◌, ℕ, ◌+◌, ◌-◌, ◌*◌, ◌^◌, min, false, if◌then◌else◌, Option, IsSome, refl}
+use Rattle.std.specs.Coded.{Coded, code_by, coded×, coded_ℕ, coded_option}
+use Rattle.std.specs.FinMap.{FinMap, code, empty, get}
+use Rattle.std.specs.Option.{option_flatten}
+use Rattle.disco_instance.specs.Key.{key_cmp, same_key}
+use Rattle.disco_instance.specs.declared.key.Key.{Key}
+use Rattle.disco_instance.specs.contracts.key.Key as key
+
+-- how many seconds a lease lasts, and its mark, in milliseconds
+pub record Lease : Type 0 where
+  pub duration_secs : ℕ
+  pub mark : ℕ
+
+abbrev pub coded_lease : Coded Lease
+coded_lease = code_by (ℕ × ℕ) (coded× coded_ℕ coded_ℕ) (λ l. (l.duration_secs, l.mark)) (λ p. record { duration_secs = p.0; mark = p.1 }) (λ _. refl)
+
+abbrev pub coded_places : Coded (FinMap key_cmp (Option Lease))
+coded_places = code key.the_row.coded (coded_option coded_lease)
+
+-- a place for each of some keys, with a lease or empty, and the number of renewals so far
+pub record Leases : Type 0 where
+  pub places : FinMap key_cmp (Option Lease)
+  pub renewals : ℕ
+
+abbrev pub coded_leases : Coded Leases
+coded_leases = code_by (FinMap key_cmp (Option Lease) × ℕ) (coded× coded_places coded_ℕ) (λ v. (v.places, v.renewals)) (λ p. record { places = p.0; renewals = p.1 }) (λ _. refl)
+
+abbrev pub no_leases : Leases
+no_leases = record { places = empty; renewals = 0 }
+
+-- the lease of a key
+abbrev pub lease_at : Leases → Key → Option Lease
+lease_at v k = option_flatten (get v.places k)
+
+-- there is a place for the key's lease
+abbrev pub HasPlace : Leases → Key → Type 0
+HasPlace v k = IsSome (get v.places k)
+
+-- the same but for empty places, which no answer shows
+pub record IsSame (old new : Leases) : Type 0 where
+  pub leases : (q : Key) → lease_at new q ≡ lease_at old q
+  pub renewals : new.renewals ≡ old.renewals
+
+-- each place stays
+abbrev pub KeepsPlaces : Leases → Leases → Type 0
+KeepsPlaces old new = (q : Key) → HasPlace old q → HasPlace new q
+
+-- each place but that of the key stays
+abbrev pub KeepsOtherPlaces : Key → Leases → Leases → Type 0
+KeepsOtherPlaces k old new = (q : Key) → same_key q k ≡ false → HasPlace old q → HasPlace new q
+
+-- the key has that lease, or none, and each other key what it had
+abbrev pub Sets : Key → Option Lease → Leases → Leases → Type 0
+Sets k l old new = (q : Key) → lease_at new q ≡ (if same_key q k then l else lease_at old q)
+
+-- the lease of an instance that registers now
+abbrev pub marked : ℕ → ℕ → Lease
+marked duration_secs now = record { duration_secs = duration_secs; mark = now }
+
+-- the lease with its mark one duration from now
+abbrev pub extended : ℕ → Lease → Lease
+extended now l = record { duration_secs = l.duration_secs; mark = now + l.duration_secs * 1000 }
+
+-- one renewal more, up to the largest number that fits
+abbrev pub counted : ℕ → ℕ
+counted renewals = min (renewals + 1) (2 ^ 64 - 1)

@@ -1,0 +1,34 @@
+//! A lease.
+ghost use Rattle.std.specs.Prelude.{◌≡◌};
+ghost use Rattle.disco_lease.specs.Leases.{extended, marked};
+
+/// A lease: how many seconds it lasts, and its mark, in milliseconds.
+#[derive(Clone, Copy, Debug)]
+pub(crate) struct Lease {
+    duration_secs: u32,
+    mark: u128,
+}
+
+impl Lease {
+    ghost use Rattle.disco_lease.specs.Seen.{seen};
+
+    /// The lease of an instance that registers.
+    pub(crate) fn marked(duration_secs: u32, now: u64) -> Lease
+        ensures { seen result ≡ marked duration_secs now }
+    {
+        Lease {
+            duration_secs,
+            mark: u128::from(now),
+        }
+    }
+
+    /// The lease with its mark one duration from now.
+    pub(crate) fn extended(self, now: u64) -> Lease
+        ensures { seen result ≡ extended now (seen self) }
+    {
+        Lease {
+            duration_secs: self.duration_secs,
+            mark: u128::from(now) + u128::from(self.duration_secs) * 1000,
+        }
+    }
+}

@@ -1,0 +1,94 @@
+//! Leases by key, with places that stand empty.
+ghost use Rattle.std.specs.Prelude.{◌≡◌, IsSome, None, OnErr, OnOk, Some, is_some, option_map};
+ghost use Rattle.std.specs.BTreeMap as tree;
+ghost use Rattle.std.specs.FinMap as finmap;
+ghost use Rattle.std.specs.Option.{option_flatten};
+ghost use Rattle.disco_instance.specs.Key.{key_cmp};
+ghost use Rattle.disco_lease.specs.Seen.{seen};
+
+use crate::lease::Lease;
+use disco_instance::Key;
+use std::alloc::{AllocError, Global};
+use std::collections::BTreeMap;
+use std::marker::Model;
+
+/// A place for each of some keys, with a lease or empty.
+#[derive(Drop)]
+pub(crate) struct Places {
+    places: BTreeMap<Key, Option<Lease>>,
+}
+
+impl Model for Places {
+    ghost use Rattle.std.specs.Prelude.{Option};
+    ghost use Rattle.std.specs.FinMap.{FinMap};
+    ghost use Rattle.disco_instance.specs.Key.{key_cmp};
+    ghost use Rattle.disco_lease.specs.Leases as leases;
+    ghost use Rattle.disco_lease.specs.Seen.{seen_places};
+
+    ghost Value = { FinMap key_cmp (Option leases.Lease) };
+
+    ghost coded = { leases.coded_places };
+
+    ghost view = { λ p. seen_places p.places.entries };
+}
+
+fn set(places: &mut BTreeMap<Key, Option<Lease>>, key: &Key, lease: Lease)
+    requires { IsSome (tree.get key_cmp places.old key.now) }
+    ensures { tree.Updates key_cmp places.old places.new key.now (Some (Some lease)) }
+{
+    if let Some(place) = places.get_mut(key) {
+        *place = Some(lease);
+    }
+}
+
+fn unset(places: &mut BTreeMap<Key, Option<Lease>>, key: &Key)
+    ensures { tree.Updates key_cmp places.old places.new key.now None }
+{
+    places.remove(key);
+}
+
+impl Places {
+    pub(crate) fn new(alloc: Global) -> Places
+        ensures { result ≡ finmap.empty }
+    {
+        Places {
+            places: BTreeMap::new(alloc),
+        }
+    }
+
+    pub(crate) fn has(&self, key: &Key) -> bool
+        ensures { result ≡ is_some (finmap.get self.now key.now) }
+    {
+        self.places.contains_key(key)
+    }
+
+    pub(crate) fn lease(&self, key: &Key) -> Option<Lease>
+        ensures { option_map seen result ≡ option_flatten (finmap.get self.now key.now) }
+    {
+        self.places.get(key).copied().flatten()
+    }
+
+    /// Makes an empty place for a key.
+    pub(crate) fn open(&mut self, key: Key) -> Result<(), AllocError>
+        ensures ok { OnOk result (self.new ≡ finmap.insert self.old key None) }
+        ensures err { OnErr result (self.new ≡ self.old) }
+    {
+        self.places.insert(key, None)?;
+        Ok(())
+    }
+
+    /// Puts a lease into the place of a key.
+    pub(crate) fn put(&mut self, key: &Key, lease: Lease)
+        requires { IsSome (finmap.get self.old key.now) }
+        ensures { self.new ≡ finmap.insert self.old key.now (Some (seen lease)) }
+    {
+        set(&mut self.places, key, lease);
+    }
+
+    /// Takes the place of a key out.
+    pub(crate) fn close(&mut self, key: &Key)
+        ensures { self.new ≡ finmap.remove self.old key.now }
+    {
+        unset(&mut self.places, key);
+    }
+}
