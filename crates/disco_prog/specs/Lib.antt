@@ -2,3 +2,4 @@ pub mod Words
 pub mod Lines
 pub mod Answers
 pub mod Options
+pub mod Query

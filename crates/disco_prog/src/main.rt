@@ -7,6 +7,7 @@ mod line;
 mod lines;
 mod moment;
 mod options;
+mod query;
 mod replay;
 #[cfg(test)]
 mod tests;

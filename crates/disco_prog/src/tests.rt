@@ -7,6 +7,8 @@ use std::io::{Read, Write};
 use std::process::Abort;
 use std::test::Fail;
 
+mod operations;
+
 const EMPTY: &str =
     r#"{"applications":{"application":[],"apps__hashcode":"","versions__delta":"0"}}"#;
 

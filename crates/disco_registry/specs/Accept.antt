@@ -2,15 +2,19 @@
 use Rattle.std.specs.Prelude.{◌≡◌, ◌≢◌, ℕ, ◌&&◌, not, List, length, Bool, true, false, nat_lt, if◌then◌else◌, Option, Some, None, Result, Ok, Err}
 use Rattle.std.specs.FinMap.{FinMap, len}
 use Rattle.disco_instance.specs.Key.{key_cmp}
-use Rattle.disco_instance.specs.Moments.{cancelled_at}
+use Rattle.disco_instance.specs.Entries.{with_entries}
+use Rattle.disco_instance.specs.Moments.{cancelled_at, modified_at}
 use Rattle.disco_instance.specs.Row.{Row}
-use Rattle.disco_instance.specs.declared.action.Action.TheVariants.{Added, Deleted}
+use Rattle.disco_instance.specs.Status.{is_same, status_named}
+use Rattle.disco_instance.specs.declared.status.Status.{Status}
+use Rattle.disco_instance.specs.declared.status.Status.TheVariants.{Unknown}
+use Rattle.disco_instance.specs.declared.action.Action.TheVariants.{Added, Modified, Deleted}
 use Rattle.disco_instance.specs.declared.fault.Fault.{Fault}
-use Rattle.disco_instance.specs.declared.fault.Fault.TheVariants.{OutOfMemory, NotFound, VersionsSpent, TooManyInstances}
+use Rattle.disco_instance.specs.declared.fault.Fault.TheVariants.{OutOfMemory, BadStatus, NotFound, VersionsSpent, TooManyInstances}
 use Rattle.disco_history.specs.Change.{Entry}
 use Rattle.disco_history.specs.Registry.{reg, said}
 use Rattle.disco_registry.specs.Held.{record_at}
-use Rattle.disco_registry.specs.Op.{Ask, register, cancel}
+use Rattle.disco_registry.specs.Op.{Ask, register, cancel, renew, set_status, drop_status, add_metadata}
 use Rattle.disco_registry.specs.Settle.{settle}
 use Rattle.disco_registry.specs.State.{State}
 
@@ -23,21 +27,51 @@ abbrev pub is_new : Option Row → Bool
 is_new None = true
 is_new (Some r) = false
 
-abbrev pub cancelled : Option Row → ℕ → Result Entry Fault
+abbrev pub cancelled : Option Row → ℕ → Result (Option Entry) Fault
 cancelled None now = Err NotFound
-cancelled (Some r) now = Ok (cancelled_at r now, Deleted)
+cancelled (Some r) now = Ok (Some (cancelled_at r now, Deleted))
 
--- the change that is asked for, or the first cause against it
-abbrev pub asked : Limits → FinMap key_cmp Entry → Ask → ℕ → Result Entry Fault
+-- an instance of unknown status has no lease to renew
+abbrev pub renewed : Option Row → Result (Option Entry) Fault
+renewed None = Err NotFound
+renewed (Some r) = if is_same r.status Unknown then Err NotFound else Ok None
+
+abbrev pub status_set : Option Status → Option Row → ℕ → Result (Option Entry) Fault
+status_set None r now = Err BadStatus
+status_set (Some status) None now = Err NotFound
+status_set (Some status) (Some r) now = if is_same r.status status then Ok None else Ok (Some (modified_at r status status now, Modified))
+
+-- the status that an instance gets whose override is dropped: the one that is named, else Unknown
+abbrev pub status_given : Option (List ℕ) → Option Status
+status_given None = Some Unknown
+status_given (Some text) = status_named text
+
+abbrev pub override_dropped : Option Status → Option Row → ℕ → Result (Option Entry) Fault
+override_dropped None r now = Err BadStatus
+override_dropped (Some status) None now = Err NotFound
+override_dropped (Some status) (Some r) now = if is_same r.overridden_status Unknown then Ok None else Ok (Some (modified_at r status Unknown now, Modified))
+
+-- the record with these entries put in is registered again
+abbrev pub metadata_added : Option Row → List (List ℕ × List ℕ) → ℕ → Result (Option Entry) Fault
+metadata_added None entries now = Err NotFound
+metadata_added (Some r) entries now = Ok (Some (settle (Some r) (record r { metadata = with_entries r.metadata entries }) now, Added))
+
+-- the change that is asked for or none, or the first cause against it
+abbrev pub asked : Limits → FinMap key_cmp Entry → Ask → ℕ → Result (Option Entry) Fault
 asked limits held (register p) now =
     let r = record_at held p.key in
-    if is_new r && not (nat_lt (len held) (limits.instances)) then Err TooManyInstances else Ok (settle r p now, Added)
+    if is_new r && not (nat_lt (len held) (limits.instances)) then Err TooManyInstances else Ok (Some (settle r p now, Added))
 asked limits held (cancel k) now = cancelled (record_at held k) now
+asked limits held (renew k) now = renewed (record_at held k)
+asked limits held (set_status k text) now = status_set (status_named text) (record_at held k) now
+asked limits held (drop_status k text) now = override_dropped (status_given text) (record_at held k) now
+asked limits held (add_metadata k entries) now = metadata_added (record_at held k) entries now
 
 -- a change needs a version that is left
-abbrev pub if_left : Limits → ℕ → Result Entry Fault → Result (Option Entry) Fault
+abbrev pub if_left : Limits → ℕ → Result (Option Entry) Fault → Result (Option Entry) Fault
 if_left limits version (Err e) = Err e
-if_left limits version (Ok c) = if nat_lt version (limits.versions) then Ok (Some c) else Err VersionsSpent
+if_left limits version (Ok None) = Ok None
+if_left limits version (Ok (Some c)) = if nat_lt version (limits.versions) then Ok (Some c) else Err VersionsSpent
 
 -- what an operation does to the mentions that are held at a version
 abbrev pub accept : Limits → FinMap key_cmp Entry → ℕ → Ask → ℕ → Result (Option Entry) Fault

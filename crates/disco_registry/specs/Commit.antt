@@ -1,5 +1,5 @@
 -- What commits a change.
-use Rattle.std.specs.Prelude.{◌≡◌, ◌<◌, ◌+◌, List, [], ◌∷◌, ◌++◌, Option, Some, None, option_map, Result, Ok, Err}
+use Rattle.std.specs.Prelude.{◌≡◌, ℕ, ◌<◌, ◌+◌, List, [], ◌∷◌, ◌++◌, Option, Some, None, option_map, Result, Ok, Err}
 use Rattle.std.specs.FinMap.{FinMap, get, insert, remove}
 use Rattle.disco_instance.specs.Key.{key_cmp}
 use Rattle.disco_instance.specs.Row.{row}
@@ -20,23 +20,35 @@ abbrev pub HasRoomFor : State → Change → Option Entry → Type 0
 HasRoomFor s (Put action rec) kept = let e : Entry = (row rec.value, action) in (put_of e ≡ Some e) × (kept ≡ Some e) × (get s.held rec.value.key ≡ None → 0 < s.room)
 HasRoomFor s (Gone rec) kept = Unit {0}
 
+abbrev pub IsReadyFor : State → Option Change → Option Entry → Type 0
+IsReadyFor s None kept = Unit {0}
+IsReadyFor s (Some change) kept = (s.version < s.versions) × HasRoomFor s change kept
+
+-- the change that is ready, if there is one
+abbrev pub change_in : Ready → Option Entry
+change_in r = option_map seen r.change
+
 -- the registry can commit it without memory
-pub record IsReady (s : State) (r : Ready) : Type 0 where
-  pub left : s.version < s.versions
-  pub room : HasRoomFor s r.change (option_map entry_of r.kept)
+abbrev pub IsReady : State → Ready → Type 0
+IsReady s r = IsReadyFor s r.change (option_map entry_of r.kept)
 
 abbrev put_at : FinMap key_cmp Entry → Key → Option Entry → FinMap key_cmp Entry
 put_at m k None = remove m k
 put_at m k (Some e) = insert m k e
 
--- the mentions after a change: its record goes in, or out
-abbrev pub held_after : FinMap key_cmp Entry → Entry → FinMap key_cmp Entry
-held_after m c = put_at m (key_of c) (put_of c)
+-- the mentions after a change, if there is one: its record goes in, or out
+abbrev pub held_after : FinMap key_cmp Entry → Option Entry → FinMap key_cmp Entry
+held_after m None = m
+held_after m (Some c) = put_at m (key_of c) (put_of c)
 
--- the registry has made this change and no other
-pub record Takes (old : State) (c : Entry) (new : State) : Type 0 where
+abbrev pub version_after : ℕ → Option Entry → ℕ
+version_after v None = v
+version_after v (Some c) = v + 1
+
+-- the registry has made this change, if there is one, and no other
+pub record Takes (old : State) (c : Option Entry) (new : State) : Type 0 where
   pub held : new.held ≡ held_after old.held c
-  pub version : new.version ≡ old.version + 1
+  pub version : new.version ≡ version_after old.version c
   pub versions : new.versions ≡ old.versions
   pub instances : new.instances ≡ old.instances
 

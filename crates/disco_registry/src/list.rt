@@ -1,5 +1,5 @@
 //! Held records in the order of their keys.
-ghost use Rattle.std.specs.Prelude.{◌≡◌, ◌<◌, IfOk, IfErr, OnOk, None, map};
+ghost use Rattle.std.specs.Prelude.{◌≡◌, ◌<◌, IfOk, IfErr, IfSome, OnOk, None, map};
 ghost use Rattle.std.specs.FinMap as finmap;
 ghost use Rattle.std.specs.FinMap.{values};
 ghost use Rattle.disco_registry.specs.Held.{entry_of, record_at, seen_record};
@@ -49,7 +49,8 @@ impl RecordList {
     }
 
     pub(crate) fn get(&self, key: &Key) -> Option<&Record>
-        ensures { seen_record result ≡ record_at self.now.held key.now }
+        ensures found { seen_record result ≡ record_at self.now.held key.now }
+        ensures same_key { IfSome result (λ r. r.now.key ≡ key.now) }
     {
         match place(&self.records, key) {
             Ok(i) => Some(&*self.records[i].rec),

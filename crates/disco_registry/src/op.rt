@@ -1,6 +1,8 @@
 //! Operations and their outcomes.
+ghost use Rattle.std.specs.Prelude.{◌≡◌};
+
 use disco_history::Change;
-use disco_instance::{Key, Record};
+use disco_instance::{Entries, Key, Record, Text};
 
 /// What a client asks of the registry.
 #[derive(Debug, Drop)]
@@ -9,6 +11,32 @@ pub enum Op {
     Register(Record),
     /// Eureka's `DELETE /apps/{app}/{id}`.
     Cancel(Key),
+    /// Eureka's `PUT /apps/{app}/{id}`.
+    Renew(Key),
+    /// Eureka's `PUT /apps/{app}/{id}/status`, with the name of the status.
+    SetStatus(Key, Text),
+    /// Eureka's `DELETE /apps/{app}/{id}/status`, with the name of the status where one is given.
+    DropStatus(Key, Option<Text>),
+    /// Eureka's `PUT /apps/{app}/{id}/metadata`.
+    Metadata(Key, Entries),
+}
+
+impl Op {
+    ghost use Rattle.disco_registry.specs.Op.{ask_of, asked_key};
+
+    /// The key that it is about.
+    pub fn key(&self) -> &Key
+        ensures { result.now ≡ asked_key (ask_of self.now) }
+    {
+        match self {
+            Op::Register(posted) => &posted.key,
+            Op::Cancel(key) => key,
+            Op::Renew(key) => key,
+            Op::SetStatus(key, _) => key,
+            Op::DropStatus(key, _) => key,
+            Op::Metadata(key, _) => key,
+        }
+    }
 }
 
 /// What an accepted operation did.

@@ -1,16 +1,16 @@
 //! The registry.
-ghost use Rattle.std.specs.Prelude.{◌≡◌, ◌<◌, ◌&&◌, not, nat_lt, List, [], map, IfOk, IfErr, None, Some, Ok, option_map};
+ghost use Rattle.std.specs.Prelude.{◌≡◌, ◌<◌, ◌^◌, ◌&&◌, not, nat_lt, List, [], map, IfOk, IfErr, None, Some, Ok, option_map};
 ghost use Rattle.std.specs.FinMap.{get, len, values};
+ghost use Rattle.disco_instance.specs.Moments.{modified_at};
 ghost use Rattle.disco_instance.specs.Row.{row};
-ghost use Rattle.disco_instance.specs.declared.action.Action.TheVariants.{Added, Deleted};
+ghost use Rattle.disco_instance.specs.declared.action.Action.TheVariants.{Added, Modified, Deleted};
 ghost use Rattle.disco_instance.specs.declared.fault.Fault.TheVariants.{OutOfMemory};
 ghost use Rattle.disco_history.specs.Change.{Entry, seen};
 ghost use Rattle.disco_history.specs.Registry.{put_of};
-ghost use Rattle.disco_registry.specs.declared.op.Op.TheVariants.{Register, Cancel};
-ghost use Rattle.disco_registry.specs.Accept.{Refuses, accept, accepts, is_new, limits_of};
-ghost use Rattle.disco_registry.specs.Commit.{HasRoomFor, IsReady, Takes, done_by, extended, outcome};
+ghost use Rattle.disco_registry.specs.Accept.{Refuses, accepts, is_new, limits_of, status_given};
+ghost use Rattle.disco_registry.specs.Commit.{change_in, IsReady, IsReadyFor, Takes, done_by, extended, outcome};
 ghost use Rattle.disco_registry.specs.Held.{entry_of, record_at, seen_record};
-ghost use Rattle.disco_registry.specs.Op.{Ask, ask_of, register, cancel};
+ghost use Rattle.disco_registry.specs.Op.{ask_of, register, cancel, renew, set_status, drop_status, add_metadata};
 ghost use Rattle.disco_registry.specs.State.{IsSame, StandsFor, State};
 
 use crate::held::Held;
@@ -18,7 +18,7 @@ use crate::list::RecordList;
 use crate::op::{Applied, Op};
 use crate::settle::settled;
 use disco_history::Change;
-use disco_instance::{Action, Fault, Key, Record};
+use disco_instance::{Action, Entries, Fault, Key, Record, Status, Text, status_of};
 use std::alloc::Global;
 use std::marker::Model;
 use std::sync::Arc;
@@ -44,23 +44,45 @@ impl Model for Registry {
     ghost view = { λ r. record { held = r.records.held; version = r.version; versions = r.versions; instances = r.instances; room = r.records.room } };
 }
 
-/// An accepted change, with all that its commit needs.
+/// An accepted operation, with all that its commit needs.
 #[derive(Drop)]
 pub struct Ready {
-    change: Change,
+    change: Option<Change>,
     kept: Option<Held>,
+}
+
+impl Ready {
+    ghost use Rattle.disco_history.specs.Change.{seen};
+    ghost use Rattle.disco_registry.specs.Commit.{change_in};
+
+    /// The change that a commit makes, where there is one.
+    pub fn change(&self) -> Option<&Change>
+        ensures { option_map (λ c. seen c.now) result ≡ change_in self.now }
+    {
+        self.change.as_ref()
+    }
+}
+
+/// There is nothing to change.
+fn same_ready() -> Ready
+    ensures { result ≡ record { change = None; kept = None } }
+{
+    Ready {
+        change: None,
+        kept: None,
+    }
 }
 
 fn put_ready(alloc: Global, record_in: Record, action: Action) -> Result<Ready, Fault>
     ensures memory { IfErr result (λ e. e ≡ OutOfMemory) }
-    ensures change { IfOk result (λ r. seen r.change ≡ (row record_in, action)) }
-    ensures room { IfOk result (λ r. (s : State) → put_of (row record_in, action) ≡ Some (row record_in, action)
-        → (get s.held record_in.key ≡ None → 0 < s.room) → HasRoomFor s r.change (option_map entry_of r.kept)) }
+    ensures change { IfOk result (λ r. change_in r ≡ Some (row record_in, action)) }
+    ensures room { IfOk result (λ r. (s : State) → s.version < s.versions → put_of (row record_in, action) ≡ Some (row record_in, action)
+        → (get s.held record_in.key ≡ None → 0 < s.room) → IsReady s r) }
 {
     let rec = Arc::new(alloc, record_in)?;
     let shared = Arc::try_clone(&rec)?;
     Ok(Ready {
-        change: Change::Put { action, rec },
+        change: Some(Change::Put { action, rec }),
         kept: Some(Held {
             rec: shared,
             action,
@@ -70,15 +92,41 @@ fn put_ready(alloc: Global, record_in: Record, action: Action) -> Result<Ready, 
 
 fn gone_ready(alloc: Global, record_out: Record) -> Result<Ready, Fault>
     ensures memory { IfErr result (λ e. e ≡ OutOfMemory) }
-    ensures change { IfOk result (λ r. seen r.change ≡ (row record_out, Deleted)) }
-    ensures room { IfOk result (λ r. (s : State) → HasRoomFor s r.change (option_map entry_of r.kept)) }
+    ensures change { IfOk result (λ r. change_in r ≡ Some (row record_out, Deleted)) }
+    ensures room { IfOk result (λ r. (s : State) → s.version < s.versions → IsReady s r) }
 {
     Ok(Ready {
-        change: Change::Gone {
+        change: Some(Change::Gone {
             rec: Arc::new(alloc, record_out)?,
-        },
+        }),
         kept: None,
     })
+}
+
+/// What is ready for a record that a change of its status or its override puts at a moment.
+fn modified_ready(
+    alloc: Global,
+    held: &Record,
+    status: Status,
+    overridden_status: Status,
+    now: u64,
+) -> Result<Ready, Fault>
+    ensures memory { IfErr result (λ e. e ≡ OutOfMemory) }
+    ensures change { IfOk result (λ r. change_in r ≡ Some (modified_at (row held.now) status overridden_status now, Modified)) }
+    ensures room { IfOk result (λ r. (s : State) → s.version < s.versions → (get s.held held.now.key ≡ None → 0 < s.room) → IsReady s r) }
+{
+    let new = held.copy()?.modified(status, overridden_status, now);
+    let ready = put_ready(alloc, new, Action::Modified)?;
+    Ok(ready)
+}
+
+fn status_given(text: &Option<Text>) -> Option<Status>
+    ensures { result ≡ status_given text.now }
+{
+    match text {
+        None => Some(Status::Unknown),
+        Some(text) => status_of(text.as_str()),
+    }
 }
 
 impl Registry {
@@ -112,8 +160,10 @@ impl Registry {
 
     /// How many changes were accepted.
     pub fn version(&self) -> u64
-        ensures { result ≡ self.now.version }
+        ensures version { result ≡ self.now.version }
+        ensures fits { self.now.versions < 2 ^ 64 }
     {
+        let _versions = self.versions;
         self.version
     }
 
@@ -128,12 +178,16 @@ impl Registry {
     /// is, and as `OutOfMemory`.
     pub fn ready(&mut self, op: Op, now: u64) -> Result<Ready, Fault>
         ensures same { IsSame self.old self.new }
-        ensures ready { IfOk result (λ r. accepts self.old (ask_of op) now ≡ Ok (Some (seen r.change)) × IsReady self.new r) }
+        ensures ready { IfOk result (λ r. accepts self.old (ask_of op) now ≡ Ok (change_in r) × IsReady self.new r) }
         ensures refused { IfErr result (Refuses self.old (ask_of op) now) }
     {
         match op {
             Op::Register(posted) => self.ready_register(posted, now),
             Op::Cancel(key) => self.ready_cancel(&key, now),
+            Op::Renew(key) => self.ready_renew(&key, now),
+            Op::SetStatus(key, text) => self.ready_set_status(&key, &text, now),
+            Op::DropStatus(key, text) => self.ready_drop_status(&key, &text, now),
+            Op::Metadata(key, entries) => self.ready_metadata(&key, &entries, now),
         }
     }
 
@@ -145,7 +199,7 @@ impl Registry {
 
     fn ready_register(&mut self, posted: Record, now: u64) -> Result<Ready, Fault>
         ensures same { IsSame self.old self.new }
-        ensures ready { IfOk result (λ r. accepts self.old (register (row posted)) now ≡ Ok (Some (seen r.change)) × IsReady self.new r) }
+        ensures ready { IfOk result (λ r. accepts self.old (register (row posted)) now ≡ Ok (change_in r) × IsReady self.new r) }
         ensures refused { IfErr result (Refuses self.old (register (row posted)) now) }
     {
         let held = self.records.get(&posted.key);
@@ -161,10 +215,9 @@ impl Registry {
         Ok(ready)
     }
 
-    fn ready_cancel(&mut self, key: &Key, now: u64) -> Result<Ready, Fault>
-        ensures same { IsSame self.old self.new }
-        ensures ready { IfOk result (λ r. accepts self.old (cancel key.now) now ≡ Ok (Some (seen r.change)) × IsReady self.new r) }
-        ensures refused { IfErr result (Refuses self.old (cancel key.now) now) }
+    fn ready_cancel(&self, key: &Key, now: u64) -> Result<Ready, Fault>
+        ensures ready { IfOk result (λ r. accepts self.now (cancel key.now) now ≡ Ok (change_in r) × IsReady self.now r) }
+        ensures refused { IfErr result (Refuses self.now (cancel key.now) now) }
     {
         let Some(held) = self.records.get(key) else {
             return Err(Fault::NotFound);
@@ -177,15 +230,99 @@ impl Registry {
         Ok(ready)
     }
 
-    /// Makes the change that is ready. Takes no memory.
+    fn ready_renew(&self, key: &Key, now: u64) -> Result<Ready, Fault>
+        ensures ready { IfOk result (λ r. accepts self.now (renew key.now) now ≡ Ok (change_in r) × IsReady self.now r) }
+        ensures refused { IfErr result (Refuses self.now (renew key.now) now) }
+    {
+        let _ = now;
+        let Some(held) = self.records.get(key) else {
+            return Err(Fault::NotFound);
+        };
+        if held.status.is(Status::Unknown) {
+            return Err(Fault::NotFound);
+        }
+        Ok(same_ready())
+    }
+
+    fn ready_set_status(&self, key: &Key, text: &Text, now: u64) -> Result<Ready, Fault>
+        ensures ready { IfOk result (λ r. accepts self.now (set_status key.now text.now) now ≡ Ok (change_in r) × IsReady self.now r) }
+        ensures refused { IfErr result (Refuses self.now (set_status key.now text.now) now) }
+    {
+        let Some(status) = status_of(text.as_str()) else {
+            return Err(Fault::BadStatus);
+        };
+        let Some(held) = self.records.get(key) else {
+            return Err(Fault::NotFound);
+        };
+        if held.status.is(status) {
+            return Ok(same_ready());
+        }
+        if self.version >= self.versions {
+            return Err(Fault::VersionsSpent);
+        }
+        let ready = modified_ready(self.alloc, held, status, status, now)?;
+        Ok(ready)
+    }
+
+    fn ready_drop_status(&self, key: &Key, text: &Option<Text>, now: u64) -> Result<Ready, Fault>
+        ensures ready { IfOk result (λ r. accepts self.now (drop_status key.now text.now) now ≡ Ok (change_in r) × IsReady self.now r) }
+        ensures refused { IfErr result (Refuses self.now (drop_status key.now text.now) now) }
+    {
+        let Some(status) = status_given(text) else {
+            return Err(Fault::BadStatus);
+        };
+        let Some(held) = self.records.get(key) else {
+            return Err(Fault::NotFound);
+        };
+        if held.overridden_status.is(Status::Unknown) {
+            return Ok(same_ready());
+        }
+        if self.version >= self.versions {
+            return Err(Fault::VersionsSpent);
+        }
+        let ready = modified_ready(self.alloc, held, status, Status::Unknown, now)?;
+        Ok(ready)
+    }
+
+    fn ready_metadata(&self, key: &Key, entries: &Entries, now: u64) -> Result<Ready, Fault>
+        ensures ready { IfOk result (λ r. accepts self.now (add_metadata key.now entries.now) now ≡ Ok (change_in r) × IsReady self.now r) }
+        ensures refused { IfErr result (Refuses self.now (add_metadata key.now entries.now) now) }
+    {
+        let Some(held) = self.records.get(key) else {
+            return Err(Fault::NotFound);
+        };
+        if self.version >= self.versions {
+            return Err(Fault::VersionsSpent);
+        }
+        let posted = held.copy()?.with_entries(entries)?;
+        let new = settled(Some(held), posted, now)?;
+        let ready = put_ready(self.alloc, new, Action::Added)?;
+        Ok(ready)
+    }
+
+    /// Makes the change that is ready, where there is one. Takes no memory.
     pub fn commit(&mut self, ready: Ready) -> Applied
         requires { IsReady self.old ready }
-        ensures change { done_by result ≡ Some (seen ready.change) }
-        ensures takes { Takes self.old (seen ready.change) self.new }
+        ensures change { done_by result ≡ change_in ready }
+        ensures takes { Takes self.old (change_in ready) self.new }
+        ensures history { (h : List Entry) → StandsFor self.old h → StandsFor self.new (extended h (change_in ready)) }
+    {
+        let Ready { change, kept } = ready;
+        match change {
+            Some(change) => {
+                self.take(&change, kept);
+                Applied::Changed(change)
+            }
+            None => Applied::Same,
+        }
+    }
+
+    fn take(&mut self, change: &Change, kept: Option<Held>)
+        requires { IsReadyFor self.old (Some change.now) (option_map entry_of kept) }
+        ensures { Takes self.old (Some (seen change.now)) self.new }
     {
         prove!(self.version < self.versions);
-        let Ready { change, kept } = ready;
-        match &change {
+        match change {
             Change::Put { action: _, rec: _ } => {
                 if let Some(kept) = kept {
                     self.records.put(kept);
@@ -194,10 +331,9 @@ impl Registry {
             Change::Gone { rec } => self.records.take(&rec.key),
         }
         self.version += 1;
-        Applied::Changed(change)
     }
 
-    /// Does one operation at a moment in milliseconds. It is refused as `NotFound`,
+    /// Does one operation at a moment in milliseconds. It is refused as `BadStatus`, `NotFound`,
     /// `TooManyInstances` or `VersionsSpent`, the first of these whose cause holds, or as
     /// `OutOfMemory`, and then changes no answer.
     pub fn apply(&mut self, op: Op, now: u64) -> Result<Applied, Fault>

@@ -1,2 +1,3 @@
-mod Runs
+mod Histories
+mod Ties
 mod Writes

@@ -16,7 +16,7 @@ use Rattle.disco_registry.specs.declared.op.Applied.TheVariants as applied
 use Rattle.disco_writer.specs.Documents.{IsTrueApps}
 use Rattle.disco_world.specs.Events.{done_after, hist}
 use Rattle.disco_world.specs.declared.event.Event.{Event}
-use Rattle.disco_world.specs.declared.event.Event.TheVariants.{Register, Cancel, Load}
+use Rattle.disco_world.specs.declared.event.Event.TheVariants.{Register, Cancel, Renew, SetStatus, DropStatus, Metadata, Load}
 use Rattle.disco_world.specs.declared.event.Payload.{Payload}
 use Rattle.disco_world.specs.declared.event.Query.{Query}
 use Rattle.disco_world.specs.declared.event.Query.TheVariants.{Apps}
@@ -58,6 +58,10 @@ AreServed limits events replies = (i : ℕ) (p : Arc Payload Global) → slice_g
 abbrev pub is_compact_load : Event → Bool
 is_compact_load (Register now app json) = false
 is_compact_load (Cancel now app id) = false
+is_compact_load (Renew now app id) = false
+is_compact_load (SetStatus now app id status) = false
+is_compact_load (DropStatus now app id status) = false
+is_compact_load (Metadata now app id entries) = false
 is_compact_load (Load key) = is_compact (key.form)
 
 -- the reply to a write, after which there are so many versions

@@ -5,14 +5,15 @@ use Rattle.disco_instance.specs.Fault.{fault_number}
 use Rattle.disco_instance.specs.Row.{Row}
 use Rattle.disco_instance.specs.Text.{in_upper_case}
 use Rattle.disco_instance.specs.declared.fault.Fault.{Fault}
+use Rattle.disco_instance.specs.declared.key.Key.{Key}
 use Rattle.disco_instance.specs.declared.fault.Fault.TheVariants.{MismatchedApp}
 use Rattle.disco_history.specs.Change.{Entry}
 use Rattle.disco_registry.specs.Accept.{Limits, accept_after}
 use Rattle.disco_registry.specs.Commit.{extended}
-use Rattle.disco_registry.specs.Op.{Ask, register, cancel}
+use Rattle.disco_registry.specs.Op.{Ask, register, cancel, renew, set_status, drop_status, add_metadata}
 use Rattle.disco_wire.specs.Registration.{registration_of}
 use Rattle.disco_world.specs.declared.event.Event.{Event}
-use Rattle.disco_world.specs.declared.event.Event.TheVariants.{Register, Cancel, Load}
+use Rattle.disco_world.specs.declared.event.Event.TheVariants.{Register, Cancel, Renew, SetStatus, DropStatus, Metadata, Load}
 use Rattle.disco_world.specs.declared.event.Reply.{Reply}
 use Rattle.disco_world.specs.declared.event.Reply.TheVariants.{Changed, Same, Doc, Refused}
 
@@ -25,10 +26,18 @@ abbrev pub done_by_ask : Limits → List Entry → ℕ → Result Ask Fault → 
 done_by_ask limits h now (Err e) = Err e
 done_by_ask limits h now (Ok ask) = accept_after limits h ask now
 
+-- the key that an event names
+abbrev pub key_named : List ℕ → List ℕ → Key
+key_named app id = record { app = in_upper_case app; id = id }
+
 -- what an event does to the registry after a history: its change or none, or the first cause against it; a load does nothing to it
 abbrev pub done_after : Limits → List Entry → Event → Option (Result (Option Entry) Fault)
 done_after limits h (Register now app json) = Some (done_by_ask limits h now (registers app (registration_of json)))
-done_after limits h (Cancel now app id) = Some (accept_after limits h (cancel (record { app = in_upper_case app; id = id })) now)
+done_after limits h (Cancel now app id) = Some (accept_after limits h (cancel (key_named app id)) now)
+done_after limits h (Renew now app id) = Some (accept_after limits h (renew (key_named app id)) now)
+done_after limits h (SetStatus now app id status) = Some (accept_after limits h (set_status (key_named app id) status) now)
+done_after limits h (DropStatus now app id status) = Some (accept_after limits h (drop_status (key_named app id) status) now)
+done_after limits h (Metadata now app id entries) = Some (accept_after limits h (add_metadata (key_named app id) entries) now)
 done_after limits h (Load key) = None
 
 abbrev pub change_of : Option (Result (Option Entry) Fault) → Option Entry

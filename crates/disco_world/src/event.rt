@@ -1,5 +1,5 @@
 //! Events and their replies.
-use disco_instance::{Bytes, Fault, Form, Text};
+use disco_instance::{Bytes, Entries, Fault, Form, Text};
 use std::alloc::Global;
 use std::sync::Arc;
 
@@ -33,11 +33,49 @@ pub struct Payload {
 #[derive(Debug, Drop)]
 pub enum Event {
     /// A registration under an app's name, with the JSON of its body.
-    Register { now: u64, app: Text, json: Bytes },
+    Register {
+        now: u64,
+        app: Text,
+        json: Bytes,
+    },
     /// A cancel of the instance of that app and id.
-    Cancel { now: u64, app: Text, id: Text },
+    Cancel {
+        now: u64,
+        app: Text,
+        id: Text,
+    },
+    /// A renewal of the lease of that instance.
+    Renew {
+        now: u64,
+        app: Text,
+        id: Text,
+    },
+    /// The status of that instance becomes the one that is named.
+    SetStatus {
+        now: u64,
+        app: Text,
+        id: Text,
+        status: Text,
+    },
+    /// The override of that instance goes, and its status becomes the one that is named, else
+    /// Unknown.
+    DropStatus {
+        now: u64,
+        app: Text,
+        id: Text,
+        status: Option<Text>,
+    },
+    /// These entries are put into the metadata of that instance.
+    Metadata {
+        now: u64,
+        app: Text,
+        id: Text,
+        entries: Entries,
+    },
     /// A reader asks for a document.
-    Load { key: DocKey },
+    Load {
+        key: DocKey,
+    },
 }
 
 /// What an event answers.

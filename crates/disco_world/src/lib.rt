@@ -5,9 +5,10 @@
 #![tactic(auto)]
 
 mod event;
+mod runs;
 mod settings;
 mod world;
 
 pub use event::{DocKey, Event, Payload, Query, Reply};
+pub use runs::run;
 pub use settings::Settings;
-pub use world::run;

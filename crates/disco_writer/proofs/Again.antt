@@ -1,5 +1,5 @@
 -- What is written for a value reads back as it.
-use Rattle.std.proofs.Common.{◌≡◌, ◌≢◌, ℕ, ◌<◌, ◌≤◌, ◌^◌, ◌&&◌, not, ◌==◌, nat_lt, nat_le, length, cond, Bool, true, false, List, [], ◌∷◌, map, codes, Option, Some, None, option_map, option_and_then, unwrap_or, decimal, IsTrue, refl, ap, sym, ◌∙◌, arith}
+use Rattle.std.proofs.Common.{◌≡◌, ◌≢◌, ℕ, ◌<◌, ◌≤◌, ◌^◌, ◌&&◌, not, ◌==◌, nat_le, length, cond, Bool, true, false, List, [], ◌∷◌, map, codes, Some, None, unwrap_or, decimal, refl, ap, ◌∙◌, arith}
 use Rattle.std.specs.List.{list_all}
 use Rattle.std.specs.Char.{is_ascii_digit}
 use Rattle.std.specs.Str.{all_ascii_digits, bytes_eq}
@@ -16,7 +16,7 @@ use Rattle.disco_instance.specs.Action.{action_name, action_named}
 use Rattle.disco_instance.specs.Entries.{is_before, is_by_name}
 use Rattle.disco_instance.specs.Text.{in_upper_case}
 use Rattle.disco_instance.specs.Members.{digits_number, flag_named, not_empty}
-use Rattle.disco_instance.specs.Metadata.{kept_entries, with_entry}
+use Rattle.disco_instance.specs.Metadata.{kept_entries}
 use Rattle.disco_writer.specs.Trees.{in_order}
 use Rattle.serde_json.specs.Data.{string}
 

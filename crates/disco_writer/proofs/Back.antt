@@ -1,27 +1,18 @@
 -- A written tree tells what was written.
-use Rattle.std.proofs.Common.{◌≡◌, ◌≢◌, ℕ, ◌<◌, ◌≤◌, ◌^◌, Bool, true, false, ◌&&◌, nat_le, decimal, cond, List, [], ◌∷◌, ◌++◌, map, codes, Option, Some, None, option_map, option_and_then, unwrap_or, Result, Ok, Err, refl, ap, sym, ◌∙◌, arith}
+use Rattle.std.proofs.Common.{◌≡◌, ℕ, ◌<◌, ◌^◌, Bool, true, false, ◌&&◌, nat_le, decimal, cond, List, codes, Option, Some, None, option_map, option_and_then, unwrap_or, Ok, refl, ap, arith}
 use Rattle.std.specs.Option.{option_or}
-use Rattle.std.specs.Result.{result_ok}
-use Rattle.std.specs.List.{AllByRecursion}
-use Rattle.std.specs.Str.{bytes_eq}
-use Rattle.serde_json.specs.Data.{Data, array}
-use Rattle.serde_json.specs.View.{items_of}
-use Rattle.disco_instance.specs.declared.key.Key.{Key}
 use Rattle.disco_instance.specs.declared.port.Port.{Port}
-use Rattle.disco_instance.specs.declared.fault.Fault.{Fault}
 use Rattle.disco_instance.specs.declared.status.Status.{Status}
 use Rattle.disco_instance.specs.declared.status.Status.TheVariants.{Unknown, Up}
 use Rattle.disco_instance.specs.Status.{status_name, status_named}
 use Rattle.disco_instance.specs.Row.{Row, LeaseNumbers, IsWellFormed}
 use Rattle.disco_instance.specs.Text.{in_upper_case}
-use Rattle.disco_instance.specs.Instance.{key_at, key_by, row_at, told_by, with_row, action_at, lease_at}
+use Rattle.disco_instance.specs.Instance.{key_at, key_by, row_at, action_at, lease_at}
 use Rattle.disco_instance.specs.Members.{not_empty, digits_number, port_at}
-use Rattle.disco_wire.specs.Meaning.{Told, told_in, told_app, told_item, told_apps, all_told, meaning_of, meant, list_of}
-use Rattle.disco_wire.specs.declared.wire.Shape.TheVariants.{Many}
+use Rattle.disco_wire.specs.Meaning.{told_in}
 use Rattle.disco_history.specs.Change.{Entry}
-use Rattle.disco_writer.specs.Trees.{instance_tree, app_tree, many_tree, document_tree, port_tree, lease_tree, by_app, with_first}
-use Rattle.disco_history.specs.Mentions.{mention_of}
-use Rattle.disco_writer.specs.Laws.{InstanceLaw, DocumentLaw}
+use Rattle.disco_writer.specs.Trees.{instance_tree, port_tree, lease_tree}
+use Rattle.disco_writer.specs.Laws.{InstanceLaw}
 use Rattle.disco_writer.proofs.Again.{digits_again, in_range, flag_again, status_again, action_again, text_again, entries_again}
 use Rattle.serde_json.specs.Data.{object, member, no_members}
 

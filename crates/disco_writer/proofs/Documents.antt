@@ -1,15 +1,13 @@
 -- A written document tells the instances in their order.
-use Rattle.std.proofs.Common.{◌≡◌, ℕ, ◌<◌, ◌^◌, Bool, true, false, cond, List, [], ◌∷◌, ◌++◌, map, codes, Option, Some, None, option_map, option_and_then, decimal, refl, ap, sym, ◌∙◌, arith}
-use Rattle.std.specs.List.{AllByRecursion, flat_map}
+use Rattle.std.proofs.Common.{◌≡◌, ℕ, Bool, true, false, cond, List, [], ◌∷◌, ◌++◌, map, Option, Some, refl, ap, sym, ◌∙◌}
+use Rattle.std.specs.List.{AllByRecursion}
 use Rattle.std.specs.Str.{bytes_eq}
-use Rattle.serde_json.specs.Data.{Data, array}
+use Rattle.serde_json.specs.Data.{Data}
 use Rattle.serde_json.specs.View.{items_of}
-use Rattle.disco_instance.specs.Members.{digits_number}
-use Rattle.disco_wire.specs.Meaning.{Told, Meaning, told_in, told_app, told_item, told_apps, all_told, meaning_of, meant, list_of}
-use Rattle.disco_wire.specs.declared.wire.Shape.TheVariants.{Many}
+use Rattle.disco_wire.specs.Meaning.{told_in, told_item, all_told, meaning_of, list_of}
 use Rattle.disco_history.specs.Change.{Entry}
 use Rattle.disco_instance.specs.Row.{IsWellFormed}
-use Rattle.disco_writer.specs.Trees.{instance_tree, app_tree, many_tree, document_tree, by_app, with_first}
+use Rattle.disco_writer.specs.Trees.{instance_tree, app_tree, document_tree, by_app, with_first}
 use Rattle.disco_history.specs.Mentions.{mention_of}
 use Rattle.disco_writer.specs.Laws.{DocumentLaw}
 use Rattle.disco_writer.proofs.Again.{digits_again}

@@ -1,7 +1,6 @@
 mod Again
 pub mod Back
 pub mod Documents
-mod Counts
 mod Instances
 pub mod Metadata
 mod Runs

@@ -1,10 +1,10 @@
 -- The tree that is written for an instance, for an application and for a document (the JSON of Eureka's REST operations).
 use Rattle.std.specs.Prelude.{ℕ, List, [], ◌∷◌, map, codes, Bool, if◌then◌else◌, decimal}
 use Rattle.std.specs.Str.{bytes_eq}
-use Rattle.serde_json.specs.Data.{Data, number, string, array, object, Members, no_members, member, put, unsigned}
+use Rattle.serde_json.specs.Data.{Data, number, string, array, object, Members, no_members, member, unsigned}
 use Rattle.serde_json.specs.View.{items_of}
 use Rattle.disco_instance.specs.Action.{action_name}
-use Rattle.disco_instance.specs.Row.{Row, LeaseNumbers}
+use Rattle.disco_instance.specs.Row.{LeaseNumbers}
 use Rattle.disco_instance.specs.Status.{status_name}
 use Rattle.disco_instance.specs.declared.data_center.DataCenter.{DataCenter}
 use Rattle.disco_instance.specs.declared.port.Port.{Port}

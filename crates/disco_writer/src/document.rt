@@ -9,6 +9,7 @@ ghost use Rattle.disco_instance.specs.declared.form.Form.TheVariants.{Full};
 ghost use Rattle.disco_history.specs.Change.{Entry};
 ghost use Rattle.disco_history.specs.Hash.{hash};
 ghost use Rattle.disco_history.specs.Mentions.{mention_of};
+ghost use Rattle.disco_index.specs.Tally.{tally_in};
 ghost use Rattle.disco_registry.specs.State.{StandsFor};
 ghost use Rattle.disco_wire.specs.Documents.{document_of};
 ghost use Rattle.disco_wire.specs.Meaning.{meant};
@@ -17,21 +18,24 @@ ghost use Rattle.disco_writer.specs.Documents.{apps_meant};
 ghost use Rattle.disco_writer.specs.Rows.{entries_of, is_of, AreWellFormed};
 ghost use Rattle.disco_writer.specs.Trees.{instance_tree, app_tree, by_app, many_tree, document_tree, app_of};
 
-use crate::hash::hash_of;
 use crate::instance::{digits_value, instance_value};
+use disco_index::Counts;
+use disco_index::laws::hash_law;
 use disco_instance::{Fault, Text, well_formed};
 use disco_registry::{Held, Registry};
 use serde_json::{Value, json};
 use std::alloc::{AllocError, Global};
 
 /// The document of all apps in the full form: the body of Eureka's `GET /apps`, as compact JSON.
-/// Refused only as `OutOfMemory`.
-pub fn write_apps(alloc: Global, registry: &Registry) -> Result<Vec<u8>, Fault>
+/// The counts have to be those of the registry. Refused only as `OutOfMemory`.
+pub fn write_apps(alloc: Global, registry: &Registry, counts: &Counts) -> Result<Vec<u8>, Fault>
+    requires { counts.now ≡ tally_in registry.now.held }
     ensures text { IfOk result (λ v. let es = values registry.now.held in v.items ≡ compact_text (document_tree es (hash (map (λ e. e.0) es)) registry.now.version)) }
     ensures means { IfOk result (λ v. (h : List Entry) → StandsFor registry.now h → document_of v.items ≡ Ok (apps_meant Full h)) }
     ensures memory { IfErr result (λ e. e ≡ OutOfMemory) }
 {
-    let hash = hash_of(alloc, registry.records())?;
+    hash_law();
+    let hash = counts.text(alloc)?;
     Ok(write_document(alloc, registry.records(), &hash, registry.version())?)
 }
 

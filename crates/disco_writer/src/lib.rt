@@ -4,7 +4,6 @@
 #![tactic(auto)]
 
 mod document;
-mod hash;
 mod instance;
 pub mod laws;
 

@@ -1,8 +1,7 @@
-use Rattle.disco_history.specs.Change.{seen}
-use Rattle.disco_registry.proofs.Histories.{stands_after, stands_same}
+use Rattle.disco_registry.proofs.Histories.{stands_same}
 use Rattle.disco_registry.proofs.registry.Registry.apply.Goals as goal
 
 pub returns-clause-history : goal.returns-clause-history
 returns-clause-history c = λ h stands.
     let before = stands_same h c.args.self.now c.ready.new.self c.ready.ensures.same stands in
-    rw c.commit.ensures.change (stands_after h c.ready.new.self c.commit.new.self (seen c.in_ok-ready.ready.change) c.commit.ensures.takes before)
+    rw c.commit.ensures.change (c.commit.ensures.history h before)

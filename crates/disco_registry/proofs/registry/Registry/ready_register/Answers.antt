@@ -1,4 +1,4 @@
-use Rattle.std.proofs.Common.{◌≡◌, ◌<◌, ◌&&◌, not, nat_lt, refl, sym, ap, ◌∙◌, Some, Ok, arith}
+use Rattle.std.proofs.Common.{◌≡◌, ◌<◌, ◌&&◌, not, nat_lt, refl, sym, ap, ◌∙◌, Some, Option, Ok, arith}
 use Rattle.std.specs.FinMap as map
 use Rattle.disco_history.specs.Change.{Entry}
 use Rattle.disco_instance.specs.Row.{Row, row}
@@ -14,7 +14,7 @@ pub returns-clause-ready : goal.returns-clause-ready
 returns-clause-ready c =
     let s = c.args.self.now in
     let p = row c.args.posted in
-    let held : seen_record c.get-held.result ≡ record_at s.held p.key = c.get-held.ensures ∙ ap (λ (t : State). record_at t.held p.key) c.self.view_is in
+    let held : seen_record c.get-held.result ≡ record_at s.held p.key = c.get-held.ensures.found ∙ ap (λ (t : State). record_at t.held p.key) c.self.view_is in
     let place = ap (λ o. is_new o && not (nat_lt (map.len s.held) s.instances)) (sym held) ∙ sym c.has_no_place.ensures ∙ c.if-has_no_place.false in
     let version = ap (λ (t : State). t.version) c.self.view_is in
     let versions = ap (λ (t : State). t.versions) c.self.view_is in
@@ -27,6 +27,6 @@ returns-clause-ready c =
       instances = c.self.inside.instances;
       room = c.reserve.new.self.room;
     } in (
-      accepted_new s p c.args.now place left ∙ ap (λ (r : Row). Ok (Some (r, Added))) (sym new) ∙ ap (λ (e : Entry). Ok (Some e)) (sym c.in_ok-ready.ensures.change),
-      record { left = omega arith; room = c.in_ok-ready.ensures.room after refl (λ _. c.in_ok-reserve.ensures.ok) },
+      accepted_new s p c.args.now place left ∙ ap (λ (r : Row). Ok (Some (r, Added))) (sym new) ∙ ap (λ (o : Option Entry). Ok o) (sym c.in_ok-ready.ensures.change),
+      c.in_ok-ready.ensures.room after (omega arith) refl (λ _. c.in_ok-reserve.ensures.ok),
     )

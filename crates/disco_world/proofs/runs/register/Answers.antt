@@ -5,7 +5,7 @@ use Rattle.disco_instance.specs.Text.{in_upper_case}
 use Rattle.disco_registry.specs.Op.{register}
 use Rattle.disco_wire.specs.Registration.{registration_of}
 use Rattle.disco_world.proofs.Writes.{follows, registered, same_app}
-use Rattle.disco_world.proofs.world.register.Goals as goal
+use Rattle.disco_world.proofs.runs.register.Goals as goal
 
 not_not : (b : Bool) → not b ≡ false → b ≡ true
 not_not true e = refl
@@ -13,12 +13,12 @@ not_not false e = sym e
 
 pub returns-clause-follows : goal.returns-clause-follows
 returns-clause-follows c =
-    let old = c.args.registry.now in
-    let new = c.apply.new.self in
+    let old = c.args.world.now in
+    let new = c.write.new.self in
     let p = c.in_ok-posted.posted in
     let upper = c.in_ok-upper.ensures.text ∙ ap in_upper_case c.as_str.ensures in
     let same = ap (λ (t : List ℕ). bytes_eq t p.key.app) (sym upper) ∙ not_not _ (sym c.ne-2.ensures ∙ c.if-ne.false) in
     let read = sym (ap registration_of c.as_slice.ensures) ∙ c.in_ok-posted.ensures in
-    registered old new c.args.app.now (registration_of c.args.json.now) (row p) c.args.now c.apply.result
+    registered old new c.args.app.now (registration_of c.args.json.now) (row p) c.args.now c.write.result
     (same_app c.args.app.now (registration_of c.args.json.now) (row p) read same)
-    (follows old new (register (row p)) c.args.now c.apply.result c.apply.ensures.done c.apply.ensures.refused c.apply.ensures.history)
+    (follows old new (register (row p)) c.args.now c.write.result c.write.ensures.done c.write.ensures.refused c.write.ensures.history)

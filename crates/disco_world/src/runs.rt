@@ -1,0 +1,242 @@
+//! Runs of events.
+ghost use Rattle.std.specs.Prelude.{◌≡◌, ◌≢◌, ℕ, ◌+◌, List, length, false, IfOk, IfErr, OnOk, Some, None, position};
+ghost use Rattle.disco_instance.specs.declared.fault.Fault.TheVariants.{OutOfMemory, BadEvent};
+ghost use Rattle.disco_history.specs.Change.{Entry};
+ghost use Rattle.disco_registry.specs.Accept.{accept_after, limits_of};
+ghost use Rattle.disco_registry.specs.Op as asking;
+ghost use Rattle.disco_registry.specs.State.{StandsFor};
+ghost use Rattle.disco_wire.specs.Registration.{registration_of};
+ghost use Rattle.disco_world.specs.Answers.{AreAnswers, AreServed, Follows, IsAnswer, is_compact_load, limits, reply_to};
+ghost use Rattle.disco_world.specs.Events.{after, done_by_ask, key_named, registers};
+
+use crate::event::{DocKey, Event, Reply};
+use crate::settings::Settings;
+use crate::world::World;
+use disco_instance::{Bytes, Entries, Fault, Form, Key, Text, upper};
+use disco_registry::{Applied, Op};
+use disco_wire::read_registration;
+use std::alloc::Global;
+
+/// Runs the events in order from an empty registry, and answers each. Refused as `BadEvent`, with
+/// the number of the first such event counted from 1, where a document is asked for in another form
+/// than the full one; and as `OutOfMemory` where no room for the replies is found. An event that
+/// finds no memory is answered so and changes nothing.
+pub fn run(alloc: Global, settings: &Settings, events: &[Event]) -> Result<Vec<Reply>, Fault>
+    ensures each { IfOk result (λ replies. length replies.items ≡ length events.now) }
+    ensures answers { IfOk result (λ replies. AreAnswers (limits settings.now) events.now replies.items) }
+    ensures served { IfOk result (λ replies. AreServed (limits settings.now) events.now replies.items) }
+    ensures full { OnOk result (position is_compact_load events.now ≡ None) }
+    ensures refused { IfErr result (λ e. e ≢ OutOfMemory → (i : ℕ) × (position is_compact_load events.now ≡ Some i) × (e ≡ BadEvent (i + 1))) }
+{
+    if let Some(i) = first_compact(events) {
+        return Err(Fault::BadEvent(i as u64 + 1));
+    }
+    run_full(alloc, settings, events)
+}
+
+/// The index of the first event that asks for a document in the compact form.
+fn first_compact(events: &[Event]) -> Option<usize>
+    ensures { result ≡ position is_compact_load events.now }
+{
+    events.iter().position(|event| is_compact_load(event))
+}
+
+/// Whether the event asks for a document in the compact form.
+fn is_compact_load(event: &Event) -> bool
+    ensures { result ≡ is_compact_load event.now }
+{
+    matches!(
+        event,
+        Event::Load {
+            key: DocKey {
+                query: _,
+                form: Form::Compact
+            }
+        }
+    )
+}
+
+fn run_full(alloc: Global, settings: &Settings, events: &[Event]) -> Result<Vec<Reply>, Fault>
+    requires { position is_compact_load events.now ≡ None }
+    ensures each { IfOk result (λ replies. length replies.items ≡ length events.now) }
+    ensures answers { IfOk result (λ replies. AreAnswers (limits settings.now) events.now replies.items) }
+    ensures served { IfOk result (λ replies. AreServed (limits settings.now) events.now replies.items) }
+    ensures memory { IfErr result (λ e. e ≡ OutOfMemory) }
+{
+    let mut world = World::new(alloc, settings);
+    let mut replies = Vec::new(alloc);
+    for event in events {
+        let reply = answer(alloc, &mut world, event);
+        replies.push(reply)?;
+    }
+    Ok(replies)
+}
+
+/// Answers one event.
+fn answer(alloc: Global, world: &mut World, event: &Event) -> Reply
+    requires { is_compact_load event.now ≡ false }
+    ensures answer { (h : List Entry) → StandsFor world.old h → IsAnswer (limits_of world.old) h event.now result }
+    ensures history { (h : List Entry) → StandsFor world.old h → StandsFor world.new (after (limits_of world.old) h event.now result) }
+    ensures limits { limits_of world.new ≡ limits_of world.old }
+{
+    match event {
+        Event::Register { now, app, json } => {
+            let applied = register(alloc, world, *now, app, json);
+            written(applied, world.version())
+        }
+        Event::Cancel { now, app, id } => {
+            let applied = cancel(alloc, world, *now, app, id);
+            written(applied, world.version())
+        }
+        Event::Renew { now, app, id } => {
+            let applied = renew(alloc, world, *now, app, id);
+            written(applied, world.version())
+        }
+        Event::SetStatus {
+            now,
+            app,
+            id,
+            status,
+        } => {
+            let applied = set_status(alloc, world, *now, app, id, status);
+            written(applied, world.version())
+        }
+        Event::DropStatus {
+            now,
+            app,
+            id,
+            status,
+        } => {
+            let applied = drop_status(alloc, world, *now, app, id, status);
+            written(applied, world.version())
+        }
+        Event::Metadata {
+            now,
+            app,
+            id,
+            entries,
+        } => {
+            let applied = add_metadata(alloc, world, *now, app, id, entries);
+            written(applied, world.version())
+        }
+        Event::Load { key } => match world.load(*key) {
+            Ok(payload) => Reply::Doc(payload),
+            Err(fault) => Reply::Refused(fault),
+        },
+    }
+}
+
+/// The reply to a write, after which the registry has this version.
+fn written(applied: Result<Applied, Fault>, version: u64) -> Reply
+    ensures { result ≡ reply_to applied version }
+{
+    match applied {
+        Ok(Applied::Changed(_)) => Reply::Changed(version),
+        Ok(Applied::Same) => Reply::Same,
+        Err(fault) => Reply::Refused(fault),
+    }
+}
+
+fn register(
+    alloc: Global,
+    world: &mut World,
+    now: u64,
+    app: &Text,
+    json: &Bytes,
+) -> Result<Applied, Fault>
+    ensures follows { Follows world.old world.new result (λ h. done_by_ask (limits_of world.old) h now (registers app.now (registration_of json.now))) }
+    ensures limits { limits_of world.new ≡ limits_of world.old }
+{
+    let posted = read_registration(alloc, json.as_slice())?;
+    if upper(alloc, app.as_str())? != posted.key.app {
+        return Err(Fault::MismatchedApp);
+    }
+    world.write(Op::Register(posted), now)
+}
+
+/// The key of that app and id.
+fn key_named(alloc: Global, app: &Text, id: &Text) -> Result<Key, Fault>
+    ensures key { IfOk result (λ k. k ≡ key_named app.now id.now) }
+    ensures memory { IfErr result (λ e. e ≡ OutOfMemory) }
+{
+    Ok(Key {
+        app: upper(alloc, app.as_str())?,
+        id: id.clone()?,
+    })
+}
+
+fn cancel(
+    alloc: Global,
+    world: &mut World,
+    now: u64,
+    app: &Text,
+    id: &Text,
+) -> Result<Applied, Fault>
+    ensures follows { Follows world.old world.new result (λ h. accept_after (limits_of world.old) h (asking.cancel (key_named app.now id.now)) now) }
+    ensures limits { limits_of world.new ≡ limits_of world.old }
+{
+    let key = key_named(alloc, app, id)?;
+    world.write(Op::Cancel(key), now)
+}
+
+fn renew(
+    alloc: Global,
+    world: &mut World,
+    now: u64,
+    app: &Text,
+    id: &Text,
+) -> Result<Applied, Fault>
+    ensures follows { Follows world.old world.new result (λ h. accept_after (limits_of world.old) h (asking.renew (key_named app.now id.now)) now) }
+    ensures limits { limits_of world.new ≡ limits_of world.old }
+{
+    let key = key_named(alloc, app, id)?;
+    world.write(Op::Renew(key), now)
+}
+
+fn set_status(
+    alloc: Global,
+    world: &mut World,
+    now: u64,
+    app: &Text,
+    id: &Text,
+    status: &Text,
+) -> Result<Applied, Fault>
+    ensures follows { Follows world.old world.new result (λ h. accept_after (limits_of world.old) h (asking.set_status (key_named app.now id.now) status.now) now) }
+    ensures limits { limits_of world.new ≡ limits_of world.old }
+{
+    let key = key_named(alloc, app, id)?;
+    let status = status.clone()?;
+    world.write(Op::SetStatus(key, status), now)
+}
+
+fn drop_status(
+    alloc: Global,
+    world: &mut World,
+    now: u64,
+    app: &Text,
+    id: &Text,
+    status: &Option<Text>,
+) -> Result<Applied, Fault>
+    ensures follows { Follows world.old world.new result (λ h. accept_after (limits_of world.old) h (asking.drop_status (key_named app.now id.now) status.now) now) }
+    ensures limits { limits_of world.new ≡ limits_of world.old }
+{
+    let key = key_named(alloc, app, id)?;
+    let status = status.clone()?;
+    world.write(Op::DropStatus(key, status), now)
+}
+
+fn add_metadata(
+    alloc: Global,
+    world: &mut World,
+    now: u64,
+    app: &Text,
+    id: &Text,
+    entries: &Entries,
+) -> Result<Applied, Fault>
+    ensures follows { Follows world.old world.new result (λ h. accept_after (limits_of world.old) h (asking.add_metadata (key_named app.now id.now) entries.now) now) }
+    ensures limits { limits_of world.new ≡ limits_of world.old }
+{
+    let key = key_named(alloc, app, id)?;
+    let entries = entries.copy()?;
+    world.write(Op::Metadata(key, entries), now)
+}
