@@ -1,5 +1,5 @@
 //! One registry with what is kept beside it.
-ghost use Rattle.std.specs.Prelude.{◌≡◌, ◌<◌, ◌≤◌, ◌-◌, ◌^◌, List, [], IfOk, IfErr, OnOk, OnErr, Some, Ok};
+ghost use Rattle.std.specs.Prelude.{◌≡◌, ◌<◌, ◌≤◌, ◌-◌, ◌^◌, List, [], IfOk, IfErr, OnOk, OnErr, Some, Ok, is_some};
 ghost use Rattle.std.specs.FinMap.{FinMap, get, insert, len, remove};
 ghost use Rattle.disco_instance.specs.Key.{key_cmp};
 ghost use Rattle.disco_instance.specs.Row.{row};
@@ -145,7 +145,8 @@ fn keep(leases: &mut LeaseBook, key: &Key, step: Step, now: u64)
     };
 }
 
-/// Does to the counts and the leases what the ready operation does to the registry.
+/// Does to the counts and the leases what the ready operation does to the registry, and says whether
+/// there is a change.
 fn prepare(
     counts: &mut Counts,
     leases: &mut LeaseBook,
@@ -156,6 +157,7 @@ fn prepare(
     requires tally { counts.old ≡ tally_in registry.now.held }
     requires few { len registry.now.held ≤ registry.now.version }
     requires ready { IsReady registry.now ready.now }
+    ensures changes { IfOk result (λ b. b ≡ is_some (change_in ready.now)) }
     ensures counts { OnOk result (counts.new ≡ tally_in (held_after registry.now.held (change_in ready.now))) }
     ensures leases { OnOk result (AreLeased registry.now.held leases.old → AreLeased (held_after registry.now.held (change_in ready.now)) leases.new) }
     ensures same_counts { OnErr result (counts.new ≡ counts.old) }
