@@ -1,6 +1,6 @@
 -- Which records a query asks for (Eureka's REST operations).
 use Rattle.std.specs.Prelude.{ℕ, Bool, true, false, not, ◌==◌, ◌&&◌, List, [], ◌∷◌, length, filter, if◌then◌else◌, Some, None, option_and_then}
-use Rattle.std.specs.List.{list_any}
+use Rattle.std.specs.List.{list_any, onto_first}
 use Rattle.std.specs.Str.{bytes_eq}
 use Rattle.std.specs.FinMap.{FinMap, get, keys, len}
 use Rattle.disco_instance.specs.Key.{key_cmp, same_key}
@@ -15,10 +15,6 @@ pub data Asked : Type 0 where
   of_vip : List ℕ → Asked
   of_secure_vip : List ℕ → Asked
   of_key : Key → Asked
-
-abbrev pub onto_first : ℕ → List (List ℕ) → List (List ℕ)
-onto_first c [] = (c ∷ []) ∷ []
-onto_first c (p ∷ ps) = (c ∷ p) ∷ ps
 
 -- the pieces between commas, empty ones too
 abbrev pub between_commas : List ℕ → List (List ℕ)
