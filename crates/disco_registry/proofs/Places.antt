@@ -1,7 +1,6 @@
 -- What an edit at a place does to the map of sorted records.
 use Rattle.std.proofs.Common.{◌≡◌, ℕ, zero, suc, Bool, true, false, not, ◌&&◌, cond, T, List, [], ◌∷◌, length, get_or, set, Option, Some, None, refl, sym, ap, subst, ◌∙◌, arith}
-use Rattle.std.specs.declared.cmp.Ordering.{Ordering}
-use Rattle.std.specs.declared.cmp.Ordering.TheVariants.{Less, Equal, Greater}
+use Rattle.std.specs.declared.cmp.Ordering.TheVariants.{Less, Equal}
 use Rattle.std.specs.Ordering.{eq_by_cmp, is_eq, is_lt}
 use Rattle.std.specs.Cmp.{alike_right, eq_by_cmp_equiv}
 use Rattle.std.specs.List.{insert, remove}
@@ -17,6 +16,7 @@ use Rattle.disco_registry.specs.Held.{entry_of}
 use Rattle.disco_history.proofs.Keys.{keys_total, exact_keys, same_is}
 use Rattle.std.proofs.lemmas.List.{length-map}
 use Rattle.disco_registry.specs.List.{by_key, AreSorted, map_of, ComesAfter, IsAt, IsGap}
+use Rattle.disco_registry.proofs.Searches.{both_first, both_second, is_less}
 
 abbrev mapped : {A B : Type 0} → (A → B) → List A → List B
 mapped f xs = list.map f xs
@@ -65,22 +65,9 @@ find_at (x ∷ xs) k (suc i) d at =
 
 -- ---- a record is missing, or goes out
 
-both_first : (a b : Bool) → T (a && b) → T a
-both_first true b h = tt
-both_first false b h = h
-
-both_second : (a b : Bool) → T (a && b) → T b
-both_second true b h = h
-both_second false b h = absurd h
-
 both : (a b : Bool) → T a → T b → T (a && b)
 both true b p q = q
 both false b p q = p
-
-is_less : (o : Ordering) → T (is_lt o) → o ≡ Less
-is_less Less h = refl
-is_less Equal h = absurd h
-is_less Greater h = absurd h
 
 -- what comes before a key comes before all above it
 below_less : (k x : Key) (es : List (Key × Entry)) → key_cmp k x ≡ Less → T (below_all key_cmp x es) → T (below_all key_cmp k es)

@@ -12,15 +12,15 @@ use Rattle.disco_history.proofs.Keys.{keys_total}
 use Rattle.disco_registry.specs.declared.held.Held.{Held}
 use Rattle.disco_registry.specs.List.{AreSorted, by_key, IsAt, IsGap}
 
-both_first : (a b : Bool) → T (a && b) → T a
+pub both_first : (a b : Bool) → T (a && b) → T a
 both_first true b h = tt
 both_first false b h = h
 
-both_second : (a b : Bool) → T (a && b) → T b
+pub both_second : (a b : Bool) → T (a && b) → T b
 both_second true b h = h
 both_second false b h = absurd h
 
-is_less : (o : Ordering) → T (is_lt o) → o ≡ Less
+pub is_less : (o : Ordering) → T (is_lt o) → o ≡ Less
 is_less Less h = refl
 is_less Equal h = absurd h
 is_less Greater h = absurd h
