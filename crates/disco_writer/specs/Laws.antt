@@ -1,11 +1,11 @@
 -- Laws of what is written.
 use Rattle.std.specs.Prelude.{◌≡◌, ℕ, ◌<◌, ◌^◌, List, [], ◌∷◌, map, Option, Some}
-use Rattle.std.specs.List.{AllByRecursion}
 use Rattle.disco_instance.specs.Row.{IsWellFormed}
 use Rattle.disco_history.specs.Change.{Entry}
 use Rattle.disco_history.specs.Mentions.{mention_of}
 use Rattle.disco_wire.specs.Meaning.{told_in, meaning_of, meant}
 use Rattle.disco_wire.specs.declared.wire.Shape.TheVariants.{Many}
+use Rattle.disco_writer.specs.Rows.{AreWellFormed}
 use Rattle.disco_writer.specs.Trees.{instance_tree, document_tree}
 
 -- an instance's tree tells its row and its action, whatever stands round it
@@ -14,5 +14,5 @@ InstanceLaw = (e : Entry) (app : Option (List ℕ)) → IsWellFormed e.0 → tol
 
 -- a document's tree tells the instances in their order, the hash code and the version
 abbrev pub DocumentLaw : Type 0
-DocumentLaw = (es : List Entry) (hash : List ℕ) (version : ℕ) → AllByRecursion (λ e. IsWellFormed e.0) es → version < 2 ^ 64
+DocumentLaw = (es : List Entry) (hash : List ℕ) (version : ℕ) → AreWellFormed es → version < 2 ^ 64
     → meaning_of (document_tree es hash version) ≡ Some (meant Many (Some hash) (Some version) (map mention_of es))
