@@ -72,11 +72,21 @@ fn registration(alloc: Global, now: u64, id: &str, status: &str) -> Result<Strin
     )
 }
 
-#[test]
-fn settles_statuses_and_overrides(rt: HostRuntime) -> Result<(), Fail> {
-    let alloc = rt.alloc();
-    let (mut input, mut want) = (String::new(alloc), String::new(alloc));
-    let out = Shown {
+/// Registrations that are settled with what is held, and an override between them.
+fn settled_events(alloc: Global) -> Result<String, AllocError> {
+    let mut input = registration(alloc, 1, "1", "OUT_OF_SERVICE")?;
+    input.push_str(registration(alloc, 2, "1", "UP")?.as_str())?;
+    input.push_str("load full apps\nstatus 3 A 1 UP\nload full apps\nstatus 4 A 1 UP\n")?;
+    input.push_str(registration(alloc, 5, "1", "OUT_OF_SERVICE")?.as_str())?;
+    input.push_str("load full apps\n")?;
+    input.push_str(registration(alloc, 6, "1", "DOWN")?.as_str())?;
+    input.push_str("load full apps\n")?;
+    Ok(input)
+}
+
+/// The held status stays where UP is registered over it.
+fn still_out_of_service() -> Shown<'static> {
+    Shown {
         action: "ADDED",
         status: "OUT_OF_SERVICE",
         overridden: "UNKNOWN",
@@ -86,7 +96,12 @@ fn settles_statuses_and_overrides(rt: HostRuntime) -> Result<(), Fail> {
         metadata: "{}",
         hash: "OUT_OF_SERVICE_1_",
         version: 2,
-    };
+    }
+}
+
+/// What the documents show, each behind the answer lines that come before it.
+fn settled_loads() -> [(&'static str, Shown<'static>); 4] {
+    let out = still_out_of_service();
     let up = Shown {
         action: "MODIFIED",
         status: "UP",
@@ -97,18 +112,6 @@ fn settles_statuses_and_overrides(rt: HostRuntime) -> Result<(), Fail> {
         version: 3,
         ..out
     };
-    input.push_str(registration(alloc, 1, "1", "OUT_OF_SERVICE")?.as_str())?;
-    input.push_str(registration(alloc, 2, "1", "UP")?.as_str())?;
-    input.push_str("load full apps\nstatus 3 A 1 UP\nload full apps\nstatus 4 A 1 UP\n")?;
-    input.push_str(registration(alloc, 5, "1", "OUT_OF_SERVICE")?.as_str())?;
-    input.push_str("load full apps\n")?;
-    input.push_str(registration(alloc, 6, "1", "DOWN")?.as_str())?;
-    input.push_str("load full apps\n")?;
-    want.push_str("ok 1\nok 2\n")?;
-    want.push_str(document(alloc, &out)?.as_str())?;
-    want.push_str("ok 3\n")?;
-    want.push_str(document(alloc, &up)?.as_str())?;
-    want.push_str("same\nok 4\n")?;
     let again = Shown {
         action: "ADDED",
         updated: 5,
@@ -116,8 +119,6 @@ fn settles_statuses_and_overrides(rt: HostRuntime) -> Result<(), Fail> {
         version: 4,
         ..up
     };
-    want.push_str(document(alloc, &again)?.as_str())?;
-    want.push_str("ok 5\n")?;
     let down = Shown {
         status: "DOWN",
         updated: 6,
@@ -126,7 +127,29 @@ fn settles_statuses_and_overrides(rt: HostRuntime) -> Result<(), Fail> {
         version: 5,
         ..again
     };
-    want.push_str(document(alloc, &down)?.as_str())?;
+    [
+        ("ok 1\nok 2\n", out),
+        ("ok 3\n", up),
+        ("same\nok 4\n", again),
+        ("ok 5\n", down),
+    ]
+}
+
+/// The answer lines with those documents.
+fn answers_with(alloc: Global, loads: &[(&str, Shown<'_>)]) -> Result<String, AllocError> {
+    let mut want = String::new(alloc);
+    for (answers, shown) in loads {
+        want.push_str(answers)?;
+        want.push_str(document(alloc, shown)?.as_str())?;
+    }
+    Ok(want)
+}
+
+#[test]
+fn settles_statuses_and_overrides(rt: HostRuntime) -> Result<(), Fail> {
+    let alloc = rt.alloc();
+    let input = settled_events(alloc)?;
+    let want = answers_with(alloc, &settled_loads())?;
     let outcome = run(alloc, &["replay"], input.as_bytes())?;
     check(&rt, &outcome, 0, want.as_bytes(), b"");
     Ok(())
