@@ -3,10 +3,6 @@
 # behind them. For each it prints the seconds and the peak memory in KiB, and how they grew from the
 # size before. Other sizes may be given as words.
 set -eu
-root=$(CDPATH='' cd -- "$(dirname -- "$0")/.." && pwd)
-work=$(mktemp -d)
-trap 'rm -rf "$work"' EXIT
-trap 'exit 1' HUP INT TERM
+. "$(dirname -- "$0")/on_program.sh"
 [ $# -gt 0 ] || set -- 5000 10000 20000
-"$root/discovery" replay </dev/null
-python3 "$root/bench/registrations.py" "$root/discovery" "$work" "$@"
+on_program registrations.py "$@"

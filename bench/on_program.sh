@@ -1,0 +1,14 @@
+# What the benches share. Each reads this file in with `.`, and calls `on_program` once.
+
+# Builds the program, and runs the Python script of that name in bench/ on it, in a folder that goes at
+# the end, with the words that follow.
+on_program() {
+    script=$1
+    shift
+    root=$(CDPATH='' cd -- "$(dirname -- "$0")/.." && pwd)
+    work=$(mktemp -d)
+    trap 'rm -rf "$work"' EXIT
+    trap 'exit 1' HUP INT TERM
+    "$root/discovery" replay </dev/null
+    python3 "$root/bench/$script" "$root/discovery" "$work" "$@"
+}
