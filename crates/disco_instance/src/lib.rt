@@ -30,7 +30,7 @@ pub use form::Form;
 pub use key::Key;
 pub use known::well_formed;
 pub use lease::Lease;
-pub use members::{non_empty_member, text_member, whole};
+pub use members::{non_empty_member, number_of_digits, text_member, whole};
 pub use port::Port;
 pub use reading::action_from_value;
 pub use record::Record;

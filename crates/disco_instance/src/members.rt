@@ -17,7 +17,9 @@ fn is_digits(text: &str) -> bool
     text.as_bytes().iter().all(|b| b.is_ascii_digit())
 }
 
-fn number_of_digits(text: &str) -> Option<u64>
+/// The number that a text spells: one or more ASCII digits of a number up to 2^64 - 1, with no sign.
+/// Zeros may lead.
+pub fn number_of_digits(text: &str) -> Option<u64>
     ensures { result ≡ digits_number text.now }
 {
     if is_digits(text) {

@@ -4,10 +4,9 @@ ghost use Rattle.disco_instance.specs.declared.fault.Fault.TheVariants.{OutOfMem
 ghost use Rattle.disco_prog.specs.Lines.{behind_target, cancellation, event_of, last_word, load, metadata_change, override_removal, registration, renewal, status_change, target};
 ghost use Rattle.disco_prog.specs.Words.{moment_of_word};
 
-use crate::moment::moment;
 use crate::query::entries_of_query;
 use crate::words::{split_word, text_of_word};
-use disco_instance::{Bytes, Fault, Form, Text};
+use disco_instance::{Bytes, Fault, Form, Text, number_of_digits};
 use disco_world::{DocKey, Event, Query};
 use std::alloc::Global;
 
@@ -51,7 +50,7 @@ fn moment_of_word(alloc: Global, word: &[u8]) -> Result<Option<u64>, Fault>
     ensures memory { IfErr result (λ e. e ≡ OutOfMemory) }
 {
     match text_of_word(alloc, word)? {
-        Some(text) => Ok(moment(text.as_str())),
+        Some(text) => Ok(number_of_digits(text.as_str())),
         None => Ok(None),
     }
 }

@@ -5,7 +5,6 @@ mod answers;
 mod faults;
 mod line;
 mod lines;
-mod moment;
 mod options;
 mod query;
 mod replay;
