@@ -1,5 +1,6 @@
 -- Answer lines (this project's own format).
 use Rattle.std.specs.Prelude.{ℕ, List, ◌++◌, codes, decimal}
+use Rattle.std.specs.List.{flat_map}
 use Rattle.std.specs.Arc.{arc_value}
 use Rattle.disco_instance.specs.Fault.{fault_number, field_name}
 use Rattle.disco_instance.specs.declared.fault.Fault.{Fault}
@@ -22,3 +23,7 @@ answer_line (Changed version) = codes "ok " ++ decimal version ++ codes "\n"
 answer_line Same = codes "same\n"
 answer_line (Doc payload) = document_line (arc_value payload)
 answer_line (Refused fault) = refusal_line fault
+
+-- the answer lines of replies, one behind another
+abbrev pub answer_lines : List Reply → List ℕ
+answer_lines replies = flat_map answer_line replies

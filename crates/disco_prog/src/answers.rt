@@ -1,14 +1,14 @@
 //! Answer lines.
-ghost use Rattle.std.specs.Prelude.{◌≡◌, ◌⊎◌, IfErr, OnOk};
+ghost use Rattle.std.specs.Prelude.{◌≡◌, ◌⊎◌, [], IfErr, OnOk};
 ghost use Rattle.disco_instance.specs.declared.fault.Fault.TheVariants.{OutOfMemory, WriteFailed};
-ghost use Rattle.std.specs.Io.KnownBytes.{Appends};
-ghost use Rattle.disco_prog.specs.Answers.{answer_line, document_line, refusal_line};
+ghost use Rattle.std.specs.Io.KnownBytes.{Appends, append_known};
+ghost use Rattle.disco_prog.specs.Answers.{answer_line, answer_lines, document_line, refusal_line};
 
 use disco_instance::Fault;
 use disco_world::{Payload, Reply};
 use std::alloc::Global;
 use std::io;
-use std::io::{BufWriter, ErrorKind, Write};
+use std::io::{ErrorKind, Write};
 
 fn write_document<W: Write>(payload: &Payload, out: &mut W) -> io::Result<()>
     ensures { OnOk result (Appends (W.contents out.old) (W.contents out.new) (document_line payload.now)) }
@@ -43,22 +43,51 @@ fn write_answer<W: Write>(reply: &Reply, out: &mut W) -> io::Result<()>
     }
 }
 
-fn write_buffered<W: Write>(alloc: Global, replies: &[Reply], out: &mut W) -> io::Result<()> {
-    let mut out = BufWriter::new(alloc, out)?;
-    for reply in replies {
-        write_answer(reply, &mut out)?;
+/// How many bytes are gathered for one write, at least.
+const ENOUGH: usize = 8_192;
+
+/// Writes what is gathered, and takes it out.
+fn write_gathered<W: Write>(gathered: &mut Vec<u8>, out: &mut W) -> io::Result<()>
+    ensures empty { OnOk result (gathered.new.items ≡ []) }
+    ensures written { OnOk result (Appends (W.contents out.old) (W.contents out.new) gathered.old.items) }
+{
+    out.write_all(gathered.as_slice())?;
+    gathered.clear();
+    Ok(())
+}
+
+/// Gathers an answer line, and writes what is gathered where that is enough.
+fn gather_answer<W: Write>(reply: &Reply, gathered: &mut Vec<u8>, out: &mut W) -> io::Result<()>
+    ensures { OnOk result (Appends (append_known (W.contents out.old) gathered.old.items)
+        (append_known (W.contents out.new) gathered.new.items) (answer_line reply.now)) }
+{
+    write_answer(reply, gathered)?;
+    if gathered.len() < ENOUGH {
+        return Ok(());
     }
+    write_gathered(gathered, out)
+}
+
+fn write_buffered<W: Write>(alloc: Global, replies: &[Reply], out: &mut W) -> io::Result<()>
+    ensures { OnOk result (Appends (W.contents out.old) (W.contents out.new) (answer_lines replies.now)) }
+{
+    let mut gathered = Vec::new(alloc);
+    for reply in replies {
+        gather_answer(reply, &mut gathered, out)?;
+    }
+    write_gathered(&mut gathered, out)?;
     out.flush()
 }
 
-/// Writes one line for each reply, in order. Refused as `WriteFailed` where a write fails, with
-/// some of the lines perhaps written, and as `OutOfMemory` with none.
+/// Writes one line for each reply, in order. Refused as `WriteFailed` where a write fails, and as
+/// `OutOfMemory`, with some of the lines perhaps written.
 pub(crate) fn write_answers<W: Write>(
     alloc: Global,
     replies: &[Reply],
     out: &mut W,
 ) -> Result<(), Fault>
-    ensures { IfErr result (λ e. (e ≡ WriteFailed) ⊎ (e ≡ OutOfMemory)) }
+    ensures written { OnOk result (Appends (W.contents out.old) (W.contents out.new) (answer_lines replies.now)) }
+    ensures fault { IfErr result (λ e. (e ≡ WriteFailed) ⊎ (e ≡ OutOfMemory)) }
 {
     match write_buffered(alloc, replies, out) {
         Ok(()) => Ok(()),
