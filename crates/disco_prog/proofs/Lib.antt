@@ -1,2 +1,4 @@
 mod Feeds
+mod Given
 mod Spelling
+mod Whole

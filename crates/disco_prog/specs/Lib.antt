@@ -3,3 +3,5 @@ pub mod Lines
 pub mod Answers
 pub mod Options
 pub mod Query
+pub mod Faults
+pub mod Replay

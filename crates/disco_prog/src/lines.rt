@@ -1,8 +1,10 @@
 //! All lines of the input.
-ghost use Rattle.std.specs.Prelude.{◌≡◌, ◌⊎◌, IfOk, IfErr, IfSome, Some, map};
+ghost use Rattle.std.specs.Prelude.{◌≡◌, ◌⊎◌, IfOk, IfErr, OnOk, Some, map};
+ghost use Rattle.std.specs.Io.KnownBytes.{IsAtEnd};
 ghost use Rattle.std.specs.List.{after_first, before_first, position};
 ghost use Rattle.disco_instance.specs.declared.fault.Fault.TheVariants.{OutOfMemory, ReadFailed};
 ghost use Rattle.disco_prog.specs.Lines.{IsFirstBadLine, is_feed, meanings};
+ghost use Rattle.disco_prog.specs.Replay.{AreRead, NamesBadLine};
 
 use crate::line::event_of;
 use disco_instance::Fault;
@@ -49,10 +51,10 @@ pub(crate) fn events_of(alloc: Global, input: &[u8]) -> Result<Vec<Event>, Fault
 /// The events of all that a reader gives, up to its end. Refused as `ReadFailed` where a read
 /// fails, and as [`events_of`] is.
 pub(crate) fn read_events<R: Read>(alloc: Global, reader: &mut R) -> Result<Vec<Event>, Fault>
-    ensures events { IfOk result (λ events. IfSome (R.remaining reader.old)
-        (λ input. map Some events.items ≡ meanings input)) }
+    ensures events { IfOk result (λ events. AreRead (R.remaining reader.old) events.items) }
+    ensures end { OnOk result (IsAtEnd (R.remaining reader.new)) }
     ensures fault { IfErr result (λ e. (e ≡ OutOfMemory) ⊎ ((e ≡ ReadFailed)
-        ⊎ IfSome (R.remaining reader.old) (λ input. IsFirstBadLine input e))) }
+        ⊎ NamesBadLine (R.remaining reader.old) e)) }
 {
     let mut input = Vec::new(alloc);
     match reader.read_to_end(&mut input) {

@@ -1,7 +1,8 @@
 //! The command line.
-ghost use Rattle.std.specs.Prelude.{◌≡◌, ◌<◌, ◌≤◌, [], IfErr, IfOk, OnOk, codes, false, map, string_bytes};
-ghost use Rattle.clap.specs.Words.{FailsBy, app_of, rule_of};
-ghost use Rattle.disco_prog.specs.Options.{faults_of_options, flag_rule, number_rule, replay_app};
+ghost use Rattle.std.specs.Prelude.{◌≡◌, ◌<◌, ◌≤◌, [], IfErr, IfOk, OnOk, codes, false, map, option_map, string_bytes};
+ghost use Rattle.clap.specs.Words.{FailsBy, HasKind, app_of, found_of, rows_of, rule_of};
+ghost use Rattle.disco_prog.specs.Faults.{IsStatusAmong};
+ghost use Rattle.disco_prog.specs.Options.{AreGiven, AreSettingsOf, NamedBy, faults_of_options, faults_of_others, faults_of_words, flag_given, flag_rule, number_given, number_rule, options_of, program_app, replay_app, within};
 
 use crate::faults::status_of;
 use clap::builder::ValueParser;
@@ -68,7 +69,9 @@ fn replay_command<'a>(alloc: Global) -> Result<Command<'a>, AllocError>
         .arg(no_delta(alloc))
 }
 
-fn program_command<'a>(alloc: Global) -> Result<Command<'a>, AllocError> {
+fn program_command<'a>(alloc: Global) -> Result<Command<'a>, AllocError>
+    ensures { IfOk result (λ c. app_of c ≡ program_app) }
+{
     Command::new(alloc, "discovery")
         .about("A registry of instances, after Netflix Eureka")
         .no_binary_name(true)
@@ -76,32 +79,48 @@ fn program_command<'a>(alloc: Global) -> Result<Command<'a>, AllocError> {
         .subcommand(replay_command(alloc)?)
 }
 
+fn number_given(matches: &ArgMatches<'_>, name: &str) -> Option<u64>
+    ensures { result ≡ number_given name.now (rows_of (found_of matches.now)) }
+{
+    matches.get_one::<u64>(name)
+}
+
+fn flag_given(matches: &ArgMatches<'_>, name: &str) -> bool
+    ensures { result ≡ flag_given name.now (rows_of (found_of matches.now)) }
+{
+    matches.get_one::<bool>(name).unwrap_or(false)
+}
+
 /// The number given for a name, from 1 to `most`; `most` where none is.
 fn count(matches: &ArgMatches<'_>, name: &str, most: u64) -> u64
     requires { 0 < most }
+    ensures value { result ≡ within most (number_given name.now (rows_of (found_of matches.now))) }
     ensures above { 0 < result }
-    ensures within { result ≤ most }
+    ensures limit { result ≤ most }
 {
-    match matches.get_one::<u64>(name) {
+    match number_given(matches, name) {
         Some(given) if 0 < given && given <= most => given,
         _ => most,
     }
 }
 
-fn settings_from(matches: &ArgMatches<'_>) -> Settings {
+fn settings_from(matches: &ArgMatches<'_>) -> Settings
+    ensures { AreGiven (rows_of (found_of matches.now)) result }
+{
     Settings {
         versions: count(matches, "versions", MOST_VERSIONS),
         instances: count(matches, "instances", MOST_INSTANCES),
         queue: count(matches, "queue", MOST_QUEUE),
         entries: count(matches, "entries", MOST_ENTRIES),
-        retention: matches.get_one::<u64>("retention").unwrap_or(RETENTION),
-        delta: !matches.get_flag("no-delta"),
+        retention: number_given(matches, "retention").unwrap_or(RETENTION),
+        delta: !flag_given(matches, "no-delta"),
     }
 }
 
 /// The settings that the words behind the command word `replay` name.
 fn read_options<'a>(alloc: Global, words: &'a [String]) -> Result<Settings, Error>
-    ensures { FailsBy (faults_of_options (map string_bytes words.entry.now)) result }
+    ensures settings { IfOk result (AreSettingsOf (map string_bytes words.entry.now)) }
+    ensures faults { FailsBy (faults_of_options (map string_bytes words.entry.now)) result }
 {
     let command = replay_command(alloc)?
         .bin_name("discovery replay")?
@@ -110,21 +129,36 @@ fn read_options<'a>(alloc: Global, words: &'a [String]) -> Result<Settings, Erro
     Ok(settings_from(&matches))
 }
 
-fn read_other<'a>(alloc: Global, words: &'a [String]) -> Result<Settings, Error> {
+/// What words that don't begin with `replay` are answered with: help, or what is wrong with them.
+fn refusal<'a>(alloc: Global, words: &'a [String]) -> Result<Error, AllocError>
+    ensures { IfOk result (HasKind (faults_of_others (map string_bytes words.entry.now))) }
+{
     let mut command = program_command(alloc)?;
-    let matches = command.try_get_matches_from_mut(words)?;
-    match matches.subcommand_matches("replay") {
-        Some(matches) => Ok(settings_from(matches)),
-        None => Err(command.error(ErrorKind::MissingSubcommand, "a command is missing")?),
+    match command.try_get_matches_from_mut(words) {
+        Ok(_) => command.error(ErrorKind::MissingSubcommand, "a command is missing"),
+        Err(error) => Ok(error),
+    }
+}
+
+/// The words behind the command word `replay`, where that stands first.
+fn options_of<'a>(words: &'a [String]) -> Option<&'a [String]>
+    ensures { option_map (λ o. map string_bytes o.now) result ≡ options_of (map string_bytes words.entry.now) }
+{
+    match words.split_first() {
+        Some((command, options)) if command.as_str() == "replay" => Some(options),
+        _ => None,
     }
 }
 
 /// The settings that the words behind the program's name are for: those behind the command word
 /// `replay`. Other words are refused, or ask for help.
-pub(crate) fn read_words<'a>(alloc: Global, words: &'a [String]) -> Result<Settings, Error> {
-    match words.split_first() {
-        Some((command, options)) if command.as_str() == "replay" => read_options(alloc, options),
-        _ => read_other(alloc, words),
+pub(crate) fn read_words<'a>(alloc: Global, words: &'a [String]) -> Result<Settings, Error>
+    ensures settings { IfOk result (NamedBy (map string_bytes words.entry.now)) }
+    ensures faults { FailsBy (faults_of_words (map string_bytes words.entry.now)) result }
+{
+    match options_of(words) {
+        Some(options) => read_options(alloc, options),
+        None => Err(refusal(alloc, words)?),
     }
 }
 
@@ -135,11 +169,11 @@ pub(crate) fn read_words<'a>(alloc: Global, words: &'a [String]) -> Result<Setti
 /// An error is the program's exit status: 0 where help was asked for, 1 for want of memory, 2 for
 /// words that are refused.
 pub fn settings_of<'a>(alloc: Global, words: &'a [String]) -> Result<Settings, u8>
-    ensures status { IfErr result (λ status. status ≤ 2) }
+    ensures settings { IfOk result (AreSettingsOf (map string_bytes words.entry.now)) }
     ensures ok_only_without_fault { OnOk result (faults_of_options
         (map string_bytes words.entry.now) ≡ []) }
-    ensures memory { faults_of_options (map string_bytes words.entry.now) ≡ []
-        → IfErr result (λ status. status ≡ 1) }
+    ensures status { IfErr result (λ status. status ≤ 2) }
+    ensures kind { IfErr result (IsStatusAmong (faults_of_options (map string_bytes words.entry.now))) }
 {
     match read_options(alloc, words) {
         Ok(settings) => Ok(settings),

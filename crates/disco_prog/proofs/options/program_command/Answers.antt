@@ -1,0 +1,19 @@
+use Rattle.std.proofs.Common.{Bool, true, false, ◌&&◌, not, refl, ap, ap₂, ◌≡◌, ◌∙◌}
+use Rattle.std.proofs.lemmas.Result.{IfOk-weaker}
+use Rattle.clap.specs.Words.{App, with_subcommand}
+use Rattle.clap.specs.Simple.{app_of_fields, on_top}
+use Rattle.disco_prog.proofs.options.program_command.Goals as goal
+
+third : (a b x d : Bool) → (a && (b && (not x && d))) ≡ true → x ≡ false
+third a b false d e = refl
+third true true true d e = absurd (let bad : false ≡ true = e in cc)
+third true false true d e = absurd (let bad : false ≡ true = e in cc)
+third false b true d e = absurd (let bad : false ≡ true = e in cc)
+
+pub returns : goal.returns
+returns c =
+    let bare = ap app_of_fields c.about.ensures ∙ c.new.ensures.app in
+    let nameless = ap app_of_fields c.no_binary_name.ensures ∙ ap (on_top (λ s. record s { no_binary_name = true })) bare in
+    let whole = ap app_of_fields c.subcommand_required.ensures ∙ ap (on_top (λ s. record s { subcommand_required = true })) nameless in
+    let local = third _ _ _ _ (ap (λ (a : App). a.top.is_plain) c.in_ok-replay_command.ensures) in
+    IfOk-weaker c.subcommand.result _ _ (λ r added. added.shape local ∙ ap₂ with_subcommand whole (ap (λ (a : App). a.top) c.in_ok-replay_command.ensures)) c.subcommand.ensures
