@@ -24,19 +24,19 @@ counted es status = count_of (map (λ (e : Entry). e.0) (map (λ (p : Key × Ent
 counted-cons : (p : Key × Entry) (es : Entries) (status : Status) → counted (p ∷ es) status ≡ one_if p.1.0.status status + counted es status
 counted-cons p es status = sum_by-cons (λ (r : Row). cond (place_of r.status == place_of status) 1 0) p.1.0 (map (λ (e : Entry). e.0) (map (λ (p : Key × Entry). p.1) es))
 
-first : (a b : Bool) → T (a && b) → T a
+pub first : (a b : Bool) → T (a && b) → T a
 first true b h = tt
 first false b h = h
 
-second : (a b : Bool) → T (a && b) → T b
+pub second : (a b : Bool) → T (a && b) → T b
 second true b h = h
 second false b h = absurd h
 
-both : (a b : Bool) → T a → T b → T (a && b)
+pub both : (a b : Bool) → T a → T b → T (a && b)
 both true b p q = q
 both false b p q = p
 
-is_less : (o : Ordering) → T (is_lt o) → o ≡ Less
+pub is_less : (o : Ordering) → T (is_lt o) → o ≡ Less
 is_less Less h = refl
 is_less Equal h = absurd h
 is_less Greater h = absurd h

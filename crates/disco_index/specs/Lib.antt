@@ -1,2 +1,5 @@
 pub mod Laws
+pub mod Places
 pub mod Tally
+pub mod VipLaws
+pub mod Vips

@@ -1,11 +1,16 @@
-//! How many instances have each status, and the hash code that these numbers give.
+//! How many instances have each status, the hash code that these numbers give, and which
+//! instances have a vip.
 #![tactic(auto)]
 
 mod counts;
 pub mod laws;
+mod next_vip;
 mod pieces;
+mod places;
+mod vips;
 
 pub use counts::Counts;
+pub use vips::VipIndex;
 
 #[cfg(test)]
 mod tests;

@@ -6,6 +6,8 @@ ghost use Rattle.disco_index.specs.Tally.{more, tally_of};
 use crate::counts::Counts;
 use disco_instance::Status;
 
+mod vips;
+
 /// Two are up, one is down and one is unknown.
 fn four() -> Counts
     ensures { result ≡ more (more (more (more (tally_of []) Up) Down) Unknown) Up }

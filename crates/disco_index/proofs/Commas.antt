@@ -1,0 +1,48 @@
+-- The vips of an address, piece by piece.
+use Rattle.std.proofs.Common.{◌≡◌, ℕ, ◌<◌, ◌==◌, Bool, true, false, not, cond, List, [], ◌∷◌, length, filter, refl, sym, ap, ◌∙◌, arith}
+use Rattle.std.specs.List.{slice_split, onto_first as glued, before_first, after_first, position_or_len}
+use Rattle.std.proofs.lemmas.List.Splits.{slice_split_first, slice_split_none}
+use Rattle.std.proofs.lemmas.List.Sums.{fails_before_first}
+use Rattle.disco_history.specs.Query.{between_commas, onto_first, vips}
+
+abbrev pub is_comma : ℕ → Bool
+is_comma b = b == 44
+
+same_first : (c : ℕ) (ps : List (List ℕ)) → onto_first c ps ≡ glued c ps
+same_first c [] = refl
+same_first c (p ∷ ps) = refl
+
+same_cut : (c : ℕ) (ps qs : List (List ℕ)) (b : Bool) → ps ≡ qs → cond b ([] ∷ ps) (onto_first c ps) ≡ cond b ([] ∷ qs) (glued c qs)
+same_cut c ps qs true e = ap (λ x. [] ∷ x) e
+same_cut c ps qs false e = ap (onto_first c) e ∙ same_first c qs
+
+by_split : (s : List ℕ) → between_commas s ≡ slice_split is_comma s
+by_split [] = refl
+by_split (c ∷ cs) = same_cut c (between_commas cs) (slice_split is_comma cs) (is_comma c) (by_split cs)
+
+abbrev kept : List (List ℕ) → List (List ℕ)
+kept = filter (λ p. not (length p == 0))
+
+-- the vips of an address with a comma: the first piece, where it isn't empty, and those behind the comma
+cut : (s : List ℕ) → position_or_len is_comma s < length s → vips s ≡ cond (not (length (before_first is_comma s) == 0)) (before_first is_comma s ∷ vips (after_first is_comma s)) (vips (after_first is_comma s))
+cut s has =
+    ap kept (by_split s ∙ slice_split_first is_comma s 0 has)
+    ∙ ap (λ ps. kept (before_first is_comma s ∷ ps)) (sym (by_split (after_first is_comma s)))
+
+pub cut_full : (s piece after : List ℕ) → position_or_len is_comma s < length s → piece ≡ before_first is_comma s → after ≡ after_first is_comma s → (length piece == 0) ≡ false → vips s ≡ piece ∷ vips after
+cut_full s piece after has p a full =
+    cut s has
+    ∙ ap (λ b. cond (not b) (before_first is_comma s ∷ vips (after_first is_comma s)) (vips (after_first is_comma s))) (ap (λ x. length x == 0) (sym p) ∙ full)
+    ∙ (λ i. sym p i ∷ vips (sym a i))
+
+pub cut_empty : (s piece after : List ℕ) → position_or_len is_comma s < length s → piece ≡ before_first is_comma s → after ≡ after_first is_comma s → (length piece == 0) ≡ true → vips s ≡ vips after
+cut_empty s piece after has p a none =
+    cut s has
+    ∙ ap (λ b. cond (not b) (before_first is_comma s ∷ vips (after_first is_comma s)) (vips (after_first is_comma s))) (ap (λ x. length x == 0) (sym p) ∙ none)
+    ∙ ap vips (sym a)
+
+-- an address with no comma is one piece
+pub whole_full : (s : List ℕ) → position_or_len is_comma s ≡ length s → (length s == 0) ≡ false → vips s ≡ s ∷ vips []
+whole_full s none full =
+    ap kept (by_split s ∙ slice_split_none is_comma s (λ k d l. fails_before_first is_comma s k d (omega (arith, none, l))))
+    ∙ ap (λ b. cond (not b) (s ∷ []) []) full

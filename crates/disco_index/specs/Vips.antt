@@ -1,0 +1,85 @@
+-- Which instances have a vip, as plain data.
+use Rattle.std.specs.Prelude.{◌≡◌, ℕ, Bool, true, false, not, ◌&&◌, ◌||◌, List, filter, Option, Some, None, IsSome}
+use Rattle.std.specs.Coded.{Coded, coded_bool, coded_list, coded_ℕ}
+use Rattle.std.specs.Cmp.Lexicographic.{slice_cmp}
+use Rattle.std.specs.FinMap.{FinMap, code, empty, get, keys}
+use Rattle.std.specs.Option.{unwrap_or}
+use Rattle.std.specs.Ordering.{nat_cmp}
+use Rattle.disco_instance.specs.Key.{key_cmp, same_key}
+use Rattle.disco_instance.specs.Row.{Row}
+use Rattle.disco_instance.specs.contracts.key.Key as key
+use Rattle.disco_instance.specs.declared.key.Key.{Key}
+use Rattle.disco_history.specs.Change.{Entry}
+use Rattle.disco_history.specs.Query.{asks_for, of_vip}
+
+abbrev pub coded_places : Coded (FinMap key_cmp Bool)
+coded_places = code key.the_row.coded coded_bool
+
+-- under each of some vips a place for each of some keys, true where the instance is there
+abbrev pub VipKeys : Type 0
+VipKeys = FinMap (slice_cmp nat_cmp) (FinMap key_cmp Bool)
+
+abbrev pub coded_vip_keys : Coded VipKeys
+coded_vip_keys = code (coded_list coded_ℕ) coded_places
+
+-- the places under a vip
+abbrev pub places_at : VipKeys → List ℕ → FinMap key_cmp Bool
+places_at v q = unwrap_or (get v q) empty
+
+-- the place of a key under a vip
+abbrev pub place_at : VipKeys → List ℕ → Key → Option Bool
+place_at v q k = get (places_at v q) k
+
+-- the instance has the vip
+abbrev pub has : VipKeys → List ℕ → Key → Bool
+has v q k = unwrap_or (place_at v q k) false
+
+-- the keys that have the vip, in their order
+abbrev pub under : VipKeys → List ℕ → List Key
+under v q = filter (has v q) (keys (places_at v q))
+
+-- the row has the vip and is of the key
+abbrev pub is_under : Row → List ℕ → Key → Bool
+is_under r q k = asks_for (of_vip q) r && same_key k r.key
+
+-- there is a place for the row under each of its vips
+abbrev pub HasPlaces : VipKeys → Row → Type 0
+HasPlaces v r = (q : List ℕ) (k : Key) → is_under r q k ≡ true → IsSome (place_at v q k)
+
+-- none of these places stands empty
+abbrev pub HasNoneEmpty : VipKeys → Row → Type 0
+HasNoneEmpty v r = (q : List ℕ) (k : Key) → is_under r q k ≡ true → place_at v q k ≡ Some false → ⊥
+
+-- the same but for empty places, which no answer shows
+abbrev pub IsSame : VipKeys → VipKeys → Type 0
+IsSame old new = (q : List ℕ) (k : Key) → has new q k ≡ has old q k
+
+-- each place stays
+abbrev pub KeepsPlaces : VipKeys → VipKeys → Type 0
+KeepsPlaces old new = (q : List ℕ) (k : Key) → IsSome (place_at old q k) → IsSome (place_at new q k)
+
+-- each place but those of the row is as it was
+abbrev pub KeepsOthers : Row → VipKeys → VipKeys → Type 0
+KeepsOthers r old new = (q : List ℕ) (k : Key) → is_under r q k ≡ false → place_at new q k ≡ place_at old q k
+
+-- the row's instance has the row's vips too
+abbrev pub Adds : Row → VipKeys → VipKeys → Type 0
+Adds r old new = (q : List ℕ) (k : Key) → has new q k ≡ (is_under r q k || has old q k)
+
+-- the row's instance has the row's vips no more
+abbrev pub Takes : Row → VipKeys → VipKeys → Type 0
+Takes r old new = (q : List ℕ) (k : Key) → has new q k ≡ (has old q k && not (is_under r q k))
+
+-- the same of an entry's row, where there is one
+abbrev pub TakesAny : Option Entry → VipKeys → VipKeys → Type 0
+TakesAny None old new = IsSame old new
+TakesAny (Some e) old new = Takes e.0 old new
+
+-- the entry's record has the vip
+abbrev pub entry_has : List ℕ → Option Entry → Bool
+entry_has q None = false
+entry_has q (Some e) = asks_for (of_vip q) e.0
+
+-- exactly the entries whose records have a vip are under it
+abbrev pub IsIndexOf : VipKeys → FinMap key_cmp Entry → Type 0
+IsIndexOf v m = (q : List ℕ) (k : Key) → has v q k ≡ entry_has q (get m k)

@@ -1,0 +1,181 @@
+//! Which instances have a vip.
+ghost use Rattle.std.specs.Prelude.{◌≡◌, ◌∷◌, [], IfErr, IfOk, IsTrue, None, OnErr, OnOk, Some, map, string_bytes};
+ghost use Rattle.std.specs.BTreeMap.{UpdatesBy};
+ghost use Rattle.std.specs.Cmp.Lexicographic.{slice_cmp};
+ghost use Rattle.std.specs.FinMap.{empty, get};
+ghost use Rattle.std.specs.Ordering.{nat_cmp};
+ghost use Rattle.std.specs.String.{string_cmp};
+ghost use Rattle.disco_instance.specs.Row.{row};
+ghost use Rattle.disco_instance.specs.declared.fault.Fault.TheVariants.{OutOfMemory};
+ghost use Rattle.disco_history.specs.Query.{vips};
+ghost use Rattle.disco_index.specs.Places.{Alters, HasNoBareVip, IsBareOnly, opened, seen_vips, swept, written};
+ghost use Rattle.disco_index.specs.Vips.{Adds, HasNoneEmpty, HasPlaces, IsSame, KeepsOthers, KeepsPlaces, Takes, under};
+
+use crate::next_vip::next_vip;
+use crate::places::Places;
+use disco_instance::{Fault, Key, Record};
+use std::alloc::{AllocError, Global};
+use std::collections::BTreeMap;
+use std::marker::Model;
+
+/// For each vip the keys of the instances that have it. A vip's keys cost nothing for other
+/// instances.
+///
+/// For a change of an instance: `ready` with its new record, `take` with the old one, `add` with
+/// the new one, and `sweep` with the old one.
+#[derive(Drop)]
+pub struct VipIndex {
+    alloc: Global,
+    vips: BTreeMap<String, Places>,
+}
+
+impl Model for VipIndex {
+    ghost use Rattle.disco_index.specs.Places.{HasNoBareVip, seen_vips};
+    ghost use Rattle.disco_index.specs.Vips.{VipKeys, coded_vip_keys};
+
+    ghost Value = { VipKeys };
+
+    ghost coded = { coded_vip_keys };
+
+    ghost view = { λ v. seen_vips v.vips.entries };
+
+    ghost invariant = { λ v. HasNoBareVip (seen_vips v.vips.entries) };
+}
+
+impl VipIndex {
+    /// No instances.
+    pub fn new(alloc: Global) -> VipIndex
+        ensures { result ≡ empty }
+    {
+        VipIndex {
+            alloc,
+            vips: BTreeMap::new(alloc),
+        }
+    }
+
+    /// Makes a place for the record under each of its vips, so that it can be added. No answer
+    /// shows a place that stands empty. Refused only as `OutOfMemory`, and then `sweep` gives back
+    /// what was made.
+    pub fn ready(&mut self, rec: &Record) -> Result<(), Fault>
+        ensures same { IsSame self.old self.new }
+        ensures ready { OnOk result (HasPlaces self.new (row rec.now)) }
+        ensures others { OnOk result (KeepsOthers (row rec.now) self.old self.new) }
+        ensures places { KeepsPlaces self.old self.new }
+        ensures memory { IfErr result (λ e. e ≡ OutOfMemory) }
+    {
+        let mut rest = rec.vip_address.as_str();
+        while let Some((vip, after)) = next_vip(rest) {
+            self.open(vip, &rec.key)?;
+            rest = after;
+        }
+        Ok(())
+    }
+
+    /// The record's instance has the record's vips, beside those that it has. Takes no memory.
+    pub fn add(&mut self, rec: &Record)
+        requires { HasPlaces self.old (row rec.now) }
+        ensures vips { Adds (row rec.now) self.old self.new }
+        ensures places { KeepsPlaces self.old self.new }
+    {
+        self.write_all(rec, true);
+    }
+
+    /// The record's instance has the record's vips no more. Their places stay, and stand empty.
+    /// Takes no memory.
+    pub fn take(&mut self, rec: &Record)
+        ensures vips { Takes (row rec.now) self.old self.new }
+        ensures places { KeepsPlaces self.old self.new }
+    {
+        self.write_all(rec, false);
+    }
+
+    /// Gives back the places under the record's vips that stand empty. Takes no memory.
+    pub fn sweep(&mut self, rec: &Record)
+        ensures same { IsSame self.old self.new }
+        ensures swept { HasNoneEmpty self.new (row rec.now) }
+        ensures others { KeepsOthers (row rec.now) self.old self.new }
+    {
+        let mut rest = rec.vip_address.as_str();
+        while let Some((vip, after)) = next_vip(rest) {
+            self.close(vip, &rec.key);
+            rest = after;
+        }
+    }
+
+    /// The keys of the instances that have a vip, in their order. Refused only as `OutOfMemory`.
+    pub fn under(&self, alloc: Global, vip: &str) -> Result<Vec<&Key>, Fault>
+        ensures keys { IfOk result (λ found. map (λ k. k.now) found.items ≡ under self.now vip.now) }
+        ensures memory { IfErr result (λ e. e ≡ OutOfMemory) }
+    {
+        match self.vips.get(vip) {
+            Some(places) => Ok(places.there(alloc)?),
+            None => Ok(Vec::new(alloc)),
+        }
+    }
+
+    /// Says under each of the record's vips whether its instance is there, where it has a place.
+    fn write_all(&mut self, rec: &Record, there: bool)
+        ensures { Alters (written there) (vips rec.now.vip_address) rec.now.key self.old self.new }
+    {
+        let mut rest = rec.vip_address.as_str();
+        while let Some((vip, after)) = next_vip(rest) {
+            self.write(vip, &rec.key, there);
+            rest = after;
+        }
+    }
+
+    fn write(&mut self, vip: &str, key: &Key, there: bool)
+        ensures { Alters (written there) (vip.now ∷ []) key.now self.old self.new }
+    {
+        if let Some(places) = self.vips.get_mut(vip) {
+            places.write(key, there);
+        }
+    }
+
+    /// Makes an empty place for a key under a vip, where there is none.
+    fn open(&mut self, vip: &str, key: &Key) -> Result<(), AllocError>
+        ensures ok { OnOk result (Alters opened (vip.now ∷ []) key.now self.old self.new) }
+        ensures err { OnErr result (self.new ≡ self.old) }
+    {
+        if let Some(places) = self.vips.get_mut(vip) {
+            return places.open(key);
+        }
+        let mut places = Places::new(self.alloc);
+        places.open(key)?;
+        self.vips
+            .insert(String::from_str(self.alloc, vip)?, places)?;
+        Ok(())
+    }
+
+    /// Takes the place of a key under a vip out, where it stands empty, and the vip with its last
+    /// place.
+    fn close(&mut self, vip: &str, key: &Key)
+        ensures { Alters swept (vip.now ∷ []) key.now self.old self.new }
+    {
+        if close_under(&mut self.vips, vip, key) {
+            remove(&mut self.vips, vip);
+        }
+    }
+}
+
+fn remove(vips: &mut BTreeMap<String, Places>, vip: &str)
+    ensures { UpdatesBy string_cmp (λ k. slice_cmp nat_cmp vip.now (string_bytes k)) vips.old vips.new None }
+{
+    vips.remove(vip);
+}
+
+/// Takes the place of a key under a vip out, where it stands empty. Answers whether the vip has no
+/// place any more.
+fn close_under(vips: &mut BTreeMap<String, Places>, vip: &str, key: &Key) -> bool
+    ensures places { Alters swept (vip.now ∷ []) key.now (seen_vips vips.old.entries) (seen_vips vips.new.entries) }
+    ensures bare { IsTrue result → get (seen_vips vips.new.entries) vip.now ≡ Some empty }
+    ensures others { HasNoBareVip (seen_vips vips.old.entries) → IsBareOnly vip.now result (seen_vips vips.new.entries) }
+{
+    match vips.get_mut(vip) {
+        Some(places) => {
+            places.close(key);
+            places.is_empty()
+        }
+        None => false,
+    }
+}
