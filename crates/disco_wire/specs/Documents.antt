@@ -2,7 +2,7 @@
 use Rattle.std.specs.Prelude.{ℕ, List, Result, Ok, Err}
 use Rattle.serde_json.specs.Data.{Data}
 use Rattle.disco_instance.specs.declared.fault.Fault.{Fault}
-use Rattle.disco_wire.specs.Meaning.{Meaning, many_of, meaning_of, or_bad}
+use Rattle.disco_wire.specs.Meaning.{Meaning, meaning_of, or_bad}
 use Rattle.disco_wire.specs.Tree.{json_of}
 
 abbrev pub meant_by : Result Data Fault → Result Meaning Fault
@@ -12,11 +12,3 @@ meant_by (Ok d) = or_bad (meaning_of d)
 -- what the bytes of a document mean, or why they mean nothing
 abbrev pub document_of : List ℕ → Result Meaning Fault
 document_of bytes = meant_by (json_of bytes)
-
-abbrev pub many_by : Result Data Fault → Result Meaning Fault
-many_by (Err e) = Err e
-many_by (Ok d) = or_bad (many_of d)
-
--- the same where no shape but Many is read
-abbrev pub many_read : List ℕ → Result Meaning Fault
-many_read bytes = many_by (json_of bytes)

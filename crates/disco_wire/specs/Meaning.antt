@@ -67,19 +67,21 @@ meant shape hash version ms = record { shape = shape; mentions = ms; hash = hash
 abbrev pub many_meant : Data → Option Meaning
 many_meant d = option_map (meant Many (text_at (codes "apps__hashcode") d) (option_and_then as_whole (get (codes "versions__delta") d))) (told_apps d)
 
+abbrev pub app_meant : Data → Option Meaning
+app_meant d = option_map (meant App None None) (told_app d)
+
+abbrev pub one_meant : Data → Option Meaning
+one_meant d = option_map (meant One None None) (told_in None d)
+
 -- by the first of the three members that is an object
 abbrev pub meaning_by : Option Data → Option Data → Option Data → Option Meaning
 meaning_by (Some d) app one = many_meant d
-meaning_by None (Some d) one = option_map (meant App None None) (told_app d)
-meaning_by None None (Some d) = option_map (meant One None None) (told_in None d)
+meaning_by None (Some d) one = app_meant d
+meaning_by None None (Some d) = one_meant d
 meaning_by None None None = None
 
 unfoldable pub meaning_of : Data → Option Meaning
 meaning_of d = meaning_by (object_at (codes "applications") d) (object_at (codes "application") d) (object_at (codes "instance") d)
-
--- what a tree means where it is of the shape Many
-abbrev pub many_of : Data → Option Meaning
-many_of d = option_and_then many_meant (object_at (codes "applications") d)
 
 -- a meaning, or the refusal of what has none
 abbrev pub or_bad : {A : Type 0} → Option A → Result A Fault

@@ -6,8 +6,8 @@ ghost use Rattle.serde_json.specs.Find.{get};
 ghost use Rattle.serde_json.specs.View.{view};
 ghost use Rattle.disco_instance.specs.Instance.{Gives};
 ghost use Rattle.disco_instance.specs.Members.{as_whole, text_at};
-ghost use Rattle.disco_wire.specs.Meaning.{all_told, listed, listed_in, many_meant, many_of, or_bad, told_app, told_in, told_item, told_on};
-ghost use Rattle.disco_wire.specs.Documents.{many_read};
+ghost use Rattle.disco_wire.specs.Meaning.{all_told, app_meant, listed, listed_in, many_meant, meaning_of, one_meant, or_bad, told_app, told_in, told_item, told_on};
+ghost use Rattle.disco_wire.specs.Documents.{document_of};
 ghost use Rattle.disco_wire.specs.Wire.{seen, tell_all};
 
 use crate::tree::{object_member, tree_of};
@@ -16,22 +16,55 @@ use disco_instance::{Fault, Record, Text, action_from_value, text_member, whole}
 use serde_json::Value;
 use std::alloc::{AllocError, Global};
 
-/// What a document of many apps means. Refused as `BadJson` where the bytes are no JSON text, as
-/// `BadDocument` where its tree means nothing or isn't of the shape `Many`, and as `OutOfMemory`.
+/// What a document means: the body of an answer to one of Eureka's `GET`s. Refused as `BadJson`
+/// where the bytes are no JSON text (RFC 8259), as `BadDocument` where its tree means nothing, and
+/// as `OutOfMemory`.
 pub fn read_document(alloc: Global, bytes: &[u8]) -> Result<Wire, Fault>
-    ensures { Gives seen result (many_read bytes.now) }
+    ensures { Gives seen result (document_of bytes.now) }
 {
     let tree = tree_of(alloc, bytes)?;
-    many_from_tree(alloc, &tree)
+    from_tree(alloc, &tree)
 }
 
-fn many_from_tree(alloc: Global, tree: &Value) -> Result<Wire, Fault>
-    ensures { Gives seen result (or_bad (many_of (view tree.now))) }
+#[tactic(auto, unfolding(crate::specs::Meaning::meaning_of))]
+fn from_tree(alloc: Global, tree: &Value) -> Result<Wire, Fault>
+    ensures { Gives seen result (or_bad (meaning_of (view tree.now))) }
 {
-    match object_member(tree, "applications") {
-        Some(applications) => many(alloc, applications),
-        None => Err(Fault::BadDocument),
+    if let Some(applications) = object_member(tree, "applications") {
+        many(alloc, applications)
+    } else if let Some(app) = object_member(tree, "application") {
+        one_app(alloc, app)
+    } else if let Some(instance) = object_member(tree, "instance") {
+        one_instance(alloc, instance)
+    } else {
+        Err(Fault::BadDocument)
     }
+}
+
+fn one_app(alloc: Global, app: &Value) -> Result<Wire, Fault>
+    ensures { Gives seen result (or_bad (app_meant (view app.now))) }
+{
+    let mut mentions = Vec::new(alloc);
+    push_app(alloc, &mut mentions, app)?;
+    Ok(Wire {
+        shape: Shape::App,
+        mentions: Mentions::from_vec(mentions),
+        hash: None,
+        version: None,
+    })
+}
+
+fn one_instance(alloc: Global, instance: &Value) -> Result<Wire, Fault>
+    ensures { Gives seen result (or_bad (one_meant (view instance.now))) }
+{
+    let mut mentions = Vec::new(alloc);
+    push_instance(alloc, &mut mentions, None, instance)?;
+    Ok(Wire {
+        shape: Shape::One,
+        mentions: Mentions::from_vec(mentions),
+        hash: None,
+        version: None,
+    })
 }
 
 fn many(alloc: Global, applications: &Value) -> Result<Wire, Fault>

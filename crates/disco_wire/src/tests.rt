@@ -9,6 +9,7 @@ mod members;
 mod orders;
 mod refused;
 mod registrations;
+mod shapes;
 
 /// A registration as an instance posts it.
 pub(crate) const POSTED: &str =
@@ -25,7 +26,7 @@ pub(crate) const COMPACT: &str =
 /// The class of a data centre that names none.
 pub(crate) const CLASS: &str = "com.netflix.appinfo.InstanceInfo$DefaultDataCenterInfo";
 
-/// Reads a document of many apps from a text.
+/// Reads a document from a text.
 pub(crate) fn read(alloc: Global, text: &str) -> Result<Wire, Fault> {
     read_document(alloc, text.as_bytes())
 }

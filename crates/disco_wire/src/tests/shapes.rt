@@ -1,0 +1,106 @@
+//! Documents of one app and of one instance.
+use crate::tests::{mentions, read};
+use crate::{Shape, Wire};
+use disco_instance::{Action, Fault};
+use std::process::Abort;
+use std::test::Fail;
+
+// The keys of the mentions, as APP/ID, are these.
+fn keys_are(rt: &impl Abort, wire: &Wire, wanted: &[(&str, &str)]) {
+    assert_eq!(rt; wire.mentions.as_slice().len(), wanted.len());
+    for (mention, (app, id)) in wire.mentions.as_slice().iter().zip(wanted.iter().copied()) {
+        assert_eq!(rt; mention.rec.key.app.as_str(), app);
+        assert_eq!(rt; mention.rec.key.id.as_str(), id);
+    }
+}
+
+#[test]
+fn reads_one_app(rt: HostRuntime) -> Result<(), Fail> {
+    let text =
+        r#"{"application":{"instance":[{"instanceId":"2","actionType":"MODIFIED"},{"instanceId":"1","app":"b"}],"name":"a"}}"#;
+    let wire = read(rt.alloc(), text)?;
+    assert_eq!(rt; wire.shape, Shape::App);
+    assert!(rt; wire.hash.is_none());
+    assert!(rt; wire.version.is_none());
+    keys_are(&rt, &wire, &[("A", "2"), ("B", "1")]);
+    assert_eq!(rt; wire.mentions.as_slice()[0].action, Some(Action::Modified));
+    assert_eq!(rt; wire.mentions.as_slice()[1].action, None);
+    Ok(())
+}
+
+#[test]
+fn reads_one_instance(rt: HostRuntime) -> Result<(), Fail> {
+    let text = r#"{"instance":{"hostName":"h","app":"a","actionType":"ADDED"}}"#;
+    let wire = read(rt.alloc(), text)?;
+    assert_eq!(rt; wire.shape, Shape::One);
+    assert!(rt; wire.hash.is_none());
+    assert!(rt; wire.version.is_none());
+    keys_are(&rt, &wire, &[("A", "h")]);
+    assert_eq!(rt; wire.mentions.as_slice()[0].action, Some(Action::Added));
+    Ok(())
+}
+
+#[test]
+fn members_of_applications_count_in_them_alone(rt: HostRuntime) -> Result<(), Fail> {
+    let text = r#"{"application":{"name":"a"},"apps__hashcode":"UP_1_","versions__delta":"3"}"#;
+    let wire = read(rt.alloc(), text)?;
+    assert_eq!(rt; wire.shape, Shape::App);
+    assert!(rt; wire.hash.is_none());
+    assert!(rt; wire.version.is_none());
+    Ok(())
+}
+
+#[test]
+fn the_first_object_decides(rt: HostRuntime) -> Result<(), Fail> {
+    for (text, shape) in [
+        (
+            r#"{"instance":{},"application":{},"applications":{}}"#,
+            Shape::Many,
+        ),
+        (
+            r#"{"instance":{},"application":{},"applications":[]}"#,
+            Shape::App,
+        ),
+        (
+            r#"{"instance":{},"application":{"instance":null},"applications":null}"#,
+            Shape::App,
+        ),
+        (
+            r#"{"instance":{"instanceId":"1","app":"a"},"application":null,"applications":"a"}"#,
+            Shape::One,
+        ),
+    ] {
+        let wire = read(rt.alloc(), text)?;
+        assert_eq!(rt; wire.shape, shape, "at {text}");
+    }
+    Ok(())
+}
+
+#[test]
+fn other_kinds_mean_nothing(rt: HostRuntime) -> Result<(), Fail> {
+    for text in [
+        "{}",
+        "[]",
+        "null",
+        "1",
+        r#""application""#,
+        r#"{"application":[]}"#,
+        r#"{"application":{"instance":1}}"#,
+        r#"{"application":{"instance":[null]}}"#,
+        r#"{"application":{"instance":{"instanceId":"1"}}}"#,
+        r#"{"application":{"name":"a","instance":{}}}"#,
+        r#"{"instance":[{"instanceId":"1","app":"a"}]}"#,
+        r#"{"instance":null}"#,
+        r#"{"instance":{"instanceId":"1"}}"#,
+        r#"{"instance":{"app":"a"}}"#,
+        r#"{"name":"a","instance":{"instanceId":"1"}}"#,
+        r#"{"instances":{"instanceId":"1","app":"a"}}"#,
+    ] {
+        assert_eq!(rt;
+            mentions(rt.alloc(), text),
+            Err(Fault::BadDocument),
+            "at {text}"
+        );
+    }
+    Ok(())
+}
