@@ -60,10 +60,14 @@ module _ {V : Type 0} (f : Key → Option V) (q : Key) where
   find_chosen [] = refl
   find_chosen (k ∷ ks) = step k _ _ (f k) (same_key q k) refl (λ e. ap f (same_is q k e)) (find_chosen ks)
 
+  -- nothing but at the keys that it was chosen from
+  pub get-chosen_in : (ks : List Key) → get (chosen f ks) q ≡ cond (list_any (same_key q) ks) (f q) None
+  unfolding chosen
+  get-chosen_in ks = get-from_entries keys_total _ q ∙ find_chosen ks
+
   all_found : (b : Bool) → (b ≡ false → f q ≡ None) → cond b (f q) None ≡ f q
   all_found true absent = refl
   all_found false absent = sym (absent refl)
 
   pub get-chosen : (ks : List Key) → (list_any (same_key q) ks ≡ false → f q ≡ None) → get (chosen f ks) q ≡ f q
-  unfolding chosen
-  get-chosen ks absent = get-from_entries keys_total _ q ∙ find_chosen ks ∙ all_found (list_any (same_key q) ks) absent
+  get-chosen ks absent = get-chosen_in ks ∙ all_found (list_any (same_key q) ks) absent

@@ -23,7 +23,7 @@ none_from_test (Some x) e = cc
 pub not_there : {V : Type 0} (m : FinMap key_cmp V) (q : Key) → list_any (same_key q) (keys m) ≡ false → get m q ≡ None
 not_there m q e = none_from_test (get m q) (contains_key-keys m q ∙ e)
 
-abbrev first_of : Option Entry → Option Row
+abbrev pub first_of : Option Entry → Option Row
 first_of o = option_map (λ e. e.0) o
 
 pub get-reg : (h : List Entry) (q : Key) → get (reg h) q ≡ option_map (λ e. e.0) (option_and_then put_of (last h q))
@@ -61,7 +61,7 @@ said_nil = same_map keys_total exact_keys _ _ (λ q. get-said [] q ∙ sym (get-
 
 -- ---- the records of the mentions are those of the registry
 
-abbrev records : List (Key × Entry) → List (Key × Row)
+abbrev pub records : List (Key × Entry) → List (Key × Row)
 records = map (λ p. (p.0, p.1.0))
 
 below_records : (k : Key) (es : List (Key × Entry)) → below_all key_cmp k (records es) ≡ below_all key_cmp k es
@@ -84,19 +84,26 @@ values_records : (es : List (Key × Entry)) → map (λ p. p.1) (records es) ≡
 values_records [] = refl
 values_records (e ∷ es) = ap (λ r. e.1.0 ∷ r) (values_records es)
 
-entries-reg : (h : List Entry) → entries (reg h) ≡ records (entries (said h (reg h)))
-entries-reg h =
-    let es = entries (said h (reg h)) in
-    let sorted : T (is_sorted key_cmp (records es)) = subst T (sym (sorted_records es)) (entries_sorted (said h (reg h))) in
-    ap entries (same_map keys_total exact_keys (reg h) (from_sorted (records es)) (λ q.
-    sym (get-said_reg h q) ∙ ap first_of (get-entries (said h (reg h)) q) ∙ sym (find_records q es) ∙ sym (get-from_sorted key_cmp (records es) q sorted)))
+-- a map of the records of another one's mentions
+pub entries_first : (s : FinMap key_cmp Row) (t : FinMap key_cmp Entry) → ((q : Key) → get s q ≡ first_of (get t q)) → entries s ≡ records (entries t)
+entries_first s t at =
+    let es = entries t in
+    let sorted : T (is_sorted key_cmp (records es)) = subst T (sym (sorted_records es)) (entries_sorted t) in
+    ap entries (same_map keys_total exact_keys s (from_sorted (records es)) (λ q.
+    at q ∙ ap first_of (get-entries t q) ∙ sym (find_records q es) ∙ sym (get-from_sorted key_cmp (records es) q sorted)))
     ∙ entries-from_sorted key_cmp (records es) sorted
 
+pub values_first : (s : FinMap key_cmp Row) (t : FinMap key_cmp Entry) → ((q : Key) → get s q ≡ first_of (get t q)) → values s ≡ map (λ e. e.0) (values t)
+values_first s t at = ap (map (λ p. p.1)) (entries_first s t at) ∙ values_records (entries t)
+
+pub len_first : (s : FinMap key_cmp Row) (t : FinMap key_cmp Entry) → ((q : Key) → get s q ≡ first_of (get t q)) → len s ≡ len t
+len_first s t at = len-entries s ∙ ap length (entries_first s t at) ∙ length-map (entries t) (λ (p : Key × Entry). (p.0, p.1.0)) ∙ sym (len-entries t)
+
 pub values-reg : (h : List Entry) → values (reg h) ≡ map (λ e. e.0) (values (said h (reg h)))
-values-reg h = ap (map (λ p. p.1)) (entries-reg h) ∙ values_records (entries (said h (reg h)))
+values-reg h = values_first (reg h) (said h (reg h)) (λ q. sym (get-said_reg h q))
 
 pub len-reg : (h : List Entry) → len (reg h) ≡ len (said h (reg h))
-len-reg h = len-entries (reg h) ∙ ap length (entries-reg h) ∙ length-map (entries (said h (reg h))) (λ (p : Key × Entry). (p.0, p.1.0)) ∙ sym (len-entries (said h (reg h)))
+len-reg h = len_first (reg h) (said h (reg h)) (λ q. sym (get-said_reg h q))
 
 -- ---- the delta, the overlay and the restriction
 
@@ -116,7 +123,7 @@ get-overlay s ms q = get-chosen _ q (keys s ++ map key_of (known ms)) (λ e.
     let parts = any_both (keys s) (map key_of (known ms)) q e in
     ap (overlaid_by (get s q)) (last_absent q (known ms) parts.1) ∙ not_there s q parts.0)
 
-abbrev asked_of : Asked → Option Row → Option Row
+abbrev pub asked_of : Asked → Option Row → Option Row
 asked_of a o = option_and_then (λ r. cond (asks_for a r) (Some r) None) o
 
 pub get-restrict : (s : FinMap key_cmp Row) (a : Asked) (q : Key) → get (restrict s a) q ≡ option_and_then (λ r. cond (asks_for a r) (Some r) None) (get s q)

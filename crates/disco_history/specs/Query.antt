@@ -1,8 +1,8 @@
 -- Which records a query asks for (Eureka's REST operations).
-use Rattle.std.specs.Prelude.{ℕ, Bool, true, false, not, ◌==◌, ◌&&◌, List, [], ◌∷◌, length, filter, if◌then◌else◌, Some, None, option_and_then}
+use Rattle.std.specs.Prelude.{ℕ, Bool, true, false, not, ◌==◌, ◌&&◌, List, [], ◌∷◌, length, filter, if◌then◌else◌, slice_get, Option, Some, None, option_and_then}
 use Rattle.std.specs.List.{list_any, onto_first}
 use Rattle.std.specs.Str.{bytes_eq}
-use Rattle.std.specs.FinMap.{FinMap, get, keys, len}
+use Rattle.std.specs.FinMap.{FinMap, get, keys, len, values}
 use Rattle.disco_instance.specs.Key.{key_cmp, same_key}
 use Rattle.disco_instance.specs.Row.{Row}
 use Rattle.disco_instance.specs.declared.key.Key.{Key}
@@ -46,3 +46,7 @@ may_be_empty (of_key k) = false
 -- absent: no record is asked for, and the query wants one
 abbrev pub is_absent : FinMap key_cmp Row → Asked → Bool
 is_absent s q = (len (restrict s q) == 0) && not (may_be_empty q)
+
+-- the record of that id with the least app: the first in the order of keys
+abbrev pub by_id : FinMap key_cmp Row → List ℕ → Option Row
+by_id s id = slice_get (filter (λ r. bytes_eq r.key.id id) (values s)) 0
