@@ -1,4 +1,5 @@
 mod Histories
 mod Places
 mod Readies
+mod Runs
 mod Searches

@@ -16,7 +16,7 @@ use Rattle.disco_registry.specs.Held.{entry_of}
 use Rattle.disco_history.proofs.Keys.{keys_total, exact_keys, same_is}
 use Rattle.std.proofs.lemmas.List.{length-map}
 use Rattle.disco_registry.specs.List.{by_key, AreSorted, map_of, ComesAfter, IsAt, IsGap}
-use Rattle.disco_registry.proofs.Searches.{both_first, both_second, is_less}
+use Rattle.disco_history.proofs.Sorted.{both, both_first, both_second, is_less, none_below}
 
 abbrev mapped : {A B : Type 0} → (A → B) → List A → List B
 mapped f xs = list.map f xs
@@ -65,10 +65,6 @@ find_at (x ∷ xs) k (suc i) d at =
 
 -- ---- a record is missing, or goes out
 
-both : (a b : Bool) → T a → T b → T (a && b)
-both true b p q = q
-both false b p q = p
-
 -- what comes before a key comes before all above it
 below_less : (k x : Key) (es : List (Key × Entry)) → key_cmp k x ≡ Less → T (below_all key_cmp x es) → T (below_all key_cmp k es)
 below_less k x [] p h = tt
@@ -77,10 +73,6 @@ below_less k x (e ∷ es) p h = both _ _ (subst (λ o. T (is_lt o)) (sym (keys_t
 below_tied : (k x : Key) (es : List (Key × Entry)) → key_cmp k x ≡ Equal → T (below_all key_cmp x es) → T (below_all key_cmp k es)
 below_tied k x [] p h = tt
 below_tied k x (e ∷ es) p h = both _ _ (subst (λ o. T (is_lt o)) (sym (keys_total.congr k x e.0 p)) (both_first _ _ h)) (below_tied k x es p (both_second _ _ h))
-
-none_below : (k : Key) (es : List (Key × Entry)) → T (below_all key_cmp k es) → find key_cmp k es ≡ None
-none_below k [] h = refl
-none_below k (e ∷ es) h = ap (λ o. cond (is_eq o) (Some e.1) (find key_cmp k es)) (is_less (key_cmp k e.0) (both_first _ _ h)) ∙ none_below k es (both_second _ _ h)
 
 all_kept : (k : Key) (es : List (Key × Entry)) → T (below_all key_cmp k es) → where_key key_cmp (λ x. not (eq_by_cmp key_cmp k x)) es ≡ es
 all_kept k [] h = refl

@@ -9,21 +9,9 @@ use Rattle.std.specs.FinMap.Entries.{below_all}
 use Rattle.disco_instance.specs.Key.{key_cmp}
 use Rattle.disco_instance.specs.declared.key.Key.{Key}
 use Rattle.disco_history.proofs.Keys.{keys_total}
+use Rattle.disco_history.proofs.Sorted.{both_first, both_second, is_less}
 use Rattle.disco_registry.specs.declared.held.Held.{Held}
 use Rattle.disco_registry.specs.List.{AreSorted, by_key, IsAt, IsGap}
-
-pub both_first : (a b : Bool) → T (a && b) → T a
-both_first true b h = tt
-both_first false b h = h
-
-pub both_second : (a b : Bool) → T (a && b) → T b
-both_second true b h = h
-both_second false b h = absurd h
-
-pub is_less : (o : Ordering) → T (is_lt o) → o ≡ Less
-is_less Less h = refl
-is_less Equal h = absurd h
-is_less Greater h = absurd h
 
 abbrev key_at : List Held → ℕ → Held → Key
 key_at hs i d = (get_or hs i d).rec.value.key
@@ -44,7 +32,7 @@ rises (x ∷ hs) (suc i) (suc j) d sorted lt inside = rises hs i j d (both_secon
 turned : (a b : Key) (o : Ordering) → key_cmp a b ≡ o → key_cmp b a ≡ ordering_reverse o
 turned a b o e = keys_total.antisymm b a ∙ ap ordering_reverse e
 
-apart : (i j : ℕ) → i ≤ j → (i ≡ j) ⊎ (i < j)
+pub apart : (i j : ℕ) → i ≤ j → (i ≡ j) ⊎ (i < j)
 apart zero zero le = inl refl
 apart zero (suc j) le = inr (omega arith)
 apart (suc i) zero le = absurd (omega (arith, le))

@@ -1,4 +1,5 @@
 pub mod Accept
+pub mod Apps
 pub mod Commit
 pub mod Held
 pub mod List

@@ -4,6 +4,7 @@
 //! records it holds and whose length is its version.
 #![tactic(auto)]
 
+mod apps;
 mod held;
 mod list;
 mod op;

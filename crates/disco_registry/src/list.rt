@@ -1,12 +1,14 @@
 //! Held records in the order of their keys.
-ghost use Rattle.std.specs.Prelude.{◌≡◌, ◌<◌, IfOk, IfErr, IfSome, OnOk, None, map};
+ghost use Rattle.std.specs.Prelude.{◌≡◌, ◌<◌, IfOk, IfErr, IfSome, OnOk, None, filter, map, option_map};
 ghost use Rattle.std.specs.FinMap as finmap;
 ghost use Rattle.std.specs.FinMap.{values};
+ghost use Rattle.disco_registry.specs.Apps.{is_of_app};
 ghost use Rattle.disco_registry.specs.Held.{entry_of, record_at, seen_record};
 ghost use Rattle.disco_registry.specs.List.{AreSorted, IsAt, IsGap};
 
+use crate::apps::run_of_app;
 use crate::held::Held;
-use disco_instance::{Key, Record};
+use disco_instance::{Key, Record, Text};
 use std::alloc::{AllocError, Global};
 use std::marker::Model;
 
@@ -56,6 +58,24 @@ impl RecordList {
             Ok(i) => Some(&*self.records[i].rec),
             Err(_) => None,
         }
+    }
+
+    /// The record of a key, with what its last change did.
+    pub(crate) fn held(&self, key: &Key) -> Option<&Held>
+        ensures found { option_map (λ h. entry_of h.now) result ≡ finmap.get self.now.held key.now }
+        ensures same_key { IfSome result (λ h. h.now.rec.value.key ≡ key.now) }
+    {
+        match place(&self.records, key) {
+            Ok(i) => Some(&self.records[i]),
+            Err(_) => None,
+        }
+    }
+
+    /// The records of an app, in the order of their ids.
+    pub(crate) fn of_app(&self, app: &Text) -> &[Held]
+        ensures { map entry_of result.now ≡ filter (is_of_app app.now) (values self.now.held) }
+    {
+        run_of_app(&self.records, app)
     }
 
     pub(crate) fn len(&self) -> usize

@@ -1,5 +1,5 @@
 //! The registry.
-ghost use Rattle.std.specs.Prelude.{◌≡◌, ◌<◌, ◌^◌, ◌&&◌, not, nat_lt, List, [], map, IfOk, IfErr, None, Some, Ok, option_map};
+ghost use Rattle.std.specs.Prelude.{◌≡◌, ◌<◌, ◌^◌, ◌&&◌, not, nat_lt, List, [], map, IfOk, IfErr, IfSome, None, Some, Ok, filter, option_map};
 ghost use Rattle.std.specs.FinMap.{get, len, values};
 ghost use Rattle.disco_instance.specs.Moments.{modified_at};
 ghost use Rattle.disco_instance.specs.Row.{row};
@@ -8,11 +8,13 @@ ghost use Rattle.disco_instance.specs.declared.fault.Fault.TheVariants.{OutOfMem
 ghost use Rattle.disco_history.specs.Change.{Entry, seen};
 ghost use Rattle.disco_history.specs.Registry.{put_of};
 ghost use Rattle.disco_registry.specs.Accept.{Refuses, accepts, is_new, limits_of, status_given};
+ghost use Rattle.disco_registry.specs.Apps.{first_of_id, is_of_app};
 ghost use Rattle.disco_registry.specs.Commit.{change_in, IsReady, IsReadyFor, Takes, done_by, extended, outcome};
 ghost use Rattle.disco_registry.specs.Held.{entry_of, record_at, seen_record};
 ghost use Rattle.disco_registry.specs.Op.{ask_of, register, cancel, renew, set_status, drop_status, add_metadata};
 ghost use Rattle.disco_registry.specs.State.{IsSame, StandsFor, State};
 
+use crate::apps::first_of_id;
 use crate::held::Held;
 use crate::list::RecordList;
 use crate::op::{Applied, Op};
@@ -149,6 +151,40 @@ impl Registry {
         ensures { seen_record result ≡ record_at self.now.held key.now }
     {
         self.records.get(key)
+    }
+
+    /// The record under a key, with what its last change did.
+    pub fn held(&self, key: &Key) -> Option<&Held>
+        ensures found { option_map (λ h. entry_of h.now) result ≡ get self.now.held key.now }
+        ensures same_key { IfSome result (λ h. h.now.rec.value.key ≡ key.now) }
+    {
+        self.records.held(key)
+    }
+
+    /// The record of an id, with what its last change did: of several apps' the one with the least
+    /// app, in byte order.
+    pub fn held_by_id(&self, id: &str) -> Option<&Held>
+        ensures { option_map (λ h. entry_of h.now) result ≡ first_of_id id.now (values self.now.held) }
+    {
+        first_of_id(self.records.as_slice(), id)
+    }
+
+    /// The record of an id: of several apps' the one with the least app, in byte order.
+    pub fn by_id(&self, id: &str) -> Option<&Record>
+        ensures { seen_record result ≡ option_map (λ e. e.0) (first_of_id id.now (values self.now.held)) }
+    {
+        match self.held_by_id(id) {
+            Some(held) => Some(&*held.rec),
+            None => None,
+        }
+    }
+
+    /// The records of an app in the order of their ids. It costs nothing for those of other apps,
+    /// but for the search.
+    pub fn of_app(&self, app: &Text) -> &[Held]
+        ensures { map entry_of result.now ≡ filter (is_of_app app.now) (values self.now.held) }
+    {
+        self.records.of_app(app)
     }
 
     /// How many instances are held.
