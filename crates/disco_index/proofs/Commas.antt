@@ -1,20 +1,15 @@
 -- The vips of an address, piece by piece.
 use Rattle.std.proofs.Common.{◌≡◌, ℕ, ◌<◌, ◌==◌, Bool, true, false, not, cond, List, [], ◌∷◌, length, filter, refl, sym, ap, ◌∙◌, arith}
-use Rattle.std.specs.List.{slice_split, onto_first as glued, before_first, after_first, position_or_len}
+use Rattle.std.specs.List.{slice_split, onto_first, before_first, after_first, position_or_len}
 use Rattle.std.proofs.lemmas.List.Splits.{slice_split_first, slice_split_none}
 use Rattle.std.proofs.lemmas.List.Sums.{fails_before_first}
-use Rattle.disco_history.specs.Query.{between_commas, onto_first, vips}
+use Rattle.disco_history.specs.Query.{between_commas, vips}
 
 abbrev pub is_comma : ℕ → Bool
 is_comma b = b == 44
 
-same_first : (c : ℕ) (ps : List (List ℕ)) → onto_first c ps ≡ glued c ps
-same_first c [] = refl
-same_first c (p ∷ ps) = refl
-
-same_cut : (c : ℕ) (ps qs : List (List ℕ)) (b : Bool) → ps ≡ qs → cond b ([] ∷ ps) (onto_first c ps) ≡ cond b ([] ∷ qs) (glued c qs)
-same_cut c ps qs true e = ap (λ x. [] ∷ x) e
-same_cut c ps qs false e = ap (onto_first c) e ∙ same_first c qs
+same_cut : (c : ℕ) (ps qs : List (List ℕ)) (b : Bool) → ps ≡ qs → cond b ([] ∷ ps) (onto_first c ps) ≡ cond b ([] ∷ qs) (onto_first c qs)
+same_cut c ps qs b e = ap (λ xs. cond b ([] ∷ xs) (onto_first c xs)) e
 
 by_split : (s : List ℕ) → between_commas s ≡ slice_split is_comma s
 by_split [] = refl

@@ -10,6 +10,7 @@ mod places;
 mod vips;
 
 pub use counts::Counts;
+pub use next_vip::has_vip;
 pub use vips::VipIndex;
 
 #[cfg(test)]
