@@ -1,13 +1,14 @@
 -- A written document tells the instances in their order.
-use Rattle.std.proofs.Common.{◌≡◌, ℕ, Bool, true, false, cond, List, [], ◌∷◌, ◌++◌, map, Option, Some, refl, ap, sym, ◌∙◌}
+use Rattle.std.proofs.Common.{◌≡◌, ℕ, Bool, true, false, cond, List, [], ◌∷◌, ◌++◌, map, Option, Some, None, refl, ap, sym, ◌∙◌}
 use Rattle.std.specs.List.{AllByRecursion}
 use Rattle.std.specs.Str.{bytes_eq}
 use Rattle.serde_json.specs.Data.{Data}
 use Rattle.serde_json.specs.View.{items_of}
-use Rattle.disco_wire.specs.Meaning.{told_in, told_item, all_told, meaning_of, list_of}
+use Rattle.disco_wire.specs.Meaning.{told_in, told_item, all_told, meaning_of, meant, list_of}
+use Rattle.disco_wire.specs.declared.wire.Shape.TheVariants.{App, One}
 use Rattle.disco_history.specs.Change.{Entry}
 use Rattle.disco_instance.specs.Row.{IsWellFormed}
-use Rattle.disco_writer.specs.Trees.{instance_tree, app_tree, document_tree, by_app, with_first}
+use Rattle.disco_writer.specs.Trees.{instance_tree, app_tree, document_tree, by_app, with_first, app_document, instance_document}
 use Rattle.disco_history.specs.Mentions.{mention_of}
 use Rattle.disco_writer.specs.Laws.{DocumentLaw}
 use Rattle.disco_writer.proofs.Again.{digits_again}
@@ -75,3 +76,11 @@ unfolding meaning_of document_tree
 document_law es hash version all small =
     let apps = apps_told (by_app es) (fit_by_app es all) in
     rw (list_of_items (map app_tree (by_app es)), apps, flat_by_app es, digits_again version small) refl
+
+pub app_law : (name : List ℕ) (es : List Entry) → Fit es → meaning_of (app_document name es) ≡ Some (meant App None None (map mention_of es))
+unfolding meaning_of app_document
+app_law name es all = rw (list_of_items (map instance_tree es), instances_told (Some name) es all) refl
+
+pub one_law : (e : Entry) → IsWellFormed e.0 → meaning_of (instance_document (e ∷ [])) ≡ Some (meant One None None (mention_of e ∷ []))
+unfolding meaning_of instance_document instance_tree
+one_law e is = rw (instance_law e None is) refl

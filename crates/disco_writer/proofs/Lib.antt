@@ -5,3 +5,4 @@ mod Instances
 pub mod Metadata
 mod Runs
 mod Texts
+mod Written

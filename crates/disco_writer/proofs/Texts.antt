@@ -6,14 +6,10 @@ use Rattle.serde_json.specs.Read.{max_depth, read}
 use Rattle.serde_json.specs.View.{items_of}
 use Rattle.serde_json.specs.Written.{compact_text, has_float, items_have_float, members_have_float}
 use Rattle.disco_history.specs.Change.{Entry}
-use Rattle.disco_history.specs.Mentions.{mention_of}
 use Rattle.disco_wire.specs.Documents.{document_of, meant_by}
-use Rattle.disco_wire.specs.Meaning.{meant, or_bad}
-use Rattle.disco_wire.specs.declared.wire.Shape.TheVariants.{Many}
+use Rattle.disco_wire.specs.Meaning.{Meaning, meaning_of, or_bad}
 use Rattle.disco_wire.proofs.Trees.{tree_read}
-use Rattle.disco_writer.specs.Rows.{AreWellFormed}
-use Rattle.disco_writer.specs.Trees.{metadata_members, instance_tree, app_tree, by_app, document_tree}
-use Rattle.disco_writer.proofs.Documents.{document_law}
+use Rattle.disco_writer.specs.Trees.{metadata_members, instance_tree, app_tree, by_app, document_tree, app_document, instance_document}
 
 metadata_depth : (es : List (List ℕ × List ℕ)) → members_depth (metadata_members es) ≡ 0
 metadata_depth [] = refl
@@ -55,15 +51,28 @@ pub document_plain : (es : List Entry) (hash : List ℕ) (version : ℕ) → has
 unfolding document_tree
 document_plain es hash version = rw (apps_plain (by_app es)) refl
 
-pub text_of : (d : Data) (es : List Entry) (hash : List ℕ) (version : ℕ) (bytes text : List ℕ) → d ≡ document_tree es hash version → bytes ≡ text
-    → (has_float d ≡ false → text ≡ compact_text d) → bytes ≡ compact_text (document_tree es hash version)
-text_of d es hash version bytes text e same h = same ∙ subst (λ x. has_float x ≡ false → text ≡ compact_text x) e h (document_plain es hash version)
+app_plain : (g : List ℕ × List Entry) → has_float (app_tree g) ≡ false
+app_plain g = rw (instances_plain g.1) refl
 
--- a written document means what was written
-pub means_of : (d : Data) (es : List Entry) (hash : List ℕ) (version : ℕ) (bytes text : List ℕ) → d ≡ document_tree es hash version → bytes ≡ text → IsUtf8 text
-    → (depth d ≤ max_depth → read text ≡ Some d) → AreWellFormed es → version < 2 ^ 64
-    → document_of bytes ≡ Ok (meant Many (Some hash) (Some version) (map mention_of es))
-means_of d es hash version bytes text e same utf8 reads rows small =
-    let again = subst (λ x. depth x ≤ max_depth → read text ≡ Some x) e reads (document_depth es hash version) in
-    let tree = tree_read bytes (document_tree es hash version) (subst IsUtf8 (sym same) utf8) (ap read same ∙ again) in
-    ap meant_by tree ∙ ap or_bad (document_law es hash version rows small)
+app_depth : (g : List ℕ × List Entry) → depth (app_tree g) ≤ 4
+app_depth g = omega (arith, instances_depth g.1)
+
+pub app_document_plain : (name : List ℕ) (es : List Entry) → has_float (app_document name es) ≡ false
+unfolding app_document
+app_document_plain name es = rw (app_plain (name, es)) refl
+
+pub app_document_depth : (name : List ℕ) (es : List Entry) → depth (app_document name es) ≤ max_depth
+unfolding app_document
+app_document_depth name es = omega (arith, app_depth (name, es))
+
+pub instance_document_plain : (e : Entry) → has_float (instance_document (e ∷ [])) ≡ false
+unfolding instance_document
+instance_document_plain e = rw (instance_plain e) refl
+
+pub instance_document_depth : (e : Entry) → depth (instance_document (e ∷ [])) ≤ max_depth
+unfolding instance_document
+instance_document_depth e = omega (arith, instance_depth e)
+
+-- what is read of a text that reads back as its tree
+pub read_again : (d : Data) (m : Meaning) (bytes text : List ℕ) → bytes ≡ text → IsUtf8 text → read text ≡ Some d → meaning_of d ≡ Some m → document_of bytes ≡ Ok m
+read_again d m bytes text same utf8 reads is = ap meant_by (tree_read bytes d (subst IsUtf8 (sym same) utf8) (ap read same ∙ reads)) ∙ ap or_bad is

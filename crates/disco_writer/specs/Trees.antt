@@ -9,6 +9,8 @@ use Rattle.disco_instance.specs.Status.{status_name}
 use Rattle.disco_instance.specs.declared.data_center.DataCenter.{DataCenter}
 use Rattle.disco_instance.specs.declared.port.Port.{Port}
 use Rattle.disco_history.specs.Change.{Entry}
+use Rattle.disco_history.specs.Hash.{hash}
+use Rattle.disco_history.specs.Query.{Asked, all, of_app, of_vip, of_secure_vip, of_key}
 
 -- members in this order
 abbrev pub in_order : List (List ℕ × Data) → Members
@@ -103,6 +105,23 @@ many_tree apps hash version = tree ((
       (codes "versions__delta", digits version) ∷ []),
 ) ∷ [])
 
--- the document of all apps
+-- a document of many apps
 unfoldable pub document_tree : List Entry → List ℕ → ℕ → Data
 document_tree es hash version = many_tree (map app_tree (by_app es)) hash version
+
+-- the document of one app
+unfoldable pub app_document : List ℕ → List Entry → Data
+app_document name es = tree ((codes "application", app_tree (name, es)) ∷ [])
+
+-- the document of one instance
+unfoldable pub instance_document : List Entry → Data
+instance_document [] = tree []
+instance_document (e ∷ es) = tree ((codes "instance", instance_tree e) ∷ [])
+
+-- the document of these instances, which are all that is asked for
+abbrev pub tree_of : Asked → List Entry → ℕ → Data
+tree_of all es version = document_tree es (hash (map (λ e. e.0) es)) version
+tree_of (of_app name) es version = app_document name es
+tree_of (of_vip vip) es version = document_tree es (hash (map (λ e. e.0) es)) version
+tree_of (of_secure_vip vip) es version = document_tree es (hash (map (λ e. e.0) es)) version
+tree_of (of_key k) es version = instance_document es

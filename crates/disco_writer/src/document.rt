@@ -1,145 +1,123 @@
-//! The document of all apps.
-ghost use Rattle.std.specs.Prelude.{◌≡◌, ◌≤◌, List, IfOk, IfErr, Ok, map, length};
-ghost use Rattle.std.specs.FinMap.{values};
-ghost use Rattle.std.specs.List.{prefix_len};
-ghost use Rattle.serde_json.specs.View.{view};
+//! The document that a query asks for.
+ghost use Rattle.std.specs.Prelude.{◌≡◌, ◌<◌, List, IfOk, IfErr, MatchOption, Ok, Some, false, length, map, option_map};
 ghost use Rattle.serde_json.specs.Written.{compact_text};
 ghost use Rattle.disco_instance.specs.declared.fault.Fault.TheVariants.{OutOfMemory};
-ghost use Rattle.disco_instance.specs.declared.form.Form.TheVariants.{Full};
 ghost use Rattle.disco_history.specs.Change.{Entry};
 ghost use Rattle.disco_history.specs.Hash.{hash};
 ghost use Rattle.disco_history.specs.Mentions.{mention_of};
+ghost use Rattle.disco_history.specs.Query.{all, of_app, of_vip, of_secure_vip, of_key};
 ghost use Rattle.disco_index.specs.Tally.{tally_in};
+ghost use Rattle.disco_index.specs.Vips.{IsIndexOf};
 ghost use Rattle.disco_registry.specs.State.{StandsFor};
 ghost use Rattle.disco_wire.specs.Documents.{document_of};
 ghost use Rattle.disco_wire.specs.Meaning.{meant};
 ghost use Rattle.disco_wire.specs.declared.wire.Shape.TheVariants.{Many};
-ghost use Rattle.disco_writer.specs.Documents.{apps_meant};
-ghost use Rattle.disco_writer.specs.Rows.{entries_of, is_of, AreWellFormed};
-ghost use Rattle.disco_writer.specs.Trees.{instance_tree, app_tree, by_app, many_tree, document_tree, app_of};
+ghost use Rattle.disco_writer.specs.Documents.{IsWritten, asked_by, is_delta};
+ghost use Rattle.disco_writer.specs.Rows.{entries_of, rows_in};
+ghost use Rattle.disco_writer.specs.Trees.{document_tree};
 
-use crate::instance::{digits_value, instance_value};
-use disco_index::Counts;
-use disco_index::laws::hash_law;
-use disco_instance::{Fault, Text, well_formed};
+use crate::many::many_text;
+use crate::query::Query;
+use crate::selected::{count, held_under_svip, held_under_vip};
+use crate::single::{app_text, instance_text};
+use disco_index::laws::{hash_law, under_vip_law};
+use disco_index::{Counts, VipIndex};
+use disco_instance::{Fault, Key, Text};
 use disco_registry::{Held, Registry};
-use serde_json::{Value, json};
-use std::alloc::{AllocError, Global};
+use std::alloc::Global;
 
-/// The document of all apps in the full form: the body of Eureka's `GET /apps`, as compact JSON.
-/// The counts have to be those of the registry. Refused only as `OutOfMemory`.
-pub fn write_apps(alloc: Global, registry: &Registry, counts: &Counts) -> Result<Vec<u8>, Fault>
+/// The document that a query asks for, in the full form, as compact JSON; `None` exactly where the
+/// query is for an app, a vip, a secure vip or an instance, and no record is. Of a delta there is
+/// none yet. The counts and the vips have to be those of the registry. Refused only as
+/// `OutOfMemory`.
+pub fn write_full(
+    alloc: Global,
+    query: &Query,
+    registry: &Registry,
+    vips: &VipIndex,
+    counts: &Counts,
+) -> Result<Option<Vec<u8>>, Fault>
+    requires counts { counts.now ≡ tally_in registry.now.held }
+    requires vips { IsIndexOf vips.now registry.now.held }
+    requires no_delta { is_delta query.now ≡ false }
+    ensures written { IfOk result (λ o. (h : List Entry) → StandsFor registry.now h → IsWritten (asked_by query.now) h (option_map (λ v. v.items) o)) }
+    ensures memory { IfErr result (λ e. e ≡ OutOfMemory) }
+{
+    match query {
+        Query::Apps => Ok(Some(write_apps(alloc, registry, counts)?)),
+        Query::Delta => Ok(None),
+        Query::App(name) => write_app(alloc, registry, name),
+        Query::Vip(vip) => write_vip(alloc, registry, vips, vip),
+        Query::Svip(svip) => write_svip(alloc, registry, svip),
+        Query::Instance(key) => write_instance(alloc, registry, key),
+    }
+}
+
+fn write_apps(alloc: Global, registry: &Registry, counts: &Counts) -> Result<Vec<u8>, Fault>
     requires { counts.now ≡ tally_in registry.now.held }
-    ensures text { IfOk result (λ v. let es = values registry.now.held in v.items ≡ compact_text (document_tree es (hash (map (λ e. e.0) es)) registry.now.version)) }
-    ensures means { IfOk result (λ v. (h : List Entry) → StandsFor registry.now h → document_of v.items ≡ Ok (apps_meant Full h)) }
+    ensures written { IfOk result (λ v. (h : List Entry) → StandsFor registry.now h → IsWritten all h (Some v.items)) }
     ensures memory { IfErr result (λ e. e ≡ OutOfMemory) }
 {
     hash_law();
     let hash = counts.text(alloc)?;
-    Ok(write_document(alloc, registry.records(), &hash, registry.version())?)
+    Ok(many_text(alloc, registry.records(), &hash, registry.version())?)
 }
 
-fn write_document(
-    alloc: Global,
-    held: &[Held],
-    hash: &Text,
-    version: u64,
-) -> Result<Vec<u8>, AllocError>
-    ensures text { IfOk result (λ v. v.items ≡ compact_text (document_tree (entries_of held.now) hash.now version)) }
-    ensures means { IfOk result (λ v. document_of v.items ≡ Ok (meant Many (Some hash.now) (Some version) (map mention_of (entries_of held.now)))) }
+fn write_app(alloc: Global, registry: &Registry, name: &Text) -> Result<Option<Vec<u8>>, Fault>
+    ensures written { IfOk result (λ o. (h : List Entry) → StandsFor registry.now h → IsWritten (of_app name.now) h (option_map (λ v. v.items) o)) }
+    ensures memory { IfErr result (λ e. e ≡ OutOfMemory) }
 {
-    let tree = document_value(alloc, held, hash, version)?;
-    let text = tree.to_string(alloc)?;
-    let _utf8 = text.as_str();
-    Ok(text.into_bytes())
-}
-
-#[tactic(auto, unfolding(crate::specs::Trees::document_tree))]
-fn document_value(
-    alloc: Global,
-    held: &[Held],
-    hash: &Text,
-    version: u64,
-) -> Result<Value, AllocError>
-    ensures tree { IfOk result (λ v. view v ≡ document_tree (entries_of held.now) hash.now version) }
-    ensures rows { IfOk result (λ _. AreWellFormed (entries_of held.now)) }
-{
-    let list = apps(alloc, held)?;
-    many_value(alloc, list, hash, version)
-}
-
-fn many_value(
-    alloc: Global,
-    list: Vec<Value>,
-    hash: &Text,
-    version: u64,
-) -> Result<Value, AllocError>
-    ensures { IfOk result (λ v. view v ≡ many_tree (map view list.items) hash.now version) }
-{
-    let digits = digits_value(alloc, version)?;
-    json!(in alloc; {"applications": {
-        "application": list,
-        "apps__hashcode": hash.as_str(),
-        "versions__delta": digits,
-    }})
-}
-
-fn apps(alloc: Global, held: &[Held]) -> Result<Vec<Value>, AllocError>
-    ensures trees { IfOk result (λ v. map view v.items ≡ map app_tree (by_app (entries_of held.now))) }
-    ensures rows { IfOk result (λ _. AreWellFormed (entries_of held.now)) }
-{
-    let mut list = Vec::new(alloc);
-    let mut rest = held;
-    while let Some(first) = rest.first() {
-        let app = app_name(first);
-        let (group, after) = rest.split_at(run_len(rest, app));
-        list.push(app_value(alloc, app, group)?)?;
-        rest = after;
+    let held = registry.of_app(name);
+    if held.is_empty() {
+        return Ok(None);
     }
-    Ok(list)
+    Ok(Some(app_text(alloc, name, held)?))
 }
 
-fn app_name(held: &Held) -> &Text
-    ensures { result.now ≡ held.now.rec.value.key.app }
+/// The document of some records, with the hash code of these alone; none where there are none.
+fn write_some(alloc: Global, held: &[Held], version: u64) -> Result<Option<Vec<u8>>, Fault>
+    ensures written { IfOk result (λ o. MatchOption o (length held.now ≡ 0) (λ v. (0 < length held.now)
+        × (v.items ≡ compact_text (document_tree (entries_of held.now) (hash (rows_in (entries_of held.now))) version))
+        × (document_of v.items ≡ Ok (meant Many (Some (hash (rows_in (entries_of held.now)))) (Some version) (map mention_of (entries_of held.now)))))) }
+    ensures memory { IfErr result (λ e. e ≡ OutOfMemory) }
 {
-    &held.rec.key.app
-}
-
-/// How many records at the front are of the app.
-fn run_len(held: &[Held], app: &Text) -> usize
-    ensures run { result ≡ prefix_len (is_of app.now) held.now }
-    ensures within { result ≤ length held.now }
-{
-    for i in 0..held.len() {
-        if *app_name(&held[i]) != *app {
-            return i;
-        }
+    if held.is_empty() {
+        return Ok(None);
     }
-    held.len()
+    hash_law();
+    let hash = count(held).text(alloc)?;
+    Ok(Some(many_text(alloc, held, &hash, version)?))
 }
 
-fn app_value(alloc: Global, name: &Text, held: &[Held]) -> Result<Value, AllocError>
-    ensures tree { IfOk result (λ v. view v ≡ app_tree (name.now, entries_of held.now)) }
-    ensures rows { IfOk result (λ _. AreWellFormed (entries_of held.now)) }
+fn write_vip(
+    alloc: Global,
+    registry: &Registry,
+    vips: &VipIndex,
+    vip: &Text,
+) -> Result<Option<Vec<u8>>, Fault>
+    requires { IsIndexOf vips.now registry.now.held }
+    ensures written { IfOk result (λ o. (h : List Entry) → StandsFor registry.now h → IsWritten (of_vip vip.now) h (option_map (λ v. v.items) o)) }
+    ensures memory { IfErr result (λ e. e ≡ OutOfMemory) }
 {
-    let list = instances(alloc, held)?;
-    one_app(alloc, name, list)
+    under_vip_law();
+    let held = held_under_vip(alloc, registry, vips, vip)?;
+    Ok(write_some(alloc, held.as_slice(), registry.version())?)
 }
 
-fn one_app(alloc: Global, name: &Text, list: Vec<Value>) -> Result<Value, AllocError>
-    ensures { IfOk result (λ v. view v ≡ app_of (map view list.items) name.now) }
+fn write_svip(alloc: Global, registry: &Registry, svip: &Text) -> Result<Option<Vec<u8>>, Fault>
+    ensures written { IfOk result (λ o. (h : List Entry) → StandsFor registry.now h → IsWritten (of_secure_vip svip.now) h (option_map (λ v. v.items) o)) }
+    ensures memory { IfErr result (λ e. e ≡ OutOfMemory) }
 {
-    json!(in alloc; {"instance": list, "name": name.as_str()})
+    let held = held_under_svip(alloc, registry, svip)?;
+    Ok(write_some(alloc, held.as_slice(), registry.version())?)
 }
 
-fn instances(alloc: Global, held: &[Held]) -> Result<Vec<Value>, AllocError>
-    ensures trees { IfOk result (λ v. map view v.items ≡ map instance_tree (entries_of held.now)) }
-    ensures rows { IfOk result (λ _. AreWellFormed (entries_of held.now)) }
+fn write_instance(alloc: Global, registry: &Registry, key: &Key) -> Result<Option<Vec<u8>>, Fault>
+    ensures written { IfOk result (λ o. (h : List Entry) → StandsFor registry.now h → IsWritten (of_key key.now) h (option_map (λ v. v.items) o)) }
+    ensures memory { IfErr result (λ e. e ≡ OutOfMemory) }
 {
-    let mut list = Vec::new(alloc);
-    for one in held {
-        well_formed(&one.rec);
-        list.push(instance_value(alloc, &one.rec, one.action)?)?;
+    match registry.held(key) {
+        Some(held) => Ok(Some(instance_text(alloc, held)?)),
+        None => Ok(None),
     }
-    Ok(list)
 }

@@ -6,5 +6,13 @@
 mod document;
 mod instance;
 pub mod laws;
+mod many;
+mod query;
+mod selected;
+mod single;
+#[cfg(test)]
+mod tests;
+mod text;
 
-pub use document::write_apps;
+pub use document::write_full;
+pub use query::Query;

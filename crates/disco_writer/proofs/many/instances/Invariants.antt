@@ -2,7 +2,7 @@ use Rattle.std.proofs.Common.{◌≡◌, ◌++◌, map, drop}
 use Rattle.serde_json.specs.View.{view}
 use Rattle.disco_writer.specs.Trees.{instance_tree}
 use Rattle.disco_writer.specs.Rows.{entries_of, AreWellFormed}
-use Rattle.disco_writer.proofs.document.instances.Given as goal
+use Rattle.disco_writer.proofs.many.instances.Given as goal
 
 abbrev pub invariant-loop-one : goal.invariant-loop-one
 invariant-loop-one l = record {

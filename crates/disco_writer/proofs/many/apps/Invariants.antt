@@ -2,7 +2,7 @@ use Rattle.std.proofs.Common.{◌≡◌, ◌++◌, map, length}
 use Rattle.serde_json.specs.View.{view}
 use Rattle.disco_writer.specs.Trees.{app_tree, by_app}
 use Rattle.disco_writer.specs.Rows.{entries_of, AreWellFormed}
-use Rattle.disco_writer.proofs.document.apps.Given as goal
+use Rattle.disco_writer.proofs.many.apps.Given as goal
 
 abbrev pub decreases-loop-first : goal.decreases-loop-first
 decreases-loop-first l = length l.rest

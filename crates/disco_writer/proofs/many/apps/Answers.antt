@@ -1,6 +1,6 @@
 use Rattle.std.proofs.Common.{sym}
 use Rattle.disco_writer.proofs.Runs.{apps_more, rows_group}
-use Rattle.disco_writer.proofs.document.apps.Goals as goal
+use Rattle.disco_writer.proofs.many.apps.Goals as goal
 
 pub loop-first-preserved : goal.loop-first-preserved
 loop-first-preserved c =

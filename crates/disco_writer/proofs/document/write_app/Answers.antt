@@ -1,0 +1,29 @@
+use Rattle.std.proofs.Common.{ℕ, List, length, map, filter, refl, ap, sym, ◌≡◌, ◌<◌, ◌∙◌, arith}
+use Rattle.std.proofs.lemmas.Bool.Decides.{nat_tests}
+use Rattle.std.proofs.lemmas.List.{length-map}
+use Rattle.std.specs.FinMap.{FinMap, values}
+use Rattle.disco_instance.specs.Key.{key_cmp}
+use Rattle.disco_history.specs.Change.{Entry}
+use Rattle.disco_history.specs.Query.{of_app}
+use Rattle.disco_history.proofs.Restrictions.{values-said_restrict}
+use Rattle.disco_registry.specs.Apps.{is_of_app}
+use Rattle.disco_registry.specs.Held.{entry_of}
+use Rattle.disco_writer.specs.Rows.{entries_of}
+use Rattle.disco_writer.proofs.Written.{none_written, some_there, some_written}
+use Rattle.disco_writer.proofs.document.write_app.Goals as goal
+
+pub returns-then-is_empty-clause-written : goal.returns-then-is_empty-clause-written
+returns-then-is_empty-clause-written c = λ h stands.
+    let name = c.args.name.now in
+    let same = c.of_app-held.ensures ∙ ap (λ (m : FinMap key_cmp Entry). filter (is_of_app name) (values m)) stands.held ∙ sym (values-said_restrict h (of_app name)) in
+    let none : length c.of_app-held.result.now ≡ 0 = grind (arith, nat_tests, c.is_empty.ensures, c.if-is_empty.true) in
+    none_written (of_app name) h (entries_of c.of_app-held.result.now) same (length-map c.of_app-held.result.now entry_of ∙ none) refl
+
+pub returns-clause-written : goal.returns-clause-written
+returns-clause-written c = λ h stands.
+    let name = c.args.name.now in
+    let held = c.of_app-held.result.now in
+    let same = c.of_app-held.ensures ∙ ap (λ (m : FinMap key_cmp Entry). filter (is_of_app name) (values m)) stands.held ∙ sym (values-said_restrict h (of_app name)) in
+    let some : 0 < length held = grind (arith, nat_tests, c.is_empty.ensures, c.if-is_empty.false) in
+    let count : length (entries_of held) ≡ length held = length-map held entry_of in
+    some_written (of_app name) h (entries_of held) same (length h) _ refl (some_there (of_app name) h (entries_of held) same (omega (arith, some, count))) c.in_ok-app_text.ensures.text c.in_ok-app_text.ensures.means

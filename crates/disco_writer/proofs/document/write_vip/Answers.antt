@@ -1,0 +1,27 @@
+use Rattle.std.proofs.Common.{◌≡◌, List, refl, ap, sym, ◌∙◌}
+use Rattle.std.specs.List.{filter_map}
+use Rattle.std.specs.FinMap.{FinMap, get}
+use Rattle.std.proofs.lemmas.List.{length-map}
+use Rattle.disco_instance.specs.Key.{key_cmp}
+use Rattle.disco_instance.specs.declared.key.Key.{Key}
+use Rattle.disco_history.specs.Change.{Entry}
+use Rattle.disco_history.specs.Query.{of_vip}
+use Rattle.disco_history.specs.Registry.{reg, said}
+use Rattle.disco_history.proofs.Restrictions.{found-restrict}
+use Rattle.disco_history.proofs.Sets.{first_of, get-said_reg}
+use Rattle.disco_index.specs.Vips.{under}
+use Rattle.disco_registry.specs.Held.{entry_of}
+use Rattle.disco_writer.specs.Documents.{mentioned}
+use Rattle.disco_writer.specs.Rows.{entries_of}
+use Rattle.disco_writer.proofs.Written.{many_written}
+use Rattle.disco_writer.proofs.document.write_vip.Goals as goal
+
+pub returns-clause-written : goal.returns-clause-written
+returns-clause-written c = λ h stands.
+    let vip = c.args.vip.now in
+    let held = c.args.registry.now.held in
+    let es = entries_of c.as_slice.result.now in
+    let keys = c.under_vip_law.ensures c.args.vips.now held (reg h) vip c.requires (λ k. sym (get-said_reg h k) ∙ ap (λ (m : FinMap key_cmp Entry). first_of (get m k)) (sym stands.held)) in
+    let same : es ≡ mentioned (of_vip vip) h =
+    ap entries_of c.as_slice.ensures.value ∙ c.in_ok-held.ensures.held ∙ ap (λ (m : FinMap key_cmp Entry). filter_map (get m) (under c.args.vips.now vip)) stands.held ∙ ap (λ (ks : List Key). filter_map (get (said h (reg h))) ks) keys ∙ found-restrict h (of_vip vip) in
+    many_written _ (of_vip vip) h es c.version.result _ c.in_ok-write_some.field-0 same (c.version.ensures.version ∙ stands.version) (sym (length-map c.as_slice.result.now entry_of)) refl refl refl c.in_ok-write_some.ensures.written

@@ -1,0 +1,77 @@
+//! The records under a vip.
+ghost use Rattle.std.specs.Prelude.{◌≡◌, IfOk, IfErr, filter, map};
+ghost use Rattle.std.specs.List.{filter_map};
+ghost use Rattle.std.specs.FinMap.{get, values};
+ghost use Rattle.disco_instance.specs.declared.fault.Fault.TheVariants.{OutOfMemory};
+ghost use Rattle.disco_history.specs.Query.{asks_for, of_secure_vip};
+ghost use Rattle.disco_index.specs.Tally.{tally_of};
+ghost use Rattle.disco_index.specs.Vips.{under};
+ghost use Rattle.disco_registry.specs.Held.{entry_of};
+ghost use Rattle.disco_writer.specs.Rows.{entries_of, rows_in};
+
+use disco_index::{Counts, VipIndex, has_vip};
+use disco_instance::{Fault, Key, Text};
+use disco_registry::{Held, Registry};
+use std::alloc::{AllocError, Global};
+
+/// The records at these keys, shared.
+fn held_at(alloc: Global, registry: &Registry, keys: &[&Key]) -> Result<Vec<Held>, AllocError>
+    ensures { IfOk result (λ v. entries_of v.items ≡ filter_map (get registry.now.held) (map (λ k. k.now) keys.now)) }
+{
+    let mut list = Vec::new(alloc);
+    for key in keys {
+        if let Some(held) = registry.held(*key) {
+            list.push(held.share()?)?;
+        }
+    }
+    Ok(list)
+}
+
+/// The records of the keys under a vip, in their order, shared. Refused only as `OutOfMemory`.
+pub(crate) fn held_under_vip(
+    alloc: Global,
+    registry: &Registry,
+    vips: &VipIndex,
+    vip: &Text,
+) -> Result<Vec<Held>, Fault>
+    ensures held { IfOk result (λ v. entries_of v.items ≡ filter_map (get registry.now.held) (under vips.now vip.now)) }
+    ensures memory { IfErr result (λ e. e ≡ OutOfMemory) }
+{
+    let keys = vips.under(alloc, vip.as_str())?;
+    Ok(held_at(alloc, registry, keys.as_slice())?)
+}
+
+fn has_svip(held: &Held, svip: &Text) -> bool
+    ensures { result ≡ asks_for (of_secure_vip svip.now) (entry_of held.now).0 }
+{
+    has_vip(held.rec.secure_vip_address.as_str(), svip.as_str())
+}
+
+/// The records with a secure vip, in the order of their keys, shared.
+pub(crate) fn held_under_svip(
+    alloc: Global,
+    registry: &Registry,
+    svip: &Text,
+) -> Result<Vec<Held>, AllocError>
+    ensures { IfOk result (λ v. entries_of v.items ≡ filter (λ e. asks_for (of_secure_vip svip.now) e.0) (values registry.now.held)) }
+{
+    let mut list = Vec::new(alloc);
+    for held in registry.records() {
+        if has_svip(held, svip) {
+            list.push(held.share()?)?;
+        }
+    }
+    Ok(list)
+}
+
+/// How many of these instances have each status.
+pub(crate) fn count(held: &[Held]) -> Counts
+    ensures { result ≡ tally_of (rows_in (entries_of held.now)) }
+{
+    let _len = held.len();
+    let mut counts = Counts::new();
+    for one in held {
+        counts.add(one.rec.status);
+    }
+    counts
+}
