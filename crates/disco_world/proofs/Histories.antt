@@ -1,5 +1,5 @@
 -- Runs of events, one event on.
-use Rattle.std.proofs.Common.{◌≡◌, ℕ, zero, suc, ◌+◌, ◌<◌, ◌≤◌, Bool, true, false, cond, List, [], ◌∷◌, ◌++◌, length, get_or, Some, None, slice_get, position, refl, sym, ap, subst, ◌∙◌, arith, length-append, add-one}
+use Rattle.std.proofs.Common.{◌≡◌, ◌≢◌, ℕ, zero, suc, ◌+◌, ◌<◌, ◌≤◌, Bool, true, false, cond, List, [], ◌∷◌, ◌++◌, length, get_or, Option, Some, None, Result, Ok, Err, IfOk, IfErr, slice_get, position, refl, sym, ap, subst, ◌∙◌, arith, length-append, add-one}
 use Rattle.std.specs.List.{position_from}
 use Rattle.std.specs.declared.alloc.Global.{Global}
 use Rattle.std.specs.declared.sync.Arc.{Arc}
@@ -8,10 +8,18 @@ use Rattle.std.proofs.lemmas.Option.{slice_get-get_or, same_Some}
 use Rattle.disco_history.specs.Change.{Entry}
 use Rattle.disco_registry.specs.Accept.{Limits, limits_of}
 use Rattle.disco_registry.specs.State.{State, StandsFor}
-use Rattle.disco_world.specs.Answers.{AreAnswers, AreServed, IsAnswer, IsTrue}
-use Rattle.disco_world.specs.Events.{after, after_at, hist}
+use Rattle.disco_cache.specs.Payloads.{IsTrue}
+use Rattle.disco_cache.specs.declared.key.DocKey.{DocKey}
+use Rattle.disco_cache.specs.declared.payload.Payload.{Payload}
+use Rattle.disco_hub.specs.Refusals.{refusal_of, refusal_of_id}
+use Rattle.disco_instance.specs.declared.fault.Fault.{Fault}
+use Rattle.disco_instance.specs.declared.fault.Fault.TheVariants.{OutOfMemory}
+use Rattle.disco_instance.specs.declared.form.Form.{Form}
+use Rattle.disco_registry.specs.Commit.{extended}
+use Rattle.disco_world.specs.Answers.{AreAnswers, AreServed, IsAnswer, reply_of}
+use Rattle.disco_world.specs.Events.{after, after_at, change_of, doc_after, done_after, hist, query_asked, ran_out, refused_as}
 use Rattle.disco_world.specs.declared.event.Event.{Event}
-use Rattle.disco_world.specs.declared.event.Payload.{Payload}
+use Rattle.disco_world.specs.declared.event.Event.TheVariants.{Register, Cancel, Renew, SetStatus, DropStatus, Metadata, Load, LoadById}
 use Rattle.disco_world.specs.declared.event.Reply.{Reply}
 use Rattle.disco_world.specs.declared.event.Reply.TheVariants.{Doc}
 
@@ -122,8 +130,39 @@ module _ (limits : Limits) (es : List Event) (rs : List Reply) (i : ℕ) (e : Ev
 
 -- ---- served documents
 
+no_change : (fault : Option Fault) → change_of (refused_as fault) ≡ None
+no_change None = refl
+no_change (Some e) = refl
+
+pub unchanged : (limits : Limits) (h : List Entry) (e : Event) (r : Reply) → change_of (done_after limits h e) ≡ None → after limits h e r ≡ h
+unchanged limits h e r none = one (ran_out r)
+  where
+    one : (b : Bool) → extended h (cond b None (change_of (done_after limits h e))) ≡ h
+    one true = refl
+    one false = ap (extended h) none
+
+pub load_unchanged : (limits : Limits) (h : List Entry) (key : DocKey) (r : Reply) → after limits h (Load key) r ≡ h
+load_unchanged limits h key r = unchanged limits h (Load key) r (no_change (refusal_of (query_asked key.query) h))
+
+pub id_unchanged : (limits : Limits) (h : List Entry) (id : List ℕ) (form : Form) (r : Reply) → after limits h (LoadById id form) r ≡ h
+id_unchanged limits h id form r = unchanged limits h (LoadById id form) r (no_change (refusal_of_id id h))
+
+-- an event that serves a document does nothing to the registry
 kept : (limits : Limits) (h : List Entry) (e : Event) (p : Arc Payload Global) → IsAnswer limits h e (Doc p) → after limits h e (Doc p) ≡ h
-kept limits h e p is = ap (λ f. after limits h f (Doc p)) is.0
+kept limits h (Register now app json) p is = absurd (let bad = is.0 in cc)
+kept limits h (Cancel now app id) p is = absurd (let bad = is.0 in cc)
+kept limits h (Renew now app id) p is = absurd (let bad = is.0 in cc)
+kept limits h (SetStatus now app id status) p is = absurd (let bad = is.0 in cc)
+kept limits h (DropStatus now app id status) p is = absurd (let bad = is.0 in cc)
+kept limits h (Metadata now app id entries) p is = absurd (let bad = is.0 in cc)
+kept limits h (Load key) p is = load_unchanged limits h key (Doc p)
+kept limits h (LoadById id form) p is = id_unchanged limits h id form (Doc p)
+
+-- what a load may answer
+pub loaded : (limits : Limits) (h : List Entry) (e : Event) (r : Result (Arc Payload Global) Fault) → IfOk r (λ p. doc_after h e ≡ Some p.value.key) → IfOk r (λ p. IsTrue p.value h) → IfOk r (λ p. p.value.version ≡ length h)
+    → IfErr r (λ f. f ≢ OutOfMemory → done_after limits h e ≡ Some (Err f)) → IsAnswer limits h e (reply_of r)
+loaded limits h e (Ok p) key is version refused = (key, is, version)
+loaded limits h e (Err f) key is version refused = refused
 
 in_range : {A : Type 0} (xs : List A) (i : ℕ) (x : A) → slice_get xs i ≡ Some x → i < length xs
 in_range [] i x is = absurd (cc)

@@ -1,3 +1,2 @@
 mod Histories
-mod Ties
 mod Writes

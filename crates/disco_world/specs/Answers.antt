@@ -13,36 +13,23 @@ use Rattle.disco_registry.specs.Commit.{done_by, extended, outcome}
 use Rattle.disco_registry.specs.State.{State, StandsFor}
 use Rattle.disco_registry.specs.declared.op.Applied.{Applied}
 use Rattle.disco_registry.specs.declared.op.Applied.TheVariants as applied
-use Rattle.disco_writer.specs.Documents.{IsTrueApps}
-use Rattle.disco_world.specs.Events.{done_after, hist}
+use Rattle.disco_world.specs.Events.{doc_after, done_after, hist}
 use Rattle.disco_world.specs.declared.event.Event.{Event}
-use Rattle.disco_world.specs.declared.event.Event.TheVariants.{Register, Cancel, Renew, SetStatus, DropStatus, Metadata, Load}
-use Rattle.disco_world.specs.declared.event.Payload.{Payload}
-use Rattle.disco_world.specs.declared.event.Query.{Query}
-use Rattle.disco_world.specs.declared.event.Query.TheVariants.{Apps}
+use Rattle.disco_world.specs.declared.event.Event.TheVariants.{Register, Cancel, Renew, SetStatus, DropStatus, Metadata, Load, LoadById}
+use Rattle.disco_cache.specs.Payloads.{IsTrue}
+use Rattle.disco_cache.specs.declared.payload.Payload.{Payload}
 use Rattle.disco_world.specs.declared.event.Reply.{Reply}
 use Rattle.disco_world.specs.declared.event.Reply.TheVariants.{Changed, Same, Doc, Refused}
-use Rattle.disco_world.specs.declared.settings.Settings.{Settings}
-
-abbrev pub limits : Settings → Limits
-limits s = record { versions = s.versions; instances = s.instances }
 
 abbrev is_compact : Form → Bool
 is_compact Full = false
 is_compact Compact = true
 
-abbrev pub IsTrueOf : Query → Payload → List Entry → Type 0
-IsTrueOf Apps p h = IsTrueApps p.text p.base p.version p.key.form h
-
--- a true document after a history: what it was asked for
-abbrev pub IsTrue : Payload → List Entry → Type 0
-IsTrue p h = IsTrueOf p.key.query p h
-
 -- what an event may answer after a history; a refused growth may be answered in place of anything
 abbrev pub IsAnswer : Limits → List Entry → Event → Reply → Type 0
 IsAnswer limits h event (Changed v) = (c : Entry) × (done_after limits h event ≡ Some (Ok (Some c))) × (v ≡ length h + 1)
 IsAnswer limits h event Same = done_after limits h event ≡ Some (Ok None)
-IsAnswer limits h event (Doc p) = (event ≡ Load p.value.key) × IsTrue p.value h
+IsAnswer limits h event (Doc p) = (doc_after h event ≡ Some p.value.key) × IsTrue p.value h × (p.value.version ≡ length h)
 IsAnswer limits h event (Refused e) = e ≢ OutOfMemory → done_after limits h event ≡ Some (Err e)
 
 -- each event's reply is its answer after the history of the events before it
@@ -63,12 +50,18 @@ is_compact_load (SetStatus now app id status) = false
 is_compact_load (DropStatus now app id status) = false
 is_compact_load (Metadata now app id entries) = false
 is_compact_load (Load key) = is_compact (key.form)
+is_compact_load (LoadById id form) = is_compact form
 
 -- the reply to a write, after which there are so many versions
 abbrev pub reply_to : Result Applied Fault → ℕ → Reply
 reply_to (Ok (applied.Changed c)) version = Changed version
 reply_to (Ok applied.Same) version = Same
 reply_to (Err e) version = Refused e
+
+-- the reply to a load
+abbrev pub reply_of : Result (Arc Payload Global) Fault → Reply
+reply_of (Ok p) = Doc p
+reply_of (Err e) = Refused e
 
 -- what a write did to a registry, and what it answered, follow what is done after a history
 abbrev pub Follows : State → State → Result Applied Fault → (List Entry → Result (Option Entry) Fault) → Type 0

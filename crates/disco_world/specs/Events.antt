@@ -1,5 +1,5 @@
 -- What events do to a history.
-use Rattle.std.specs.Prelude.{ℕ, zero, suc, ◌==◌, List, [], Bool, false, if◌then◌else◌, Option, Some, None, Result, Ok, Err, slice_get}
+use Rattle.std.specs.Prelude.{ℕ, zero, suc, ◌==◌, List, [], Bool, false, if◌then◌else◌, Option, Some, None, option_map, Result, Ok, Err, slice_get}
 use Rattle.std.specs.Str.{bytes_eq}
 use Rattle.disco_instance.specs.Fault.{fault_number}
 use Rattle.disco_instance.specs.Row.{Row}
@@ -12,8 +12,12 @@ use Rattle.disco_registry.specs.Accept.{Limits, accept_after}
 use Rattle.disco_registry.specs.Commit.{extended}
 use Rattle.disco_registry.specs.Op.{Ask, register, cancel, renew, set_status, drop_status, add_metadata}
 use Rattle.disco_wire.specs.Registration.{registration_of}
+use Rattle.disco_cache.specs.declared.key.DocKey.{DocKey}
+use Rattle.disco_hub.specs.Refusals.{doc_of_id, refusal_of, refusal_of_id}
+use Rattle.disco_writer.specs.declared.query.Query.{Query}
+use Rattle.disco_writer.specs.declared.query.Query.TheVariants as query
 use Rattle.disco_world.specs.declared.event.Event.{Event}
-use Rattle.disco_world.specs.declared.event.Event.TheVariants.{Register, Cancel, Renew, SetStatus, DropStatus, Metadata, Load}
+use Rattle.disco_world.specs.declared.event.Event.TheVariants.{Register, Cancel, Renew, SetStatus, DropStatus, Metadata, Load, LoadById}
 use Rattle.disco_world.specs.declared.event.Reply.{Reply}
 use Rattle.disco_world.specs.declared.event.Reply.TheVariants.{Changed, Same, Doc, Refused}
 
@@ -30,7 +34,22 @@ done_by_ask limits h now (Ok ask) = accept_after limits h ask now
 abbrev pub key_named : List ℕ → List ℕ → Key
 key_named app id = record { app = in_upper_case app; id = id }
 
--- what an event does to the registry after a history: its change or none, or the first cause against it; a load does nothing to it
+-- what is asked for, with the name of an app in upper case
+abbrev pub query_asked : Query → Query
+query_asked query.Apps = query.Apps
+query_asked query.Delta = query.Delta
+query_asked (query.App name) = query.App (in_upper_case name)
+query_asked (query.Vip vip) = query.Vip vip
+query_asked (query.Svip svip) = query.Svip svip
+query_asked (query.Instance k) = query.Instance (key_named k.app k.id)
+
+abbrev pub doc_asked : DocKey → DocKey
+doc_asked k = record { query = query_asked k.query; form = k.form }
+
+abbrev pub refused_as : Option Fault → Option (Result (Option Entry) Fault)
+refused_as fault = option_map (λ e. Err e) fault
+
+-- what an event does to the registry after a history: its change or none, or the first cause against it; a load that is answered does nothing to it
 abbrev pub done_after : Limits → List Entry → Event → Option (Result (Option Entry) Fault)
 done_after limits h (Register now app json) = Some (done_by_ask limits h now (registers app (registration_of json)))
 done_after limits h (Cancel now app id) = Some (accept_after limits h (cancel (key_named app id)) now)
@@ -38,7 +57,19 @@ done_after limits h (Renew now app id) = Some (accept_after limits h (renew (key
 done_after limits h (SetStatus now app id status) = Some (accept_after limits h (set_status (key_named app id) status) now)
 done_after limits h (DropStatus now app id status) = Some (accept_after limits h (drop_status (key_named app id) status) now)
 done_after limits h (Metadata now app id entries) = Some (accept_after limits h (add_metadata (key_named app id) entries) now)
-done_after limits h (Load key) = None
+done_after limits h (Load key) = refused_as (refusal_of (query_asked key.query) h)
+done_after limits h (LoadById id form) = refused_as (refusal_of_id id h)
+
+-- the document that an event asks for after a history
+abbrev pub doc_after : List Entry → Event → Option DocKey
+doc_after h (Register now app json) = None
+doc_after h (Cancel now app id) = None
+doc_after h (Renew now app id) = None
+doc_after h (SetStatus now app id status) = None
+doc_after h (DropStatus now app id status) = None
+doc_after h (Metadata now app id entries) = None
+doc_after h (Load key) = Some (doc_asked key)
+doc_after h (LoadById id form) = doc_of_id id form h
 
 abbrev pub change_of : Option (Result (Option Entry) Fault) → Option Entry
 change_of None = None

@@ -1,33 +1,8 @@
 //! Events and their replies.
+use disco_cache::{DocKey, Payload};
 use disco_instance::{Bytes, Entries, Fault, Form, Text};
 use std::alloc::Global;
 use std::sync::Arc;
-
-/// Which instances a document is of.
-#[derive(Clone, Copy, Debug, PartialEq, Eq)]
-pub enum Query {
-    /// Eureka's `GET /apps`.
-    Apps,
-}
-
-/// What names a document.
-#[derive(Clone, Copy, Debug, PartialEq, Eq)]
-pub struct DocKey {
-    pub query: Query,
-    pub form: Form,
-}
-
-/// A document as it is served.
-#[derive(Debug, Drop)]
-pub struct Payload {
-    pub key: DocKey,
-    /// The version that the document starts from.
-    pub base: u64,
-    /// The version at which the document was built.
-    pub version: u64,
-    /// Compact JSON (RFC 8259).
-    pub text: Bytes,
-}
 
 /// What happens to a registry. Moments are in milliseconds.
 #[derive(Debug, Drop)]
@@ -72,9 +47,14 @@ pub enum Event {
         id: Text,
         entries: Entries,
     },
-    /// A reader asks for a document.
+    /// A reader asks for a document. The name of its app counts in upper case.
     Load {
         key: DocKey,
+    },
+    /// A reader asks for the document of the instance of an id, whatever its app.
+    LoadById {
+        id: Text,
+        form: Form,
     },
 }
 

@@ -6,9 +6,9 @@
 
 mod event;
 mod runs;
-mod settings;
-mod world;
 
-pub use event::{DocKey, Event, Payload, Query, Reply};
+pub use disco_cache::{DocKey, Payload};
+pub use disco_hub::Settings;
+pub use disco_writer::Query;
+pub use event::{Event, Reply};
 pub use runs::run;
-pub use settings::Settings;

@@ -6,16 +6,22 @@ ghost use Rattle.disco_registry.specs.Accept.{accept_after, limits_of};
 ghost use Rattle.disco_registry.specs.Op as asking;
 ghost use Rattle.disco_registry.specs.State.{StandsFor};
 ghost use Rattle.disco_wire.specs.Registration.{registration_of};
-ghost use Rattle.disco_world.specs.Answers.{AreAnswers, AreServed, Follows, IsAnswer, is_compact_load, limits, reply_to};
-ghost use Rattle.disco_world.specs.Events.{after, done_by_ask, key_named, registers};
+ghost use Rattle.disco_instance.specs.declared.form.Form.TheVariants.{Full};
+ghost use Rattle.disco_cache.specs.Payloads.{IsTrue};
+ghost use Rattle.disco_hub.specs.Refusals.{refusal_of};
+ghost use Rattle.disco_hub.specs.State.{limits};
+ghost use Rattle.disco_world.specs.Answers.{AreAnswers, AreServed, Follows, IsAnswer, is_compact_load, reply_of, reply_to};
+ghost use Rattle.disco_world.specs.Events.{after, doc_asked, done_by_ask, key_named, query_asked, registers};
 
-use crate::event::{DocKey, Event, Reply};
-use crate::settings::Settings;
-use crate::world::World;
+use crate::event::{Event, Reply};
+use disco_cache::{DocKey, Payload};
+use disco_hub::{Hub, Settings};
 use disco_instance::{Bytes, Entries, Fault, Form, Key, Text, upper};
 use disco_registry::{Applied, Op};
 use disco_wire::read_registration;
+use disco_writer::Query;
 use std::alloc::Global;
+use std::sync::Arc;
 
 /// Runs the events in order from an empty registry, and answers each. Refused as `BadEvent`, with
 /// the number of the first such event counted from 1, where a document is asked for in another form
@@ -52,6 +58,9 @@ fn is_compact_load(event: &Event) -> bool
                 query: _,
                 form: Form::Compact
             }
+        } | Event::LoadById {
+            id: _,
+            form: Form::Compact
         }
     )
 }
@@ -63,34 +72,34 @@ fn run_full(alloc: Global, settings: &Settings, events: &[Event]) -> Result<Vec<
     ensures served { IfOk result (λ replies. AreServed (limits settings.now) events.now replies.items) }
     ensures memory { IfErr result (λ e. e ≡ OutOfMemory) }
 {
-    let mut world = World::new(alloc, settings);
+    let mut hub = Hub::new(alloc, settings);
     let mut replies = Vec::new(alloc);
     for event in events {
-        let reply = answer(alloc, &mut world, event);
+        let reply = answer(alloc, &mut hub, event);
         replies.push(reply)?;
     }
     Ok(replies)
 }
 
 /// Answers one event.
-fn answer(alloc: Global, world: &mut World, event: &Event) -> Reply
+fn answer(alloc: Global, hub: &mut Hub, event: &Event) -> Reply
     requires { is_compact_load event.now ≡ false }
-    ensures answer { (h : List Entry) → StandsFor world.old h → IsAnswer (limits_of world.old) h event.now result }
-    ensures history { (h : List Entry) → StandsFor world.old h → StandsFor world.new (after (limits_of world.old) h event.now result) }
-    ensures limits { limits_of world.new ≡ limits_of world.old }
+    ensures answer { (h : List Entry) → StandsFor hub.old.registry h → IsAnswer (limits_of hub.old.registry) h event.now result }
+    ensures history { (h : List Entry) → StandsFor hub.old.registry h → StandsFor hub.new.registry (after (limits_of hub.old.registry) h event.now result) }
+    ensures limits { limits_of hub.new.registry ≡ limits_of hub.old.registry }
 {
     match event {
         Event::Register { now, app, json } => {
-            let applied = register(alloc, world, *now, app, json);
-            written(applied, world.version())
+            let applied = register(alloc, hub, *now, app, json);
+            written(applied, hub.version())
         }
         Event::Cancel { now, app, id } => {
-            let applied = cancel(alloc, world, *now, app, id);
-            written(applied, world.version())
+            let applied = cancel(alloc, hub, *now, app, id);
+            written(applied, hub.version())
         }
         Event::Renew { now, app, id } => {
-            let applied = renew(alloc, world, *now, app, id);
-            written(applied, world.version())
+            let applied = renew(alloc, hub, *now, app, id);
+            written(applied, hub.version())
         }
         Event::SetStatus {
             now,
@@ -98,8 +107,8 @@ fn answer(alloc: Global, world: &mut World, event: &Event) -> Reply
             id,
             status,
         } => {
-            let applied = set_status(alloc, world, *now, app, id, status);
-            written(applied, world.version())
+            let applied = set_status(alloc, hub, *now, app, id, status);
+            written(applied, hub.version())
         }
         Event::DropStatus {
             now,
@@ -107,8 +116,8 @@ fn answer(alloc: Global, world: &mut World, event: &Event) -> Reply
             id,
             status,
         } => {
-            let applied = drop_status(alloc, world, *now, app, id, status);
-            written(applied, world.version())
+            let applied = drop_status(alloc, hub, *now, app, id, status);
+            written(applied, hub.version())
         }
         Event::Metadata {
             now,
@@ -116,13 +125,11 @@ fn answer(alloc: Global, world: &mut World, event: &Event) -> Reply
             id,
             entries,
         } => {
-            let applied = add_metadata(alloc, world, *now, app, id, entries);
-            written(applied, world.version())
+            let applied = add_metadata(alloc, hub, *now, app, id, entries);
+            written(applied, hub.version())
         }
-        Event::Load { key } => match world.load(*key) {
-            Ok(payload) => Reply::Doc(payload),
-            Err(fault) => Reply::Refused(fault),
-        },
+        Event::Load { key } => served(load(alloc, hub, key)),
+        Event::LoadById { id, form } => served(hub.by_id(id.as_str(), *form)),
     }
 }
 
@@ -137,21 +144,56 @@ fn written(applied: Result<Applied, Fault>, version: u64) -> Reply
     }
 }
 
+/// The reply to a load.
+fn served(loaded: Result<Arc<Payload, Global>, Fault>) -> Reply
+    ensures { result ≡ reply_of loaded }
+{
+    match loaded {
+        Ok(payload) => Reply::Doc(payload),
+        Err(fault) => Reply::Refused(fault),
+    }
+}
+
+fn query_asked(alloc: Global, query: &Query) -> Result<Query, Fault>
+    ensures query { IfOk result (λ q. q ≡ query_asked query.now) }
+    ensures memory { IfErr result (λ e. e ≡ OutOfMemory) }
+{
+    match query {
+        Query::App(name) => Ok(Query::App(upper(alloc, name.as_str())?)),
+        Query::Instance(key) => Ok(Query::Instance(key_named(alloc, &key.app, &key.id)?)),
+        other => Ok(other.clone()?),
+    }
+}
+
+fn load(alloc: Global, hub: &Hub, key: &DocKey) -> Result<Arc<Payload, Global>, Fault>
+    requires { key.now.form ≡ Full }
+    ensures key { IfOk result (λ p. p.value.key ≡ doc_asked key.now) }
+    ensures version { IfOk result (λ p. p.value.version ≡ hub.now.registry.version) }
+    ensures true_now { IfOk result (λ p. (h : List Entry) → StandsFor hub.now.registry h → IsTrue p.value h) }
+    ensures refused { IfErr result (λ e. e ≢ OutOfMemory → (h : List Entry) → StandsFor hub.now.registry h → refusal_of (query_asked key.now.query) h ≡ Some e) }
+{
+    let asked = DocKey {
+        query: query_asked(alloc, &key.query)?,
+        form: key.form,
+    };
+    Ok(hub.load(&asked)?)
+}
+
 fn register(
     alloc: Global,
-    world: &mut World,
+    hub: &mut Hub,
     now: u64,
     app: &Text,
     json: &Bytes,
 ) -> Result<Applied, Fault>
-    ensures follows { Follows world.old world.new result (λ h. done_by_ask (limits_of world.old) h now (registers app.now (registration_of json.now))) }
-    ensures limits { limits_of world.new ≡ limits_of world.old }
+    ensures follows { Follows hub.old.registry hub.new.registry result (λ h. done_by_ask (limits_of hub.old.registry) h now (registers app.now (registration_of json.now))) }
+    ensures limits { limits_of hub.new.registry ≡ limits_of hub.old.registry }
 {
     let posted = read_registration(alloc, json.as_slice())?;
     if upper(alloc, app.as_str())? != posted.key.app {
         return Err(Fault::MismatchedApp);
     }
-    world.write(Op::Register(posted), now)
+    hub.write(Op::Register(posted), now)
 }
 
 /// The key of that app and id.
@@ -165,78 +207,66 @@ fn key_named(alloc: Global, app: &Text, id: &Text) -> Result<Key, Fault>
     })
 }
 
-fn cancel(
-    alloc: Global,
-    world: &mut World,
-    now: u64,
-    app: &Text,
-    id: &Text,
-) -> Result<Applied, Fault>
-    ensures follows { Follows world.old world.new result (λ h. accept_after (limits_of world.old) h (asking.cancel (key_named app.now id.now)) now) }
-    ensures limits { limits_of world.new ≡ limits_of world.old }
+fn cancel(alloc: Global, hub: &mut Hub, now: u64, app: &Text, id: &Text) -> Result<Applied, Fault>
+    ensures follows { Follows hub.old.registry hub.new.registry result (λ h. accept_after (limits_of hub.old.registry) h (asking.cancel (key_named app.now id.now)) now) }
+    ensures limits { limits_of hub.new.registry ≡ limits_of hub.old.registry }
 {
     let key = key_named(alloc, app, id)?;
-    world.write(Op::Cancel(key), now)
+    hub.write(Op::Cancel(key), now)
 }
 
-fn renew(
-    alloc: Global,
-    world: &mut World,
-    now: u64,
-    app: &Text,
-    id: &Text,
-) -> Result<Applied, Fault>
-    ensures follows { Follows world.old world.new result (λ h. accept_after (limits_of world.old) h (asking.renew (key_named app.now id.now)) now) }
-    ensures limits { limits_of world.new ≡ limits_of world.old }
+fn renew(alloc: Global, hub: &mut Hub, now: u64, app: &Text, id: &Text) -> Result<Applied, Fault>
+    ensures follows { Follows hub.old.registry hub.new.registry result (λ h. accept_after (limits_of hub.old.registry) h (asking.renew (key_named app.now id.now)) now) }
+    ensures limits { limits_of hub.new.registry ≡ limits_of hub.old.registry }
 {
     let key = key_named(alloc, app, id)?;
-    world.write(Op::Renew(key), now)
+    hub.write(Op::Renew(key), now)
 }
 
 fn set_status(
     alloc: Global,
-    world: &mut World,
+    hub: &mut Hub,
     now: u64,
     app: &Text,
     id: &Text,
     status: &Text,
 ) -> Result<Applied, Fault>
-    ensures follows { Follows world.old world.new result (λ h. accept_after (limits_of world.old) h (asking.set_status (key_named app.now id.now) status.now) now) }
-    ensures limits { limits_of world.new ≡ limits_of world.old }
+    ensures follows { Follows hub.old.registry hub.new.registry result (λ h. accept_after (limits_of hub.old.registry) h (asking.set_status (key_named app.now id.now) status.now) now) }
+    ensures limits { limits_of hub.new.registry ≡ limits_of hub.old.registry }
 {
     let key = key_named(alloc, app, id)?;
     let status = status.clone()?;
-    world.write(Op::SetStatus(key, status), now)
+    hub.write(Op::SetStatus(key, status), now)
 }
 
 fn drop_status(
     alloc: Global,
-    world: &mut World,
+    hub: &mut Hub,
     now: u64,
     app: &Text,
     id: &Text,
     status: &Option<Text>,
 ) -> Result<Applied, Fault>
-    ensures follows { Follows world.old world.new result (λ h. accept_after (limits_of world.old) h (asking.drop_status (key_named app.now id.now) status.now) now) }
-    ensures limits { limits_of world.new ≡ limits_of world.old }
+    ensures follows { Follows hub.old.registry hub.new.registry result (λ h. accept_after (limits_of hub.old.registry) h (asking.drop_status (key_named app.now id.now) status.now) now) }
+    ensures limits { limits_of hub.new.registry ≡ limits_of hub.old.registry }
 {
     let key = key_named(alloc, app, id)?;
     let status = status.clone()?;
-    world.write(Op::DropStatus(key, status), now)
+    hub.write(Op::DropStatus(key, status), now)
 }
 
 fn add_metadata(
     alloc: Global,
-    world: &mut World,
+    hub: &mut Hub,
     now: u64,
     app: &Text,
     id: &Text,
     entries: &Entries,
 ) -> Result<Applied, Fault>
-    ensures follows { Follows world.old world.new result (λ h. accept_after (limits_of world.old) h (asking.add_metadata (key_named app.now id.now) entries.now) now) }
-    ensures limits { limits_of world.new ≡ limits_of world.old }
+    ensures follows { Follows hub.old.registry hub.new.registry result (λ h. accept_after (limits_of hub.old.registry) h (asking.add_metadata (key_named app.now id.now) entries.now) now) }
+    ensures limits { limits_of hub.new.registry ≡ limits_of hub.old.registry }
 {
     let key = key_named(alloc, app, id)?;
     let entries = entries.copy()?;
-    world.write(Op::Metadata(key, entries), now)
+    hub.write(Op::Metadata(key, entries), now)
 }

@@ -1,5 +1,6 @@
 use Rattle.std.proofs.Common.{ap, refl, ◌∙◌, arith}
-use Rattle.disco_world.specs.Answers.{is_compact_load, limits}
+use Rattle.disco_world.specs.Answers.{is_compact_load}
+use Rattle.disco_hub.specs.State.{limits}
 use Rattle.disco_world.proofs.Histories.{at_index, no_answers, none_passes, run_more, served}
 use Rattle.disco_world.specs.Events.{hist}
 use Rattle.disco_world.proofs.runs.run_full.Goals as goal
@@ -8,8 +9,8 @@ pub loop-event-init : goal.loop-event-init
 unfolding hist
 loop-event-init c = record {
   count = rw c.new-replies.ensures.items refl;
-  stands = c.new-world.ensures.empty;
-  limits_are = c.new-world.ensures.limits;
+  stands = c.new-hub.ensures.empty;
+  limits_are = c.new-hub.ensures.limits;
   answers = no_answers (limits c.args.settings.now) c.args.events.now c.new-replies.result.items c.new-replies.ensures.items;
 }
 
@@ -27,7 +28,7 @@ loop-event-preserved c =
     let r = c.answer-reply.result in
     let run = c.loop-event.invariant in
     rw c.in_ok-push.ensures.items (run_more (limits c.args.settings.now) es rs i e r run.count (at_index es i e c.loop-event-test.true c.event-item.is)
-    c.loop-event.world c.answer-reply.new.world run c.answer-reply.ensures.answer c.answer-reply.ensures.history c.answer-reply.ensures.limits)
+    c.loop-event.hub.registry c.answer-reply.new.hub.registry run c.answer-reply.ensures.answer c.answer-reply.ensures.history c.answer-reply.ensures.limits)
 
 pub returns-clause-served : goal.returns-clause-served
 returns-clause-served c =

@@ -1,0 +1,2 @@
+mod Ids
+mod Ties

@@ -1,0 +1,174 @@
+-- What keeps the counts and the leases tied to the registry.
+use Rattle.std.proofs.Common.{◌≡◌, ℕ, ◌+◌, ◌-◌, ◌<◌, ◌≤◌, Bool, true, false, cond, List, [], Option, Some, None, option_map, Result, Ok, Err, IfErr, IfSome, OnOk, OnErr, refl, sym, ap, subst, ◌∙◌, arith}
+use Rattle.std.specs.FinMap.{FinMap, contains_key, empty, get, get-empty, get-insert, get-remove, insert, len, len-empty, len-insert, len-remove, remove}
+use Rattle.std.specs.Option.{option_flatten}
+use Rattle.disco_instance.specs.Key.{key_cmp, same_key}
+use Rattle.disco_instance.specs.Row.{Row}
+use Rattle.disco_instance.specs.declared.fault.Fault.{Fault}
+use Rattle.disco_instance.specs.declared.fault.Fault.TheVariants.{NotFound}
+use Rattle.disco_instance.specs.declared.key.Key.{Key}
+use Rattle.disco_history.specs.Change.{Entry, key_of, seen}
+use Rattle.disco_history.specs.Registry.{put_of}
+use Rattle.disco_history.specs.declared.change.Change.{Change}
+use Rattle.disco_history.proofs.Keys.{keys_total, same_is}
+use Rattle.disco_history.proofs.Sets.{said_nil}
+use Rattle.disco_index.specs.Tally.{Tally, tally_in, tally_of}
+use Rattle.disco_index.specs.Laws.{EmptyLaw}
+use Rattle.disco_index.specs.VipLaws.{GoneVipsLaw, NoVipsLaw, PutVipsLaw, SameVipsLaw}
+use Rattle.disco_index.specs.Vips.{IsIndexOf, VipKeys}
+use Rattle.disco_index.specs.Vips as vips
+use Rattle.disco_lease.specs.Leases as leases
+use Rattle.disco_lease.specs.Leases.{Lease, Leases, Sets, extended, lease_at, marked, no_leases}
+use Rattle.disco_registry.specs.Commit.{IsReadyFor, Takes, change_in, held_after, version_after}
+use Rattle.disco_registry.specs.Held.{record_at}
+use Rattle.disco_registry.specs.State.{State, StandsFor, IsSame}
+use Rattle.disco_registry.specs.declared.registry.Ready.{Ready}
+use Rattle.disco_instance.specs.declared.action.Action.{Action}
+use Rattle.disco_instance.specs.declared.action.Action.TheVariants.{Added, Modified, Deleted}
+use Rattle.disco_hub.specs.State.{AddsAny, HasVipPlaces}
+use Rattle.disco_hub.specs.Tied.{AreLeased, IsTied}
+
+abbrev lasts : Option Lease → Option ℕ
+lasts o = option_map (λ l. l.duration_secs) o
+
+abbrev rows_last : Option Row → Option ℕ
+rows_last o = option_map (λ r. r.lease.duration_secs) o
+
+abbrev entry_lasts : Option Entry → Option ℕ
+entry_lasts o = rows_last (option_map (λ e. e.0) o)
+
+-- ---- a new world
+
+pub tied_new : EmptyLaw → NoVipsLaw → (s : State) (t : Tally) (i : VipKeys) (v : Leases) → StandsFor s [] → t ≡ tally_of [] → i ≡ empty → v ≡ no_leases → IsTied s t i v
+tied_new law none_law s t i v stands ts is vs =
+    let held : s.held ≡ empty = stands.held ∙ said_nil in
+    record {
+      counts = ts ∙ sym law ∙ ap tally_in (sym held);
+      indexed = subst (λ x. IsIndexOf x s.held) (sym is) (subst (λ m. IsIndexOf empty m) (sym held) none_law);
+      leased = λ k.
+          ap (λ x. lasts (lease_at x k)) vs ∙ ap (λ o. lasts (option_flatten o)) (get-empty key_cmp k)
+          ∙ sym (ap (λ m. rows_last (record_at m k)) held ∙ ap entry_lasts (get-empty key_cmp k));
+      few = let none : len s.held ≡ 0 = ap len held ∙ len-empty key_cmp Entry in omega (arith, none);
+    }
+
+-- ---- leases
+
+lasts_extended : (now : ℕ) (o : Option Lease) → lasts (option_map (extended now) o) ≡ lasts o
+lasts_extended now None = refl
+lasts_extended now (Some l) = refl
+
+moved : (k : Key) (now : ℕ) (old new : Leases) → Sets k (option_map (extended now) (lease_at old k)) old new → (q : Key) → lasts (lease_at new q) ≡ lasts (lease_at old q)
+moved k now old new sets q = ap lasts (sets q) ∙ one (same_key q k) refl
+  where
+    one : (b : Bool) → same_key q k ≡ b → lasts (cond b (option_map (extended now) (lease_at old k)) (lease_at old q)) ≡ lasts (lease_at old q)
+    one true same = lasts_extended now (lease_at old k) ∙ ap (λ x. lasts (lease_at old x)) (sym (same_is q k same))
+    one false same = refl
+
+-- a lease that moves, or is missing, lasts as long
+pub kept : {A : Type 0} (r : Result A Fault) (k : Key) (now : ℕ) (old new : Leases) → OnOk r (Sets k (option_map (extended now) (lease_at old k)) old new) → OnErr r (new ≡ old)
+    → (m : FinMap key_cmp Entry) → AreLeased m old → AreLeased m new
+kept (Ok x) k now old new sets same m leased = λ q. moved k now old new sets q ∙ leased q
+kept (Err e) k now old new sets same m leased = λ q. ap (λ v. lasts (lease_at v q)) same ∙ leased q
+
+pub started : (k : Key) (secs now : ℕ) (old new : Leases) (e : Entry) → secs ≡ e.0.lease.duration_secs → Sets k (Some (marked secs now)) old new → (m : FinMap key_cmp Entry) → AreLeased m old → AreLeased (insert m k e) new
+started k secs now old new e same sets m leased = λ q.
+    ap lasts (sets q) ∙ one q (same_key q k) ∙ sym (ap entry_lasts (get-insert keys_total m k e q))
+  where
+    one : (q : Key) (b : Bool) → lasts (cond b (Some (marked secs now)) (lease_at old q)) ≡ entry_lasts (cond b (Some e) (get m q))
+    one q true = ap (λ n. Some n) same
+    one q false = leased q
+
+gone_at : (k : Key) (old : Leases) (m : FinMap key_cmp Entry) → AreLeased m old → lasts (lease_at old k) ≡ None → (q : Key) (b : Bool) → same_key q k ≡ b → lasts (lease_at old q) ≡ entry_lasts (cond b None (get m q))
+gone_at k old m leased none q true same = ap (λ x. lasts (lease_at old x)) (same_is q k same) ∙ none
+gone_at k old m leased none q false same = leased q
+
+-- a lease that ends, or is missing, is gone
+pub ended : {A : Type 0} (r : Result A Fault) (k : Key) (old new : Leases) → OnOk r (Sets k None old new) → OnErr r (new ≡ old) → OnErr r (lease_at old k ≡ None) → (m : FinMap key_cmp Entry) → AreLeased m old → AreLeased (remove m k) new
+ended (Ok x) k old new sets same none m leased = λ q. ap lasts (sets q) ∙ one q (same_key q k) ∙ sym (ap entry_lasts (get-remove keys_total m k q))
+  where
+    one : (q : Key) (b : Bool) → lasts (cond b None (lease_at old q)) ≡ entry_lasts (cond b None (get m q))
+    one q true = refl
+    one q false = leased q
+ended (Err e) k old new sets same none m leased = λ q.
+    ap (λ v. lasts (lease_at v q)) same ∙ gone_at k old m leased (ap lasts none) q (same_key q k) refl ∙ sym (ap entry_lasts (get-remove keys_total m k q))
+
+-- ---- numbers
+
+left_by : (s : State) (o : Option Change) (k : Option Entry) (e : Entry) → IsReadyFor s o k → Some e ≡ option_map seen o → s.version < s.versions
+left_by s None k e ready is = absurd (cc)
+left_by s (Some c) k e ready is = ready.0
+
+pub version_left : (s : State) (r : Ready) (e : Entry) (k : Option Entry) → IsReadyFor s r.change k → Some e ≡ change_in r → s.version < s.versions
+version_left s r e k ready is = left_by s r.change k e ready is
+
+len_put : (m : FinMap key_cmp Entry) (k : Key) (e : Entry) (b : Bool) → contains_key m k ≡ b → len (insert m k e) ≤ len m + 1
+len_put m k e true is = let l = len-insert keys_total m k e ∙ ap (λ b. cond b (len m) (len m + 1)) is in omega (arith, l)
+len_put m k e false is = let l = len-insert keys_total m k e ∙ ap (λ b. cond b (len m) (len m + 1)) is in omega (arith, l)
+
+len_take : (m : FinMap key_cmp Entry) (k : Key) (b : Bool) → contains_key m k ≡ b → len (remove m k) ≤ len m + 1
+len_take m k true is = let l = len-remove keys_total m k ∙ ap (λ b. cond b (len m - 1) (len m)) is in omega (arith, l)
+len_take m k false is = let l = len-remove keys_total m k ∙ ap (λ b. cond b (len m - 1) (len m)) is in omega (arith, l)
+
+one_put : (m : FinMap key_cmp Entry) (c : Entry) (o : Option Entry) → put_of c ≡ o → len (held_after m (Some c)) ≤ len m + 1
+one_put m c None is = subst (λ x. len (at x) ≤ len m + 1) (sym is) (len_take m (key_of c) (contains_key m (key_of c)) refl)
+  where
+    at : Option Entry → FinMap key_cmp Entry
+    at None = remove m (key_of c)
+    at (Some e) = insert m (key_of c) e
+one_put m c (Some e) is = subst (λ x. len (at x) ≤ len m + 1) (sym is) (len_put m (key_of c) e (contains_key m (key_of c)) refl)
+  where
+    at : Option Entry → FinMap key_cmp Entry
+    at None = remove m (key_of c)
+    at (Some e) = insert m (key_of c) e
+
+-- there are no more records than changes
+pub few_after : (m : FinMap key_cmp Entry) (c : Option Entry) (v : ℕ) → len m ≤ v → len (held_after m c) ≤ version_after v c
+few_after m None v few = few
+few_after m (Some c) v few = let one = one_put m c (put_of c) refl in omega (arith, one, few)
+
+pub stands_same : (h : List Entry) (old new : State) → IsSame old new → StandsFor old h → StandsFor new h
+stands_same h old new same stands = record { held = same.held ∙ stands.held; version = same.version ∙ stands.version }
+
+few_same : (old new : State) → IsSame old new → len old.held ≤ old.version → len new.held ≤ new.version
+few_same old new same few = let l = ap len same.held in let v = same.version in omega (arith, l, v, few)
+
+few_taken : (old new : State) (c : Option Entry) → Takes old c new → len old.held ≤ old.version → len new.held ≤ new.version
+few_taken old new c takes few = let l = ap len takes.held in let v = takes.version in let after = few_after old.held c old.version few in omega (arith, l, v, after)
+
+-- what follows a change stays tied
+pub tied_after : (old new : State) (c : Option Entry) (t : Tally) (i : VipKeys) (v₀ v : Leases) → len old.held ≤ old.version → AreLeased old.held v₀ → Takes old c new → t ≡ tally_in (held_after old.held c)
+    → IsIndexOf i (held_after old.held c) → (AreLeased old.held v₀ → AreLeased (held_after old.held c) v) → IsTied new t i v
+tied_after old new c t i v₀ v few leased takes counted indexed moves = record {
+  counts = counted ∙ ap tally_in (sym takes.held);
+  indexed = subst (λ m. IsIndexOf i m) (sym takes.held) indexed;
+  leased = subst (λ m. AreLeased m v) (sym takes.held) (moves leased);
+  few = few_taken old new c takes few;
+}
+
+-- what gets more places stays tied
+pub tied_same : SameVipsLaw → (old new : State) (t : Tally) (i j : VipKeys) (v w : Leases) → IsTied old t i v → IsSame old new → vips.IsSame i j → leases.IsSame v w → IsTied new t j w
+tied_same law old new t i j v w tied same vips_same leases_same = record {
+  counts = tied.counts ∙ ap tally_in (sym same.held);
+  indexed = subst (λ m. IsIndexOf j m) (sym same.held) (law old.held i j tied.indexed vips_same);
+  leased = subst (λ m. AreLeased m w) (sym same.held) (λ k. ap lasts (leases_same.leases k) ∙ tied.leased k);
+  few = few_same old new same tied.few;
+}
+
+-- a call that is refused for a missing lease alone
+pub missed : {A : Type 0} (r : Result A Fault) (P : Type 0) → (r ≡ Err NotFound → P) → IfErr r (λ e. e ≡ NotFound) → OnErr r P
+missed (Ok x) P missing only = tt
+missed (Err e) P missing only = missing (ap Err only)
+
+-- ---- vips
+
+pub places_kept : (old new : VipKeys) (o : Option Entry) → vips.KeepsPlaces old new → HasVipPlaces old o → HasVipPlaces new o
+places_kept old new None keeps has = has
+places_kept old new (Some e) keeps has = λ q k is. keeps q k (has q k is)
+
+-- what was at a change's key is taken, what it puts is added, and places are given back
+pub indexed_after : PutVipsLaw → GoneVipsLaw → SameVipsLaw → (m : FinMap key_cmp Entry) (r : Row) (a : Action) (old taken added new : VipKeys) → IsIndexOf old m → IfSome (get m r.key) (λ d. key_of d ≡ r.key)
+    → vips.TakesAny (get m r.key) old taken → AddsAny (put_of (r, a)) taken added → vips.IsSame added new → IsIndexOf new (held_after m (Some (r, a)))
+indexed_after put gone same m r Added old taken added new index own takes adds swept = same (insert m r.key (r, Added)) added new (put m (r, Added) old taken added index own takes adds) swept
+indexed_after put gone same m r Modified old taken added new index own takes adds swept = same (insert m r.key (r, Modified)) added new (put m (r, Modified) old taken added index own takes adds) swept
+indexed_after put gone same m r Deleted old taken added new index own takes adds swept =
+    same (remove m r.key) added new (same (remove m r.key) taken added (gone m r.key old taken index own takes) adds) swept

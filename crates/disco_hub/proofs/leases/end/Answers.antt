@@ -1,0 +1,11 @@
+use Rattle.std.proofs.Common.{◌≡◌, None}
+use Rattle.disco_lease.specs.Leases.{lease_at}
+use Rattle.disco_hub.proofs.Ties.{ended, missed}
+use Rattle.disco_hub.proofs.leases.end.Goals as goal
+
+pub returns : goal.returns
+returns c =
+    let k = c.args.key.now in
+    let old = c.args.leases.now in
+    ended c.cancel.result k old c.cancel.new.self c.cancel.ensures.leases c.cancel.ensures.err
+    (missed c.cancel.result (lease_at old k ≡ None) c.cancel.ensures.missing.0 c.cancel.ensures.error)

@@ -1,0 +1,256 @@
+//! The hub: the registry and all that follows its changes.
+ghost use Rattle.std.specs.Prelude.{◌≡◌, ◌≢◌, ◌≤◌, List, [], IfErr, IfOk, OnOk, Ok, Some, false, option_map};
+ghost use Rattle.std.specs.FinMap.{len};
+ghost use Rattle.disco_instance.specs.declared.fault.Fault.TheVariants.{OutOfMemory};
+ghost use Rattle.disco_instance.specs.declared.form.Form.TheVariants.{Full};
+ghost use Rattle.disco_history.specs.Change.{Entry, seen};
+ghost use Rattle.disco_index.specs.Tally.{tally_in};
+ghost use Rattle.disco_index.specs.Vips as vip;
+ghost use Rattle.disco_lease.specs.Leases as lease;
+ghost use Rattle.disco_registry.specs.Accept.{Refuses, accepts, limits_of};
+ghost use Rattle.disco_registry.specs.Commit as commit;
+ghost use Rattle.disco_registry.specs.Commit.{Takes, done_by, extended, held_after, outcome};
+ghost use Rattle.disco_registry.specs.Op.{ask_of};
+ghost use Rattle.disco_registry.specs.State as registry;
+ghost use Rattle.disco_writer.specs.Documents.{IsWritten, asked_by, is_delta};
+ghost use Rattle.disco_cache.specs.Payloads.{IsTrue};
+ghost use Rattle.disco_hub.specs.Refusals.{doc_of_id, doc_of_key, refusal_of, refusal_of_id};
+ghost use Rattle.disco_hub.specs.State.{HasPlacesFor, IsReady, change_in, limits};
+ghost use Rattle.disco_hub.specs.Tied.{AreLeased};
+
+use crate::counts::count;
+use crate::leases::{Step, keep, step_of};
+use crate::settings::Settings;
+use crate::{leases, vips};
+use disco_cache::{DocKey, Payload};
+use disco_history::Change;
+use disco_index::laws::{no_vips_law, same_vips_law};
+use disco_index::{Counts, VipIndex};
+use disco_instance::{Bytes, Fault, Form, Key};
+use disco_lease::LeaseBook;
+use disco_registry::{Applied, Op, Registry};
+use disco_writer::{Query, write_full};
+use std::alloc::Global;
+use std::marker::Model;
+use std::sync::Arc;
+
+/// The registered instances with all that is kept beside them: the counts of their statuses, which
+/// of them have a vip, and their leases.
+#[derive(Drop)]
+pub struct Hub {
+    alloc: Global,
+    registry: Registry,
+    counts: Counts,
+    vips: VipIndex,
+    leases: LeaseBook,
+}
+
+impl Model for Hub {
+    ghost use Rattle.disco_hub.specs.State.{State, coded_state};
+    ghost use Rattle.disco_hub.specs.Tied.{IsTied};
+
+    ghost Value = { State };
+
+    ghost coded = { coded_state };
+
+    ghost view = { λ h. record { registry = h.registry; vips = h.vips; leases = h.leases } };
+
+    ghost invariant = { λ h. IsTied h.registry h.counts h.vips h.leases };
+}
+
+/// An accepted operation, with all that its commit needs.
+#[derive(Drop)]
+pub struct Ready {
+    ready: disco_registry::Ready,
+    key: Key,
+    step: Step,
+    moment: u64,
+}
+
+/// Makes the places that a change needs, if there is one. Refused only as `OutOfMemory`.
+fn open_places(
+    index: &mut VipIndex,
+    book: &mut LeaseBook,
+    change: Option<&Change>,
+) -> Result<(), Fault>
+    ensures vips { vip.IsSame index.old index.new }
+    ensures leases { lease.IsSame book.old book.new }
+    ensures places { OnOk result (HasPlacesFor index.new book.new (option_map (λ c. seen c.now) change.entry)) }
+    ensures memory { IfErr result (λ e. e ≡ OutOfMemory) }
+{
+    let Some(change) = change else {
+        return Ok(());
+    };
+    vips::open(index, change)?;
+    book.ready(change.key())
+}
+
+/// Does to what is kept beside the registry what the ready operation does to the registry.
+fn follow(
+    counts: &mut Counts,
+    index: &mut VipIndex,
+    book: &mut LeaseBook,
+    registry: &Registry,
+    ready: &Ready,
+)
+    requires tally { counts.old ≡ tally_in registry.now.held }
+    requires index { vip.IsIndexOf index.old registry.now.held }
+    requires few { len registry.now.held ≤ registry.now.version }
+    requires ready { commit.IsReady registry.now ready.now.ready }
+    requires places { HasPlacesFor index.old book.old (change_in ready.now) }
+    ensures counts { counts.new ≡ tally_in (held_after registry.now.held (change_in ready.now)) }
+    ensures vips { vip.IsIndexOf index.new (held_after registry.now.held (change_in ready.now)) }
+    ensures leases { AreLeased registry.now.held book.old → AreLeased (held_after registry.now.held (change_in ready.now)) book.new }
+{
+    let _version = registry.version();
+    match ready.ready.change() {
+        Some(change) => {
+            count(counts, registry, change);
+            vips::follow(index, registry, change);
+            leases::follow(book, change, ready.moment);
+        }
+        None => keep(book, &ready.key, ready.step, ready.moment),
+    }
+}
+
+impl Hub {
+    /// An empty registry within the limits of the settings.
+    pub fn new(alloc: Global, settings: &Settings) -> Hub
+        ensures empty { registry.StandsFor result.registry [] }
+        ensures limits { limits_of result.registry ≡ limits settings.now }
+    {
+        no_vips_law();
+        Hub {
+            alloc,
+            registry: Registry::new(alloc, settings.versions, settings.instances),
+            counts: Counts::new(),
+            vips: VipIndex::new(alloc),
+            leases: LeaseBook::new(alloc),
+        }
+    }
+
+    /// How many changes were accepted.
+    pub fn version(&self) -> u64
+        ensures { result ≡ self.now.registry.version }
+    {
+        self.registry.version()
+    }
+
+    /// Makes every growth that an operation at a moment in milliseconds needs, and changes no
+    /// answer. Refused as the operation is, and as `OutOfMemory`.
+    pub fn ready(&mut self, op: Op, now: u64) -> Result<Ready, Fault>
+        ensures same { registry.IsSame self.old.registry self.new.registry }
+        ensures ready { IfOk result (λ r. accepts self.old.registry (ask_of op) now ≡ Ok (change_in r) × IsReady self.new r) }
+        ensures refused { IfErr result (Refuses self.old.registry (ask_of op) now) }
+    {
+        same_vips_law();
+        let step = step_of(&op);
+        let key = op.key().clone()?;
+        let ready = self.registry.ready(op, now)?;
+        open_places(&mut self.vips, &mut self.leases, ready.change())?;
+        Ok(Ready {
+            ready,
+            key,
+            step,
+            moment: now,
+        })
+    }
+
+    /// Does what is ready, which has to be of this hub as it is. Takes no memory.
+    pub fn commit(&mut self, ready: Ready) -> Applied
+        requires { IsReady self.old ready }
+        ensures change { done_by result ≡ change_in ready }
+        ensures takes { Takes self.old.registry (change_in ready) self.new.registry }
+        ensures history { (h : List Entry) → registry.StandsFor self.old.registry h → registry.StandsFor self.new.registry (extended h (done_by result)) }
+    {
+        follow(
+            &mut self.counts,
+            &mut self.vips,
+            &mut self.leases,
+            &self.registry,
+            &ready,
+        );
+        self.registry.commit(ready.ready)
+    }
+
+    /// Does one operation at a moment in milliseconds, as the registry does it.
+    pub fn write(&mut self, op: Op, now: u64) -> Result<Applied, Fault>
+        ensures done { IfOk result (λ a. accepts self.old.registry (ask_of op) now ≡ Ok (done_by a)) }
+        ensures refused { IfErr result (Refuses self.old.registry (ask_of op) now) }
+        ensures limits { limits_of self.new.registry ≡ limits_of self.old.registry }
+        ensures history { (h : List Entry) → registry.StandsFor self.old.registry h → registry.StandsFor self.new.registry (extended h (outcome result)) }
+    {
+        let ready = self.ready(op, now)?;
+        Ok(self.commit(ready))
+    }
+
+    fn payload(&self, key: &DocKey, text: Vec<u8>) -> Result<Arc<Payload, Global>, Fault>
+        ensures payload { IfOk result (λ p. p.value ≡ record { key = key.now; base = self.now.registry.version; version = self.now.registry.version; text = text.items }) }
+        ensures memory { IfErr result (λ e. e ≡ OutOfMemory) }
+    {
+        let payload = Payload {
+            key: key.clone()?,
+            base: self.registry.version(),
+            version: self.registry.version(),
+            text: Bytes::from_vec(text),
+        };
+        Ok(Arc::new(self.alloc, payload)?)
+    }
+
+    fn text_of(&self, query: &Query) -> Result<Option<Vec<u8>>, Fault>
+        requires { is_delta query.now ≡ false }
+        ensures written { IfOk result (λ o. (h : List Entry) → registry.StandsFor self.now.registry h → IsWritten (asked_by query.now) h (option_map (λ v. v.items) o)) }
+        ensures memory { IfErr result (λ e. e ≡ OutOfMemory) }
+    {
+        write_full(self.alloc, query, &self.registry, &self.vips, &self.counts)
+    }
+
+    /// The document that is asked for, written anew. An app's name has to be in upper case. Refused
+    /// as `NotFound` exactly where an app, a vip, a secure vip or an instance is asked for and there
+    /// is none, as `DeltaDisabled` exactly for a delta, and as `OutOfMemory`.
+    pub fn load(&self, key: &DocKey) -> Result<Arc<Payload, Global>, Fault>
+        requires { key.now.form ≡ Full }
+        ensures key { IfOk result (λ p. p.value.key ≡ key.now) }
+        ensures version { IfOk result (λ p. p.value.version ≡ self.now.registry.version) }
+        ensures true_now { IfOk result (λ p. (h : List Entry) → registry.StandsFor self.now.registry h → IsTrue p.value h) }
+        ensures refused { IfErr result (λ e. e ≢ OutOfMemory → (h : List Entry) → registry.StandsFor self.now.registry h → refusal_of key.now.query h ≡ Some e) }
+    {
+        if matches!(key.query, Query::Delta) {
+            return Err(Fault::DeltaDisabled);
+        }
+        match self.text_of(&key.query)? {
+            Some(text) => Ok(self.payload(key, text)?),
+            None => Err(Fault::NotFound),
+        }
+    }
+
+    /// The document of an instance, as [`Hub::load`] gives it.
+    pub fn instance(&self, key: &Key, form: Form) -> Result<Arc<Payload, Global>, Fault>
+        requires { form ≡ Full }
+        ensures key { IfOk result (λ p. p.value.key ≡ doc_of_key key.now form) }
+        ensures version { IfOk result (λ p. p.value.version ≡ self.now.registry.version) }
+        ensures true_now { IfOk result (λ p. (h : List Entry) → registry.StandsFor self.now.registry h → IsTrue p.value h) }
+        ensures refused { IfErr result (λ e. e ≢ OutOfMemory → (h : List Entry) → registry.StandsFor self.now.registry h → refusal_of (doc_of_key key.now form).query h ≡ Some e) }
+    {
+        let key = DocKey {
+            query: Query::Instance(key.clone()?),
+            form,
+        };
+        Ok(self.load(&key)?)
+    }
+
+    /// The document of the instance of an id, as [`Hub::load`] gives it: of several apps' the one
+    /// with the least app. Refused as `NotFound` exactly where there is none, and as `OutOfMemory`.
+    pub fn by_id(&self, id: &str, form: Form) -> Result<Arc<Payload, Global>, Fault>
+        requires { form ≡ Full }
+        ensures key { IfOk result (λ p. (h : List Entry) → registry.StandsFor self.now.registry h → doc_of_id id.now form h ≡ Some p.value.key) }
+        ensures version { IfOk result (λ p. p.value.version ≡ self.now.registry.version) }
+        ensures true_now { IfOk result (λ p. (h : List Entry) → registry.StandsFor self.now.registry h → IsTrue p.value h) }
+        ensures refused { IfErr result (λ e. e ≢ OutOfMemory → (h : List Entry) → registry.StandsFor self.now.registry h → refusal_of_id id.now h ≡ Some e) }
+    {
+        match self.registry.by_id(id) {
+            Some(rec) => self.instance(&rec.key, form),
+            None => Err(Fault::NotFound),
+        }
+    }
+}

@@ -1,6 +1,0 @@
-use Rattle.disco_index.proofs.Changes.{empty_law}
-use Rattle.disco_world.proofs.Ties.{tied_new}
-use Rattle.disco_world.proofs.world.World.new.Goals as goal
-
-pub invariant_of-result : goal.invariant_of-result
-invariant_of-result c = tied_new empty_law c.new.result c.new-2.result c.new-3.result c.new.ensures.empty c.new-2.ensures c.new-3.ensures
