@@ -1,5 +1,6 @@
 pub mod Words
 pub mod Lines
+pub mod Loads
 pub mod Answers
 pub mod Options
 pub mod Query

@@ -1,13 +1,12 @@
 -- Lines, and the events that they mean (this project's own format).
-use Rattle.std.specs.Prelude.{ℕ, Bool, List, [], ◌∷◌, ◌+◌, ◌<◌, ◌≡◌, length, map, not, Option, Some, None, ◌&&◌, ◌==◌, if◌then◌else◌, option_and_then, option_map, is_some, unwrap_or, codes}
+use Rattle.std.specs.Prelude.{ℕ, Bool, List, [], ◌∷◌, ◌+◌, ◌<◌, ◌≡◌, length, map, not, Option, Some, None, ◌==◌, if◌then◌else◌, option_and_then, option_map, is_some, unwrap_or, codes}
 use Rattle.std.specs.List.{onto_first, position_or_len}
 use Rattle.std.specs.Str.{bytes_eq}
 use Rattle.disco_instance.specs.declared.fault.Fault.{Fault}
 use Rattle.disco_instance.specs.declared.fault.Fault.TheVariants.{BadEvent}
-use Rattle.disco_instance.specs.declared.form.Form.TheVariants.{Full}
 use Rattle.disco_world.specs.declared.event.Event.{Event}
-use Rattle.disco_world.specs.declared.event.Event.TheVariants.{Register, Cancel, Renew, SetStatus, DropStatus, Metadata, Load}
-use Rattle.disco_world.specs.declared.event.Query.TheVariants.{Apps}
+use Rattle.disco_world.specs.declared.event.Event.TheVariants.{Register, Cancel, Renew, SetStatus, DropStatus, Metadata}
+use Rattle.disco_prog.specs.Loads.{last_word, load}
 use Rattle.disco_prog.specs.Query.{entries_of_query}
 use Rattle.disco_prog.specs.Words.{first_word, after_word, text_of_word, moment_of_word}
 
@@ -20,10 +19,6 @@ registration words =
     (moment_of_word (first_word words)))
     (after_word rest))
     (after_word words)
-
--- a text that is the last word of its line
-abbrev pub last_word : List ℕ → Option (List ℕ)
-last_word word = if is_some (after_word word) then None else text_of_word (first_word word)
 
 -- the moment, the app and the id at the head of the words
 abbrev pub target : List ℕ → Option (ℕ × List ℕ × List ℕ)
@@ -64,16 +59,6 @@ override_removal words = option_and_then (dropped_by (behind_target words)) (tar
 -- `NOW APP ID`, and the query, which is the rest of the line as it stands
 abbrev pub metadata_change : List ℕ → Option Event
 metadata_change words = option_map (λ t. Metadata t.0 t.1 t.2 (entries_of_query (unwrap_or (behind_target words) []))) (target words)
-
--- `full apps`
-abbrev pub load : List ℕ → Option Event
-load words =
-    option_and_then (λ rest. option_and_then (λ form. option_and_then (λ query.
-    if bytes_eq form (codes "full") && bytes_eq query (codes "apps")
-    then Some (Load (record { query = Apps; form = Full })) else None)
-    (last_word rest))
-    (text_of_word (first_word words)))
-    (after_word words)
 
 -- what is meant by a keyword and the words behind it
 abbrev pub event_named : List ℕ → List ℕ → Option Event

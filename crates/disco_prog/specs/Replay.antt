@@ -1,13 +1,14 @@
 -- What `replay` reads and writes.
-use Rattle.std.specs.Prelude.{◌≡◌, ◌⊎◌, ℕ, List, length, map, Option, Some, IfSome}
+use Rattle.std.specs.Prelude.{◌≡◌, ◌⊎◌, ◌+◌, ℕ, List, length, map, Option, Some, IfSome, position}
 use Rattle.std.specs.Io.KnownBytes.{Appends}
 use Rattle.clap.specs.Words.{Text}
 use Rattle.disco_instance.specs.declared.fault.Fault.{Fault}
-use Rattle.disco_instance.specs.declared.fault.Fault.TheVariants.{OutOfMemory, ReadFailed, WriteFailed}
-use Rattle.disco_world.specs.Answers.{AreAnswers, AreServed, limits}
+use Rattle.disco_instance.specs.declared.fault.Fault.TheVariants.{BadEvent, OutOfMemory, ReadFailed, WriteFailed}
+use Rattle.disco_hub.specs.State.{limits}
+use Rattle.disco_world.specs.Answers.{AreAnswers, AreServed, is_compact_load}
 use Rattle.disco_world.specs.declared.event.Event.{Event}
 use Rattle.disco_world.specs.declared.event.Reply.{Reply}
-use Rattle.disco_world.specs.declared.settings.Settings.{Settings}
+use Rattle.disco_hub.specs.declared.settings.Settings.{Settings}
 use Rattle.disco_prog.specs.Answers.{answer_lines}
 use Rattle.disco_prog.specs.Lines.{IsFirstBadLine, meanings}
 use Rattle.disco_prog.specs.Options.{NamedBy}
@@ -24,9 +25,13 @@ AreRead known events = (input : List ℕ) × IsAllOf known input × (map Some ev
 abbrev pub NamesBadLine : Option (List ℕ) → Fault → Type 0
 NamesBadLine known fault = (input : List ℕ) × IsAllOf known input × IsFirstBadLine input fault
 
+-- the fault names the first event of the whole input that asks for the compact form, which isn't served yet
+abbrev pub NamesCompactLoad : Option (List ℕ) → Fault → Type 0
+NamesCompactLoad known fault = (events : List Event) × (i : ℕ) × AreRead known events × (position is_compact_load events ≡ Some i) × (fault ≡ BadEvent (i + 1))
+
 -- why events may get no answers, or not all
 abbrev pub IsRunFault : Option (List ℕ) → Fault → Type 0
-IsRunFault known fault = (fault ≡ OutOfMemory) ⊎ ((fault ≡ ReadFailed) ⊎ ((fault ≡ WriteFailed) ⊎ NamesBadLine known fault))
+IsRunFault known fault = (fault ≡ OutOfMemory) ⊎ ((fault ≡ ReadFailed) ⊎ ((fault ≡ WriteFailed) ⊎ (NamesBadLine known fault ⊎ NamesCompactLoad known fault)))
 
 -- each event of the whole input is answered, and the answer lines are written
 pub record IsAnswered (settings : Settings) (known old new : Option (List ℕ)) : Type 0 where

@@ -1,13 +1,14 @@
 //! The event that a line means. `None` stands for a line that can't be read.
 ghost use Rattle.std.specs.Prelude.{◌≡◌, IfOk, IfErr, option_map};
 ghost use Rattle.disco_instance.specs.declared.fault.Fault.TheVariants.{OutOfMemory};
-ghost use Rattle.disco_prog.specs.Lines.{behind_target, cancellation, event_of, last_word, load, metadata_change, override_removal, registration, renewal, status_change, target};
+ghost use Rattle.disco_prog.specs.Lines.{behind_target, cancellation, event_of, metadata_change, override_removal, registration, renewal, status_change, target};
 ghost use Rattle.disco_prog.specs.Words.{moment_of_word};
 
+use crate::load::{last_text, load_of};
 use crate::query::entries_of_query;
 use crate::words::{split_word, text_of_word};
-use disco_instance::{Bytes, Fault, Form, Text, number_of_digits};
-use disco_world::{DocKey, Event, Query};
+use disco_instance::{Bytes, Fault, Text, number_of_digits};
+use disco_world::Event;
 use std::alloc::Global;
 
 /// The event that a line means, `None` where it means none. Words stand with one space between
@@ -20,7 +21,8 @@ use std::alloc::Global;
 /// - `unstatus NOW APP ID`, or `unstatus NOW APP ID STATUS`;
 /// - `metadata NOW APP ID`, or `metadata NOW APP ID QUERY`, where the query is the rest of the line
 ///   as it stands;
-/// - `load full apps`.
+/// - `load FORM QUERY`, where the form is `full` or `compact`, and the query `apps`, `app NAME`,
+///   `vip VIP`, `svip SVIP`, `one APP ID` or `id ID`.
 ///
 /// Refused only as `OutOfMemory`.
 pub(crate) fn event_of(alloc: Global, line: &[u8]) -> Result<Option<Event>, Fault>
@@ -53,16 +55,6 @@ fn moment_of_word(alloc: Global, word: &[u8]) -> Result<Option<u64>, Fault>
         Some(text) => Ok(number_of_digits(text.as_str())),
         None => Ok(None),
     }
-}
-
-fn last_text(alloc: Global, words: &[u8]) -> Result<Option<Text>, Fault>
-    ensures value { IfOk result (λ found. found ≡ last_word words.now) }
-    ensures memory { IfErr result (λ e. e ≡ OutOfMemory) }
-{
-    let (word, None) = split_word(words) else {
-        return Ok(None);
-    };
-    text_of_word(alloc, word)
 }
 
 fn register_of(alloc: Global, words: &[u8]) -> Result<Option<Event>, Fault>
@@ -204,28 +196,4 @@ fn metadata_of(alloc: Global, words: &[u8]) -> Result<Option<Event>, Fault>
         id,
         entries,
     }))
-}
-
-fn load_of(alloc: Global, words: &[u8]) -> Result<Option<Event>, Fault>
-    ensures value { IfOk result (λ found. found ≡ load words.now) }
-    ensures memory { IfErr result (λ e. e ≡ OutOfMemory) }
-{
-    let (form, Some(rest)) = split_word(words) else {
-        return Ok(None);
-    };
-    let Some(form) = text_of_word(alloc, form)? else {
-        return Ok(None);
-    };
-    let Some(query) = last_text(alloc, rest)? else {
-        return Ok(None);
-    };
-    if form.as_str() == "full" && query.as_str() == "apps" {
-        let key = DocKey {
-            query: Query::Apps,
-            form: Form::Full,
-        };
-        Ok(Some(Event::Load { key }))
-    } else {
-        Ok(None)
-    }
 }

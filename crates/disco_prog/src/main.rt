@@ -5,6 +5,7 @@ mod answers;
 mod faults;
 mod line;
 mod lines;
+mod load;
 mod options;
 mod query;
 mod replay;

@@ -7,6 +7,7 @@ use std::io::{Read, Write};
 use std::process::Abort;
 use std::test::Fail;
 
+mod documents;
 mod operations;
 
 const EMPTY: &str =
@@ -161,43 +162,70 @@ fn answers_no_line_at_the_end_of_no_input(rt: HostRuntime) -> Result<(), Fail> {
     Ok(())
 }
 
-#[test]
-fn names_the_line_that_it_cannot_read(rt: HostRuntime) -> Result<(), Fail> {
-    let alloc = rt.alloc();
-    let lines: [&[u8]; 24] = [
-        b"",
-        b" ",
-        b"load",
-        b"load full",
-        b"load full apps ",
-        b"load  full apps",
-        b"load full apps\r",
-        b"load compact apps",
-        b"Load full apps",
-        b" load full apps",
-        b"register 1 A",
-        b"register  A {}",
-        b"register +1 A {}",
-        b"register -1 A {}",
-        b"register 18446744073709551616 A {}",
-        b"register 1x A {}",
-        b"register%201 A {}",
-        b"register 1 %ff {}",
-        b"register 1 \xff {}",
-        b"cancel 1 A",
-        b"cancel 1 A 1 ",
-        b"cancel 1 A %C3",
-        b"cancel 1 A+B C D",
-        b"hello",
-    ];
+/// Each of these lines means no event, and is named by its number.
+fn cannot_read(rt: &impl Abort, alloc: Global, lines: &[&[u8]]) -> Result<(), Fail> {
     for line in lines {
         let mut input = Vec::new(alloc);
         input.write_all(b"load full apps\n")?;
-        input.write_all(line)?;
+        input.write_all(*line)?;
         input.write_all(b"\nhello\n")?;
         let outcome = run(alloc, &["replay"], input.as_slice())?;
-        check(&rt, &outcome, 1, b"", b"discovery: fault 23 at line 2\n");
+        check(rt, &outcome, 1, b"", b"discovery: fault 23 at line 2\n");
     }
+    Ok(())
+}
+
+#[test]
+fn names_the_load_that_it_cannot_read(rt: HostRuntime) -> Result<(), Fail> {
+    cannot_read(
+        &rt,
+        rt.alloc(),
+        &[
+            b"load",
+            b"load full",
+            b"load full apps ",
+            b"load  full apps",
+            b"load full apps\r",
+            b"load compact apps",
+            b"load half apps",
+            b"load full delta",
+            b"load full app",
+            b"load full vip a b",
+            b"load full one A",
+            b"load full one A 1 x",
+            b"load full id %ff",
+            b"Load full apps",
+            b" load full apps",
+        ],
+    )?;
+    Ok(())
+}
+
+#[test]
+fn names_the_line_that_it_cannot_read(rt: HostRuntime) -> Result<(), Fail> {
+    let alloc = rt.alloc();
+    cannot_read(
+        &rt,
+        alloc,
+        &[
+            b"",
+            b" ",
+            b"register 1 A",
+            b"register  A {}",
+            b"register +1 A {}",
+            b"register -1 A {}",
+            b"register 18446744073709551616 A {}",
+            b"register 1x A {}",
+            b"register%201 A {}",
+            b"register 1 %ff {}",
+            b"register 1 \xff {}",
+            b"cancel 1 A",
+            b"cancel 1 A 1 ",
+            b"cancel 1 A %C3",
+            b"cancel 1 A+B C D",
+            b"hello",
+        ],
+    )?;
     let outcome = run(alloc, &["replay"], b"\n")?;
     check(&rt, &outcome, 1, b"", b"discovery: fault 23 at line 1\n");
     let outcome = run(alloc, &["replay"], b"load full apps\n\n")?;
