@@ -2,10 +2,9 @@
 documents.py PROGRAM FOLDER COUNT SIZE.."""
 
 import os
-import statistics
 import sys
 
-from runs import adopt, measured, write_lines
+from runs import adopt, median_seconds, print_growth
 
 # How often each run is made. The median counts.
 TIMES = 5
@@ -43,12 +42,11 @@ def one_load(size):
 
 
 # Each kind with how many loads stand for one of an app.
-KINDS = (("an app of %d" % OF_APP, app_load, 1), ("a vip with %d" % OF_VIP, vip_load, 10), ("one instance", one_load, 100))
-
-
-def seconds_of(program, path, lines):
-    write_lines(path, lines)
-    return statistics.median(measured(program, path)[0] for _ in range(TIMES))
+KINDS = (
+    ("an app of %d" % OF_APP, app_load, 1),
+    ("a vip with %d" % OF_VIP, vip_load, 10),
+    ("one instance", one_load, 100),
+)
 
 
 def main():
@@ -57,22 +55,14 @@ def main():
     path = os.path.join(folder, "documents.events")
     sizes = [int(word) for word in sys.argv[4:]]
     starts = {size: [registration(i) for i in range(size)] for size in sizes}
-    alone = {size: seconds_of(program, path, starts[size]) for size in sizes}
+    alone = {size: median_seconds(program, path, starts[size], TIMES) for size in sizes}
     for name, line_of, times in KINDS:
-        first = None
-        for size in sizes:
-            loads = [line_of(size)] * (count * times)
-            each = (seconds_of(program, path, starts[size] + loads) - alone[size]) / len(loads)
-            text = "%d instances, %d loads of %s: %.1f microseconds each" % (
-                size,
-                len(loads),
-                name,
-                each * 1e6,
-            )
-            if first is not None:
-                text += ", %.2f times as over %d" % (each / first, sizes[0])
-            print(text, flush=True)
-            first = first if first is not None else each
+
+        def seconds_of_one(size):
+            lines = [line_of(size)] * (count * times)
+            return (median_seconds(program, path, starts[size] + lines, TIMES) - alone[size]) / len(lines)
+
+        print_growth(sizes, seconds_of_one, "%d loads of %s" % (count * times, name))
 
 
 main()

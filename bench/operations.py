@@ -2,10 +2,9 @@
 operations.py PROGRAM FOLDER COUNT SIZE.."""
 
 import os
-import statistics
 import sys
 
-from runs import adopt, app_of, measured, registration, write_lines
+from runs import adopt, app_of, median_seconds, print_growth, registration
 
 # How often each run is made. The median counts.
 TIMES = 5
@@ -28,33 +27,20 @@ def metadata_change(i, round_of):
 KINDS = (("renewal", renewal), ("status change", status_change), ("metadata change", metadata_change))
 
 
-def seconds_of(program, path, lines):
-    write_lines(path, lines)
-    return statistics.median(measured(program, path)[0] for _ in range(TIMES))
-
-
 def main():
     adopt()
     program, folder, count = sys.argv[1], sys.argv[2], int(sys.argv[3])
     path = os.path.join(folder, "operations.events")
     sizes = [int(word) for word in sys.argv[4:]]
     starts = {size: [registration(i) for i in range(size)] for size in sizes}
-    alone = {size: seconds_of(program, path, starts[size]) for size in sizes}
+    alone = {size: median_seconds(program, path, starts[size], TIMES) for size in sizes}
     for name, line_of in KINDS:
-        first = None
-        for size in sizes:
+
+        def seconds_of_one(size):
             lines = [line_of(j % size, j // size) for j in range(count)]
-            each = (seconds_of(program, path, starts[size] + lines) - alone[size]) / count
-            text = "%d instances, %d times a %s: %.2f microseconds each" % (
-                size,
-                count,
-                name,
-                each * 1e6,
-            )
-            if first is not None:
-                text += ", %.2f times as over %d" % (each / first, sizes[0])
-            print(text, flush=True)
-            first = first if first is not None else each
+            return (median_seconds(program, path, starts[size] + lines, TIMES) - alone[size]) / count
+
+        print_growth(sizes, seconds_of_one, "%d times a %s" % (count, name))
 
 
 main()

@@ -2,6 +2,7 @@
 
 import ctypes
 import os
+import statistics
 import subprocess
 import sys
 import time
@@ -50,3 +51,21 @@ def measured(program, path):
     if code != 0:
         sys.exit("a run ended with status %d" % code)
     return seconds, usage.ru_maxrss
+
+
+def median_seconds(program, path, lines, times):
+    """The median of so many runs on these lines."""
+    write_lines(path, lines)
+    return statistics.median(measured(program, path)[0] for _ in range(times))
+
+
+def print_growth(sizes, seconds_of_one, name):
+    """Prints what one of that name costs over each number of instances, and how it grew."""
+    first = None
+    for size in sizes:
+        each = seconds_of_one(size)
+        text = "%d instances, %s: %.2f microseconds each" % (size, name, each * 1e6)
+        if first is not None:
+            text += ", %.2f times as over %d" % (each / first, sizes[0])
+        print(text, flush=True)
+        first = first if first is not None else each
