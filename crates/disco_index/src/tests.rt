@@ -6,6 +6,7 @@ ghost use Rattle.disco_index.specs.Tally.{more, tally_of};
 use crate::counts::Counts;
 use disco_instance::Status;
 
+mod next_vip;
 mod vips;
 
 /// Two are up, one is down and one is unknown.

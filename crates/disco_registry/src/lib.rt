@@ -10,6 +10,8 @@ mod list;
 mod op;
 mod registry;
 mod settle;
+#[cfg(test)]
+mod tests;
 
 pub use held::Held;
 pub use op::{Applied, Op};
