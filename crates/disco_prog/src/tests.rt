@@ -186,7 +186,6 @@ fn names_the_load_that_it_cannot_read(rt: HostRuntime) -> Result<(), Fail> {
             b"load full apps ",
             b"load  full apps",
             b"load full apps\r",
-            b"load compact apps",
             b"load half apps",
             b"load full delta",
             b"load full app",

@@ -151,16 +151,3 @@ fn a_root_of_another_kind_means_nothing(rt: HostRuntime) {
         ],
     );
 }
-
-#[test]
-fn a_document_of_less_than_all_apps_is_not_read(rt: HostRuntime) {
-    mean_nothing(
-        &rt,
-        rt.alloc(),
-        &[
-            r#"{"application":{"name":"a","instance":{"instanceId":"1"}}}"#,
-            r#"{"instance":{"instanceId":"1","app":"a"}}"#,
-            r#"{"applications":[],"application":{"name":"a"}}"#,
-        ],
-    );
-}
