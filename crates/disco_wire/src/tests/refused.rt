@@ -151,3 +151,25 @@ fn a_root_of_another_kind_means_nothing(rt: HostRuntime) {
         ],
     );
 }
+
+#[test]
+fn other_kinds_of_an_app_and_an_instance_mean_nothing(rt: HostRuntime) {
+    mean_nothing(
+        &rt,
+        rt.alloc(),
+        &[
+            r#""application""#,
+            r#"{"application":[]}"#,
+            r#"{"application":{"instance":1}}"#,
+            r#"{"application":{"instance":[null]}}"#,
+            r#"{"application":{"instance":{"instanceId":"1"}}}"#,
+            r#"{"application":{"name":"a","instance":{}}}"#,
+            r#"{"instance":[{"instanceId":"1","app":"a"}]}"#,
+            r#"{"instance":null}"#,
+            r#"{"instance":{"instanceId":"1"}}"#,
+            r#"{"instance":{"app":"a"}}"#,
+            r#"{"name":"a","instance":{"instanceId":"1"}}"#,
+            r#"{"instances":{"instanceId":"1","app":"a"}}"#,
+        ],
+    );
+}
