@@ -1,8 +1,12 @@
+pub mod Apps
 pub mod Change
 pub mod Chosen
+pub mod Coded
 pub mod Forms
 pub mod Hash
+pub mod Held
 pub mod Laws
+pub mod List
 pub mod Mentions
 pub mod Query
 pub mod Registry

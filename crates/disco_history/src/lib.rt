@@ -4,9 +4,14 @@
 //! first v of them leave. Nothing keeps a whole history: it stands in contracts alone.
 #![tactic(auto)]
 
+mod apps;
 mod change;
+mod held;
 pub mod laws;
+mod list;
 #[cfg(test)]
 mod tests;
 
 pub use change::{Change, last_of};
+pub use held::Held;
+pub use list::RecordList;

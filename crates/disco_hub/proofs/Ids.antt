@@ -8,7 +8,7 @@ use Rattle.disco_history.specs.Change.{Entry}
 use Rattle.disco_history.specs.Query.{by_id}
 use Rattle.disco_history.specs.Registry.{reg, said}
 use Rattle.disco_history.proofs.Sets.{values-reg}
-use Rattle.disco_registry.specs.Apps.{first_of_id, is_of_id}
+use Rattle.disco_history.specs.Apps.{first_of_id, is_of_id}
 use Rattle.disco_registry.specs.State.{State, StandsFor}
 
 abbrev first_row : List ℕ → List Row → Option Row

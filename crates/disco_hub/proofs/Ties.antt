@@ -20,7 +20,7 @@ use Rattle.disco_index.specs.Vips as vips
 use Rattle.disco_lease.specs.Leases as leases
 use Rattle.disco_lease.specs.Leases.{Lease, Leases, Sets, extended, lease_at, marked, no_leases}
 use Rattle.disco_registry.specs.Commit.{IsReadyFor, Takes, change_in, held_after, version_after}
-use Rattle.disco_registry.specs.Held.{record_at}
+use Rattle.disco_history.specs.Held.{record_at}
 use Rattle.disco_registry.specs.State.{State, StandsFor, IsSame}
 use Rattle.disco_registry.specs.declared.registry.Ready.{Ready}
 use Rattle.disco_instance.specs.declared.action.Action.{Action}

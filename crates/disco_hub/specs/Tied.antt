@@ -7,7 +7,7 @@ use Rattle.disco_history.specs.Change.{Entry}
 use Rattle.disco_index.specs.Tally.{Tally, tally_in}
 use Rattle.disco_index.specs.Vips.{IsIndexOf, VipKeys}
 use Rattle.disco_lease.specs.Leases.{Leases, lease_at}
-use Rattle.disco_registry.specs.Held.{record_at}
+use Rattle.disco_history.specs.Held.{record_at}
 use Rattle.disco_registry.specs.State.{State}
 
 -- exactly the instances that are held have leases, of their records' durations

@@ -1,5 +1,2 @@
 mod Histories
-mod Places
 mod Readies
-mod Runs
-mod Searches

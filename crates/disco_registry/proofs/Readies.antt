@@ -15,7 +15,7 @@ use Rattle.disco_instance.specs.declared.status.Status.{Status}
 use Rattle.disco_instance.specs.declared.status.Status.TheVariants.{Unknown}
 use Rattle.disco_history.specs.Change.{Entry}
 use Rattle.disco_registry.specs.Accept.{Limits, accepts, asked, cancelled, if_left, is_new, limits_of, metadata_added, override_dropped, status_set}
-use Rattle.disco_registry.specs.Held.{record_at}
+use Rattle.disco_history.specs.Held.{record_at}
 use Rattle.disco_registry.specs.Op.{register}
 use Rattle.disco_registry.specs.Settle.{settle}
 use Rattle.disco_registry.specs.State.{State}

@@ -13,7 +13,7 @@ use Rattle.disco_instance.specs.declared.fault.Fault.{Fault}
 use Rattle.disco_instance.specs.declared.fault.Fault.TheVariants.{OutOfMemory, BadStatus, NotFound, VersionsSpent, TooManyInstances}
 use Rattle.disco_history.specs.Change.{Entry}
 use Rattle.disco_history.specs.Registry.{reg, said}
-use Rattle.disco_registry.specs.Held.{record_at}
+use Rattle.disco_history.specs.Held.{record_at}
 use Rattle.disco_registry.specs.Op.{Ask, register, cancel, renew, set_status, drop_status, add_metadata}
 use Rattle.disco_registry.specs.Settle.{settle}
 use Rattle.disco_registry.specs.State.{State}

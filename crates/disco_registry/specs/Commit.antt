@@ -9,7 +9,7 @@ use Rattle.disco_history.specs.Change.{Entry, key_of, seen}
 use Rattle.disco_history.specs.Registry.{put_of}
 use Rattle.disco_history.specs.declared.change.Change.{Change}
 use Rattle.disco_history.specs.declared.change.Change.TheVariants.{Put, Gone}
-use Rattle.disco_registry.specs.Held.{entry_of}
+use Rattle.disco_history.specs.Held.{entry_of}
 use Rattle.disco_registry.specs.State.{State}
 use Rattle.disco_registry.specs.declared.op.Applied.{Applied}
 use Rattle.disco_registry.specs.declared.op.Applied.TheVariants.{Changed, Same}

@@ -4,15 +4,11 @@
 //! records it holds and whose length is its version.
 #![tactic(auto)]
 
-mod apps;
-mod held;
-mod list;
 mod op;
 mod registry;
 mod settle;
 #[cfg(test)]
 mod tests;
 
-pub use held::Held;
 pub use op::{Applied, Op};
 pub use registry::{Ready, Registry};

@@ -8,18 +8,15 @@ ghost use Rattle.disco_instance.specs.declared.fault.Fault.TheVariants.{OutOfMem
 ghost use Rattle.disco_history.specs.Change.{Entry, seen};
 ghost use Rattle.disco_history.specs.Registry.{put_of};
 ghost use Rattle.disco_registry.specs.Accept.{Refuses, accepts, is_new, limits_of, status_given};
-ghost use Rattle.disco_registry.specs.Apps.{first_of_id, is_of_app};
+ghost use Rattle.disco_history.specs.Apps.{first_of_id, is_of_app};
 ghost use Rattle.disco_registry.specs.Commit.{change_in, IsReady, IsReadyFor, Takes, done_by, extended, outcome};
-ghost use Rattle.disco_registry.specs.Held.{entry_of, record_at, seen_record};
+ghost use Rattle.disco_history.specs.Held.{entry_of, record_at, seen_record};
 ghost use Rattle.disco_registry.specs.Op.{ask_of, register, cancel, renew, set_status, drop_status, add_metadata};
 ghost use Rattle.disco_registry.specs.State.{IsSame, StandsFor, State};
 
-use crate::apps::first_of_id;
-use crate::held::Held;
-use crate::list::RecordList;
 use crate::op::{Applied, Op};
 use crate::settle::settled;
-use disco_history::Change;
+use disco_history::{Change, Held, RecordList};
 use disco_instance::{Action, Entries, Fault, Key, Record, Status, Text, status_of};
 use std::alloc::Global;
 use std::marker::Model;
@@ -166,7 +163,7 @@ impl Registry {
     pub fn held_by_id(&self, id: &str) -> Option<&Held>
         ensures { option_map (λ h. entry_of h.now) result ≡ first_of_id id.now (values self.now.held) }
     {
-        first_of_id(self.records.as_slice(), id)
+        self.records.of_id(id)
     }
 
     /// The record of an id: of several apps' the one with the least app, in byte order.

@@ -2,7 +2,8 @@
 ghost use Rattle.std.specs.Prelude.{◌≡◌, ◌≢◌, [], IfOk};
 ghost use Rattle.disco_instance.specs.Text.{in_upper_case};
 
-use crate::{Held, Op, Registry};
+use crate::{Op, Registry};
+use disco_history::Held;
 use disco_instance::{Action, DataCenter, Entries, Fault, Key, Lease, Port, Record, Status, Text};
 use std::alloc::{AllocError, Global};
 use std::process::Abort;

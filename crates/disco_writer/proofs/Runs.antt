@@ -9,12 +9,12 @@ use Rattle.std.specs.Cmp.Lexicographic.{nat_list_eq_equiv}
 use Rattle.serde_json.specs.Data.{Data}
 use Rattle.serde_json.specs.View.{view}
 use Rattle.serde_json.specs.declared.value.Value.{Value}
-use Rattle.disco_registry.specs.declared.held.Held.{Held}
+use Rattle.disco_history.specs.declared.held.Held.{Held}
 use Rattle.disco_history.specs.Change.{Entry}
 use Rattle.disco_instance.specs.Row.{IsWellFormed}
 use Rattle.disco_writer.specs.Trees.{instance_tree, app_tree, by_app, with_first}
 use Rattle.disco_writer.specs.Rows.{entries_of, is_of, AreWellFormed}
-use Rattle.disco_registry.specs.Held.{entry_of}
+use Rattle.disco_history.specs.Held.{entry_of}
 
 view_last : (vs : List Value) (v : Value) (rest : List Data) → map view (vs ++ v ∷ []) ++ rest ≡ map view vs ++ view v ∷ rest
 view_last [] v rest = refl

@@ -4,8 +4,8 @@ use Rattle.std.specs.List.{AllByRecursion}
 use Rattle.std.specs.Str.{bytes_eq}
 use Rattle.disco_instance.specs.Row.{IsWellFormed, Row}
 use Rattle.disco_history.specs.Change.{Entry}
-use Rattle.disco_registry.specs.Held.{entry_of}
-use Rattle.disco_registry.specs.declared.held.Held.{Held}
+use Rattle.disco_history.specs.Held.{entry_of}
+use Rattle.disco_history.specs.declared.held.Held.{Held}
 
 abbrev pub entries_of : List Held → List Entry
 entries_of hs = map entry_of hs

@@ -23,7 +23,8 @@ use crate::single::{app_text, instance_text};
 use disco_index::laws::{hash_law, under_vip_law};
 use disco_index::{Counts, VipIndex};
 use disco_instance::{Fault, Key, Text};
-use disco_registry::{Held, Registry};
+use disco_history::Held;
+use disco_registry::Registry;
 use std::alloc::Global;
 
 /// The document that a query asks for, in the full form, as compact JSON; `None` exactly where the

@@ -6,12 +6,13 @@ ghost use Rattle.disco_instance.specs.declared.fault.Fault.TheVariants.{OutOfMem
 ghost use Rattle.disco_history.specs.Query.{asks_for, of_secure_vip};
 ghost use Rattle.disco_index.specs.Tally.{tally_of};
 ghost use Rattle.disco_index.specs.Vips.{under};
-ghost use Rattle.disco_registry.specs.Held.{entry_of};
+ghost use Rattle.disco_history.specs.Held.{entry_of};
 ghost use Rattle.disco_writer.specs.Rows.{entries_of, rows_in};
 
 use disco_index::{Counts, VipIndex, has_vip};
 use disco_instance::{Fault, Key, Text};
-use disco_registry::{Held, Registry};
+use disco_history::Held;
+use disco_registry::Registry;
 use std::alloc::{AllocError, Global};
 
 /// The records at these keys, shared.

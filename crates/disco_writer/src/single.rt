@@ -2,7 +2,7 @@
 ghost use Rattle.std.specs.Prelude.{◌≡◌, ◌∷◌, [], IfOk, None, Ok, map};
 ghost use Rattle.serde_json.specs.Written.{compact_text};
 ghost use Rattle.disco_history.specs.Mentions.{mention_of};
-ghost use Rattle.disco_registry.specs.Held.{entry_of};
+ghost use Rattle.disco_history.specs.Held.{entry_of};
 ghost use Rattle.disco_wire.specs.Documents.{document_of};
 ghost use Rattle.disco_wire.specs.Meaning.{meant};
 ghost use Rattle.disco_wire.specs.declared.wire.Shape.TheVariants.{App, One};
@@ -15,7 +15,7 @@ use crate::instance::instance_value;
 use crate::many::app_value;
 use crate::text::text_of_tree;
 use disco_instance::{Text, well_formed};
-use disco_registry::Held;
+use disco_history::Held;
 use serde_json::{Value, json};
 use std::alloc::{AllocError, Global};
 

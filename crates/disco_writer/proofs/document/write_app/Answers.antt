@@ -6,8 +6,8 @@ use Rattle.disco_instance.specs.Key.{key_cmp}
 use Rattle.disco_history.specs.Change.{Entry}
 use Rattle.disco_history.specs.Query.{of_app}
 use Rattle.disco_history.proofs.Restrictions.{values-said_restrict}
-use Rattle.disco_registry.specs.Apps.{is_of_app}
-use Rattle.disco_registry.specs.Held.{entry_of}
+use Rattle.disco_history.specs.Apps.{is_of_app}
+use Rattle.disco_history.specs.Held.{entry_of}
 use Rattle.disco_writer.specs.Rows.{entries_of}
 use Rattle.disco_writer.proofs.Written.{none_written, some_there, some_written}
 use Rattle.disco_writer.proofs.document.write_app.Goals as goal

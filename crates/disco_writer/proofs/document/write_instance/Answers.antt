@@ -4,7 +4,7 @@ use Rattle.disco_instance.specs.Key.{key_cmp}
 use Rattle.disco_history.specs.Change.{Entry}
 use Rattle.disco_history.specs.Query.{of_key}
 use Rattle.disco_history.proofs.Restrictions.{listed, values-said_key}
-use Rattle.disco_registry.specs.Held.{entry_of}
+use Rattle.disco_history.specs.Held.{entry_of}
 use Rattle.disco_writer.specs.Documents.{mentioned}
 use Rattle.disco_writer.proofs.Written.{none_written, some_there, some_written}
 use Rattle.disco_writer.proofs.document.write_instance.Goals as goal

@@ -5,7 +5,7 @@ use Rattle.disco_instance.specs.Key.{key_cmp}
 use Rattle.disco_history.specs.Change.{Entry}
 use Rattle.disco_history.specs.Query.{asks_for, of_secure_vip}
 use Rattle.disco_history.proofs.Restrictions.{values-said_restrict}
-use Rattle.disco_registry.specs.Held.{entry_of}
+use Rattle.disco_history.specs.Held.{entry_of}
 use Rattle.disco_writer.specs.Documents.{mentioned}
 use Rattle.disco_writer.specs.Rows.{entries_of}
 use Rattle.disco_writer.proofs.Written.{many_written}

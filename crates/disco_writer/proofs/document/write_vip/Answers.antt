@@ -10,7 +10,7 @@ use Rattle.disco_history.specs.Registry.{reg, said}
 use Rattle.disco_history.proofs.Restrictions.{found-restrict}
 use Rattle.disco_history.proofs.Sets.{first_of, get-said_reg}
 use Rattle.disco_index.specs.Vips.{under}
-use Rattle.disco_registry.specs.Held.{entry_of}
+use Rattle.disco_history.specs.Held.{entry_of}
 use Rattle.disco_writer.specs.Documents.{mentioned}
 use Rattle.disco_writer.specs.Rows.{entries_of}
 use Rattle.disco_writer.proofs.Written.{many_written}

@@ -1,6 +1,6 @@
 use Rattle.std.proofs.Common.{ap, ◌∙◌}
 use Rattle.serde_json.specs.Written.{compact_text}
-use Rattle.disco_registry.specs.Held.{entry_of}
+use Rattle.disco_history.specs.Held.{entry_of}
 use Rattle.disco_writer.proofs.Texts.{instance_document_depth, instance_document_plain}
 use Rattle.disco_writer.proofs.Documents.{one_law}
 use Rattle.disco_writer.proofs.single.instance_text.Goals as goal

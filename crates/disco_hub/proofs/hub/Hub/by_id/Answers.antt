@@ -3,7 +3,7 @@ use Rattle.std.specs.FinMap.{values}
 use Rattle.disco_instance.specs.Row.{Row, row}
 use Rattle.disco_history.specs.Query.{by_id}
 use Rattle.disco_history.specs.Registry.{reg}
-use Rattle.disco_registry.specs.Apps.{first_of_id}
+use Rattle.disco_history.specs.Apps.{first_of_id}
 use Rattle.disco_hub.specs.Refusals.{doc_of_key, refusal_by}
 use Rattle.disco_hub.specs.State.{State}
 use Rattle.disco_hub.proofs.Ids.{by_id_held, err_then, ok_then}

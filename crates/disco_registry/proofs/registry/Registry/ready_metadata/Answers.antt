@@ -4,7 +4,7 @@ use Rattle.disco_instance.specs.Row.{Row, row}
 use Rattle.disco_instance.specs.declared.action.Action.TheVariants.{Added}
 use Rattle.disco_history.specs.Change.{Entry}
 use Rattle.disco_registry.specs.Accept.{asked, limits_of}
-use Rattle.disco_registry.specs.Held.{record_at}
+use Rattle.disco_history.specs.Held.{record_at}
 use Rattle.disco_registry.specs.Op.{add_metadata}
 use Rattle.disco_registry.specs.Settle.{settle}
 use Rattle.disco_registry.specs.State.{State}

@@ -4,7 +4,7 @@ use Rattle.disco_history.specs.Change.{Entry}
 use Rattle.disco_instance.specs.Row.{Row, row}
 use Rattle.disco_instance.specs.declared.action.Action.TheVariants.{Added}
 use Rattle.disco_registry.specs.Accept.{is_new}
-use Rattle.disco_registry.specs.Held.{record_at, seen_record}
+use Rattle.disco_history.specs.Held.{record_at, seen_record}
 use Rattle.disco_registry.specs.Settle.{settle}
 use Rattle.disco_registry.specs.State.{State}
 use Rattle.disco_registry.proofs.Readies.{accepted_new}

@@ -1,0 +1,31 @@
+use Rattle.std.proofs.Common.{slice_index_or, sym, ap, ◌∙◌, Some, option_map}
+use Rattle.std.specs.FinMap as map
+use Rattle.disco_history.specs.Change.{Entry}
+use Rattle.disco_history.proofs.Keys.{exact_keys}
+use Rattle.disco_instance.specs.declared.record.Record.{Record}
+use Rattle.disco_instance.specs.Row.{row}
+use Rattle.disco_history.specs.declared.held.Held.{Held}
+use Rattle.disco_history.specs.List.{Room}
+use Rattle.disco_history.proofs.Places.{get_at, get_gap}
+use Rattle.disco_history.proofs.list.RecordList.get.Goals as goal
+
+pub returns-in-Ok-clause-found : goal.returns-in-Ok-clause-found
+returns-in-Ok-clause-found c =
+    let at = rw c.deref.ensures.value at c.in-Ok.ensures.found in
+    ap (λ (r : Record). Some (row r)) c.deref-in-Ok.ensures
+    ∙ ap (λ (h : Held). Some (row h.rec.value)) c.index.ensures
+    ∙ ap (option_map (λ (e : Entry). e.0)) (sym (get_at c.self.inside.records.items c.args.key.now c.in-Ok.i c.index.result.now c.self.invariant at)
+    ∙ ap (λ (h : Room). map.get h.held c.args.key.now) c.self.view_is)
+
+pub returns-in-Err-clause-found : goal.returns-in-Err-clause-found
+returns-in-Err-clause-found c =
+    let gap = rw c.deref.ensures.value at c.in-Err.ensures.absent in
+    ap (option_map (λ (e : Entry). e.0)) (sym (get_gap c.self.inside.records.items c.args.key.now _ c.self.invariant gap)
+    ∙ ap (λ (h : Room). map.get h.held c.args.key.now) c.self.view_is)
+
+pub returns-in-Ok-clause-same_key : goal.returns-in-Ok-clause-same_key
+returns-in-Ok-clause-same_key c =
+    let at = rw c.deref.ensures.value at c.in-Ok.ensures.found in
+    ap (λ (r : Record). r.key) c.deref-in-Ok.ensures
+    ∙ ap (λ (h : Held). h.rec.value.key) c.index.ensures
+    ∙ sym (exact_keys c.args.key.now (slice_index_or c.self.inside.records.items c.in-Ok.i c.index.result.now).rec.value.key (at.here c.index.result.now))

@@ -1,0 +1,8 @@
+use Rattle.std.proofs.Common.{ap, ◌∙◌, []}
+use Rattle.std.specs.FinMap as map
+use Rattle.disco_history.specs.List.{map_of}
+use Rattle.disco_history.proofs.Places.{len_of}
+use Rattle.disco_history.proofs.list.RecordList.new.Goals as goal
+
+pub returns : goal.returns
+returns c = ap map_of c.new.ensures.items ∙ map.empty_of_len (map_of []) (len_of [] tt)

@@ -1,0 +1,14 @@
+use Rattle.std.proofs.Common.{sym, ap, ◌∙◌, map, filter}
+use Rattle.std.specs.FinMap.{values}
+use Rattle.disco_history.specs.Apps.{is_of_app}
+use Rattle.disco_history.specs.Held.{entry_of}
+use Rattle.disco_history.specs.List.{Room}
+use Rattle.disco_history.proofs.Places.{values_of}
+use Rattle.disco_history.proofs.list.RecordList.of_app.Goals as goal
+
+pub returns : goal.returns
+returns c =
+    c.run_of_app.ensures
+    ∙ ap (filter (is_of_app c.args.app.now)) (ap (map entry_of) c.deref.ensures.value
+    ∙ sym (values_of c.self.inside.records.items c.self.invariant)
+    ∙ ap (λ (r : Room). values r.held) c.self.view_is)

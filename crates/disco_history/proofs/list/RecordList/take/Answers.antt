@@ -1,0 +1,24 @@
+use Rattle.std.proofs.Common.{sym, ap, ◌∙◌}
+use Rattle.std.specs.FinMap as map
+use Rattle.disco_history.specs.List.{Room, map_of}
+use Rattle.disco_history.proofs.Places.{removed_at, remove_gap}
+use Rattle.disco_history.proofs.list.RecordList.take.Goals as goal
+
+pub invariant_of-self : goal.invariant_of-self
+invariant_of-self c =
+    let at = rw c.deref.ensures.value at c.in-Ok.ensures.found in
+    rw c.remove.ensures.items (removed_at c.self.inside.records.items c.args.key.now c.in-Ok.i c.self.invariant at).0
+
+pub returns-in-Ok : goal.returns-in-Ok
+returns-in-Ok c =
+    let at = rw c.deref.ensures.value at c.in-Ok.ensures.found in
+    ap map_of c.remove.ensures.items
+    ∙ (removed_at c.self.inside.records.items c.args.key.now c.in-Ok.i c.self.invariant at).1
+    ∙ ap (λ (h : Room). map.remove h.held c.args.key.now) c.self.view_is
+
+pub returns-in_default : goal.returns-in_default
+returns-in_default c =
+    let gap = rw c.deref.ensures.value at c.in_default.ensures.absent in
+    ap (λ (h : Room). h.held) (sym c.self.view_is)
+    ∙ remove_gap c.self.inside.records.items c.args.key.now c.in_default.field-0 c.self.invariant gap
+    ∙ ap (λ (h : Room). map.remove h.held c.args.key.now) c.self.view_is

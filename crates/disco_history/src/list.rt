@@ -1,0 +1,132 @@
+//! Held records in the order of their keys.
+ghost use Rattle.std.specs.Prelude.{◌≡◌, ◌<◌, IfOk, IfErr, IfSome, OnOk, None, filter, map, option_map};
+ghost use Rattle.std.specs.FinMap as finmap;
+ghost use Rattle.std.specs.FinMap.{values};
+ghost use Rattle.disco_history.specs.Apps.{first_of_id, is_of_app};
+ghost use Rattle.disco_history.specs.Held.{entry_of, record_at, seen_record};
+ghost use Rattle.disco_history.specs.List.{AreSorted, IsAt, IsGap};
+
+use crate::apps::{first_of_id, run_of_app};
+use crate::held::Held;
+use disco_instance::{Key, Record, Text};
+use std::alloc::{AllocError, Global};
+use std::marker::Model;
+
+/// Held records in the order of their keys, each key once.
+#[derive(Drop)]
+pub struct RecordList {
+    records: Vec<Held>,
+}
+
+impl Model for RecordList {
+    ghost use Rattle.std.specs.Prelude.{◌-◌, vec_len};
+    ghost use Rattle.std.specs.Vec.{vec_capacity};
+    ghost use Rattle.disco_history.specs.List.{Room, coded_room, AreSorted, map_of};
+
+    ghost Value = { Room };
+
+    ghost coded = { coded_room };
+
+    ghost view = { λ r. record { held = map_of r.records.items; room = vec_capacity r.records - vec_len r.records } };
+
+    ghost invariant = { λ r. AreSorted r.records.items };
+}
+
+/// Where the key is, or where it would go, among records in the order of their keys.
+fn place(records: &[Held], key: &Key) -> Result<usize, usize>
+    requires { AreSorted records.now }
+    ensures found { IfOk result (λ i. IsAt records.now key.now i) }
+    ensures absent { IfErr result (λ i. IsGap records.now key.now i) }
+{
+    records.binary_search_by(|held| held.rec.key.cmp(key))
+}
+
+impl RecordList {
+    /// No records.
+    pub fn new(alloc: Global) -> RecordList
+        ensures { result.held ≡ finmap.empty }
+    {
+        RecordList {
+            records: Vec::new(alloc),
+        }
+    }
+
+    /// The record of a key.
+    pub fn get(&self, key: &Key) -> Option<&Record>
+        ensures found { seen_record result ≡ record_at self.now.held key.now }
+        ensures same_key { IfSome result (λ r. r.now.key ≡ key.now) }
+    {
+        match place(&self.records, key) {
+            Ok(i) => Some(&*self.records[i].rec),
+            Err(_) => None,
+        }
+    }
+
+    /// The record of a key, with what its last change did.
+    pub fn held(&self, key: &Key) -> Option<&Held>
+        ensures found { option_map (λ h. entry_of h.now) result ≡ finmap.get self.now.held key.now }
+        ensures same_key { IfSome result (λ h. h.now.rec.value.key ≡ key.now) }
+    {
+        match place(&self.records, key) {
+            Ok(i) => Some(&self.records[i]),
+            Err(_) => None,
+        }
+    }
+
+    /// The records of an app, in the order of their ids. Those of other apps cost nothing, but for
+    /// the search.
+    pub fn of_app(&self, app: &Text) -> &[Held]
+        ensures { map entry_of result.now ≡ filter (is_of_app app.now) (values self.now.held) }
+    {
+        run_of_app(&self.records, app)
+    }
+
+    /// The first record of an id: of several apps' the one with the least app, in byte order.
+    pub fn of_id(&self, id: &str) -> Option<&Held>
+        ensures { option_map (λ h. entry_of h.now) result ≡ first_of_id id.now (values self.now.held) }
+    {
+        first_of_id(&self.records, id)
+    }
+
+    /// How many records there are.
+    pub fn len(&self) -> usize
+        ensures { result ≡ finmap.len self.now.held }
+    {
+        self.records.len()
+    }
+
+    /// All of them, in the order of their keys.
+    pub fn as_slice(&self) -> &[Held]
+        ensures { map entry_of result.now ≡ values self.now.held }
+    {
+        &self.records
+    }
+
+    /// Makes room for one more record.
+    pub fn reserve(&mut self) -> Result<(), AllocError>
+        ensures same { self.new.held ≡ self.old.held }
+        ensures ok { OnOk result (0 < self.new.room) }
+    {
+        self.records.reserve(1)
+    }
+
+    /// Puts a record in, in the place of that of its key or in room that is there. Takes no memory.
+    pub fn put(&mut self, added: Held)
+        requires { finmap.get self.old.held added.rec.value.key ≡ None → 0 < self.old.room }
+        ensures { self.new.held ≡ finmap.insert self.old.held added.rec.value.key (entry_of added) }
+    {
+        match place(&self.records, &added.rec.key) {
+            Ok(i) => self.records[i] = added,
+            Err(i) => self.records.insert(i, added).unwrap(),
+        }
+    }
+
+    /// Takes the record of a key out, if there is one. Takes no memory.
+    pub fn take(&mut self, key: &Key)
+        ensures { self.new.held ≡ finmap.remove self.old.held key.now }
+    {
+        if let Ok(i) = place(&self.records, key) {
+            let _ = self.records.remove(i);
+        }
+    }
+}

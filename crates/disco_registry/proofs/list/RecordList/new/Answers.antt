@@ -1,8 +1,0 @@
-use Rattle.std.proofs.Common.{ap, ◌∙◌, []}
-use Rattle.std.specs.FinMap as map
-use Rattle.disco_registry.specs.List.{map_of}
-use Rattle.disco_registry.proofs.Places.{len_of}
-use Rattle.disco_registry.proofs.list.RecordList.new.Goals as goal
-
-pub returns : goal.returns
-returns c = ap map_of c.new.ensures.items ∙ map.empty_of_len (map_of []) (len_of [] tt)
