@@ -1,5 +1,5 @@
 -- The mentions of the records that a query asks for.
-use Rattle.std.proofs.Common.{◌≡◌, ℕ, Bool, true, false, cond, T, List, [], ◌∷◌, map, filter, length, Option, Some, None, option_and_then, is_some, refl, sym, ap, subst, ◌∙◌}
+use Rattle.std.proofs.Common.{◌≡◌, Bool, true, false, cond, T, List, [], ◌∷◌, map, filter, length, Option, Some, None, option_and_then, is_some, refl, sym, ap, subst, ◌∙◌}
 use Rattle.std.specs.List.{filter_map}
 use Rattle.std.proofs.lemmas.Option.{same_Some}
 use Rattle.std.specs.Option.{option_or}
@@ -101,7 +101,7 @@ found-restrict h a =
 
 -- ---- one key
 
-last_key : (h : List Entry) (q : Key) (e : Entry) → last h q ≡ Some e → same_key q (key_of e) ≡ true
+pub last_key : (h : List Entry) (q : Key) (e : Entry) → last h q ≡ Some e → same_key q (key_of e) ≡ true
 last_key [] q e is = absurd (cc)
 last_key (x ∷ h) q e is = one (last h q) (same_key q (key_of x)) refl (last_key h q e) is
   where

@@ -1,5 +1,5 @@
 -- Lists of entries in the order of their keys, and those of them that pass a test.
-use Rattle.std.proofs.Common.{◌≡◌, ℕ, Bool, true, false, ◌&&◌, cond, T, List, [], ◌∷◌, map, filter, Option, Some, None, option_and_then, refl, sym, ap, subst, ◌∙◌}
+use Rattle.std.proofs.Common.{◌≡◌, Bool, true, false, ◌&&◌, cond, T, List, [], ◌∷◌, map, filter, Option, Some, None, option_and_then, refl, sym, ap, subst, ◌∙◌}
 use Rattle.std.specs.List.{filter_map, AllByRecursion}
 use Rattle.std.specs.declared.cmp.Ordering.{Ordering}
 use Rattle.std.specs.declared.cmp.Ordering.TheVariants.{Less, Equal, Greater}
@@ -79,7 +79,7 @@ values_passing P (e ∷ es) = one (P e.1) (values_passing P es)
 -- ---- each key finds its own entry
 
 -- f finds the entry of each
-abbrev Own : (Key → Option Entry) → Entries → Type 0
+abbrev pub Own : (Key → Option Entry) → Entries → Type 0
 Own f es = AllByRecursion (λ p. f p.0 ≡ Some p.1) es
 
 other : (k q : Key) → key_cmp k q ≡ Less → same_key q k ≡ false
@@ -92,7 +92,7 @@ own_below e all (p ∷ es) h own = (
   own_below e all es (both_second _ _ h) own.1,
 )
 
-own : (es : Entries) → T (is_sorted key_cmp es) → Own (λ q. find key_cmp q es) es
+pub own : (es : Entries) → T (is_sorted key_cmp es) → Own (λ q. find key_cmp q es) es
 own [] h = tt
 own (e ∷ es) h = (ap (λ b. cond b (Some e.1) (find key_cmp e.0 es)) ((eq_by_cmp_equiv keys_total).refl e.0), own_below e es es (both_first _ _ h) (own es (both_second _ _ h)))
 

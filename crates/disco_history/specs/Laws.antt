@@ -1,8 +1,20 @@
 -- Laws of the definitions.
-use Rattle.std.specs.Prelude.{◌≡◌, ◌↔◌, List}
+use Rattle.std.specs.Prelude.{◌≡◌, ◌↔◌, ◌≤◌, ℕ, List, length, map}
+use Rattle.std.specs.FinMap.{values}
 use Rattle.disco_instance.specs.Row.{Row}
 use Rattle.disco_instance.specs.declared.status.Status.{Status}
+use Rattle.disco_history.specs.Change.{Entry, front}
 use Rattle.disco_history.specs.Hash.{hash, count_of}
+use Rattle.disco_history.specs.Mentions.{copied, delta, mention_of, overlay}
+use Rattle.disco_history.specs.Registry.{reg, said}
+
+-- the overlay law: a delta from base o turns a version that isn't older than o into the whole
+abbrev pub OverlayLaw : Type 0
+OverlayLaw = (h : List Entry) (o a : ℕ) → o ≤ a → a ≤ length h → overlay (reg (front h a)) (map mention_of (values (delta h o))) ≡ reg h
+
+-- the mentions of a registry make a copy of it
+abbrev pub CopyLaw : Type 0
+CopyLaw = (h : List Entry) → copied (map mention_of (values (said h (reg h)))) ≡ reg h
 
 -- the hash law: equal hash codes say that each status has equal numbers, and no more
 abbrev pub HashLaw : Type 0

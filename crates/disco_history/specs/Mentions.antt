@@ -5,9 +5,10 @@ use Rattle.std.specs.FinMap.{FinMap, get, keys}
 use Rattle.disco_instance.specs.Key.{key_cmp}
 use Rattle.disco_instance.specs.Row.{Row}
 use Rattle.disco_instance.specs.declared.action.Action.{Action}
+use Rattle.disco_instance.specs.declared.action.Action.TheVariants.{Added}
 use Rattle.disco_history.specs.Change.{Entry, key_of, last}
 use Rattle.disco_history.specs.Chosen.{chosen}
-use Rattle.disco_history.specs.Registry.{kept_by}
+use Rattle.disco_history.specs.Registry.{kept_by, reg}
 
 -- a mention: a record, and what was done to it where that is said
 abbrev pub Mention : Type 0
@@ -19,6 +20,10 @@ mention_of e = (e.0, Some e.1)
 -- the delta from base o: each key of the changes after the first o, with its last change
 abbrev pub delta : List Entry → ℕ → FinMap key_cmp Entry
 delta h o = chosen (last (drop o h)) (map key_of (drop o h))
+
+-- the records of a full document: of each key its last mention, whatever was done to it
+abbrev pub copied : List Mention → FinMap key_cmp Row
+copied ms = reg (map (λ m. (m.0, Added)) ms)
 
 -- the mentions that say what was done
 abbrev pub known : List Mention → List Entry

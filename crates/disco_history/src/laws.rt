@@ -1,6 +1,16 @@
 //! Laws of the definitions, each the contract of a function that does nothing.
-ghost use Rattle.disco_history.specs.Laws.{HashLaw};
+ghost use Rattle.disco_history.specs.Laws.{CopyLaw, HashLaw, OverlayLaw};
 ghost use Rattle.disco_history.specs.Worked.{Worked};
+
+/// A delta from base o turns a copy of any version from o on into the newest one.
+pub fn overlay_law()
+    ensures { OverlayLaw }
+{}
+
+/// A document of all apps turns any copy into the registry that it was made of.
+pub fn copy_law()
+    ensures { CopyLaw }
+{}
 
 /// Two sets have one hash code exactly where every status has equal numbers in both.
 pub fn hash_law()
