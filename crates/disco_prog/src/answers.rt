@@ -46,6 +46,9 @@ fn write_answer<W: Write>(reply: &Reply, out: &mut W) -> io::Result<()>
 /// How many bytes are gathered for one write, at least.
 const ENOUGH: usize = 8_192;
 
+/// How many bytes can be gathered without more memory: less than enough, and one short line more.
+const ROOM: usize = 2 * ENOUGH + 64;
+
 /// Writes what is gathered, and takes it out.
 fn write_gathered<W: Write>(gathered: &mut Vec<u8>, out: &mut W) -> io::Result<()>
     ensures empty { OnOk result (gathered.new.items ≡ []) }
@@ -56,11 +59,16 @@ fn write_gathered<W: Write>(gathered: &mut Vec<u8>, out: &mut W) -> io::Result<(
     Ok(())
 }
 
-/// Gathers an answer line, and writes what is gathered where that is enough.
+/// Gathers an answer line, and writes what is gathered where that is enough. A document that is
+/// enough by itself is written as it lies, behind what is gathered.
 fn gather_answer<W: Write>(reply: &Reply, gathered: &mut Vec<u8>, out: &mut W) -> io::Result<()>
     ensures { OnOk result (Appends (append_known (W.contents out.old) gathered.old.items)
         (append_known (W.contents out.new) gathered.new.items) (answer_line reply.now)) }
 {
+    if matches!(reply, Reply::Doc(payload) if payload.text.as_slice().len() >= ENOUGH) {
+        write_gathered(gathered, out)?;
+        return write_answer(reply, out);
+    }
     write_answer(reply, gathered)?;
     if gathered.len() < ENOUGH {
         return Ok(());
@@ -71,7 +79,7 @@ fn gather_answer<W: Write>(reply: &Reply, gathered: &mut Vec<u8>, out: &mut W) -
 fn write_buffered<W: Write>(alloc: Global, replies: &[Reply], out: &mut W) -> io::Result<()>
     ensures { OnOk result (Appends (W.contents out.old) (W.contents out.new) (answer_lines replies.now)) }
 {
-    let mut gathered = Vec::new(alloc);
+    let mut gathered = Vec::with_capacity(alloc, ROOM)?;
     for reply in replies {
         gather_answer(reply, &mut gathered, out)?;
     }
@@ -79,8 +87,8 @@ fn write_buffered<W: Write>(alloc: Global, replies: &[Reply], out: &mut W) -> io
     out.flush()
 }
 
-/// Writes one line for each reply, in order. Refused as `WriteFailed` where a write fails, and as
-/// `OutOfMemory`, with some of the lines perhaps written.
+/// Writes one line for each reply, in order. Refused as `WriteFailed` where a write fails, with
+/// some of the lines perhaps written, and as `OutOfMemory`. Memory is asked for at the start.
 pub(crate) fn write_answers<W: Write>(
     alloc: Global,
     replies: &[Reply],

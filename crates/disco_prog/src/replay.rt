@@ -40,7 +40,7 @@ fn answer<R: Read, W: Write>(
 /// `out`. The status is 0 where all answers were written, and where help was asked for. It is 2 for
 /// words that are refused, with a message on `errors`. Else it is 1, with the one line
 /// `discovery: fault N` on `errors`; no answer is then written, but for those that went out before
-/// a write failed or memory ran out.
+/// a write failed.
 pub fn replay<R: Read, W: Write, E: Write>(
     alloc: Global,
     reader: &mut R,
