@@ -1,9 +1,11 @@
 -- What a hub is, and what its commits need.
 use Rattle.std.specs.Prelude.{ℕ, Option, Some, None, refl}
 use Rattle.std.specs.Coded.{Coded, code_by, coded×}
+use Rattle.std.specs.FinMap.{FinMap, get}
+use Rattle.disco_instance.specs.Key.{key_cmp}
 use Rattle.disco_history.specs.Change.{Entry, key_of, seen}
 use Rattle.disco_history.specs.Registry.{put_of}
-use Rattle.disco_index.specs.Vips.{Adds, HasPlaces, IsSame, VipKeys, coded_vip_keys}
+use Rattle.disco_index.specs.Vips.{Adds, HasNoneEmpty, HasPlaces, IsSame, VipKeys, coded_vip_keys}
 use Rattle.disco_lease.specs.Leases.{HasPlace, Leases, coded_leases}
 use Rattle.disco_registry.specs.Commit as commit
 use Rattle.disco_registry.specs.State as registry
@@ -33,10 +35,20 @@ abbrev pub AddsAny : Option Entry → VipKeys → VipKeys → Type 0
 AddsAny None old new = IsSame old new
 AddsAny (Some e) old new = Adds e.0 old new
 
+-- no place of the entry stands empty
+abbrev pub IsSwept : VipKeys → Option Entry → Type 0
+IsSwept v None = Unit {0}
+IsSwept v (Some e) = HasNoneEmpty v e.0
+
 -- there are places for what a change puts, if there is one
 abbrev pub HasPlacesFor : VipKeys → Leases → Option Entry → Type 0
 HasPlacesFor v l None = Unit {0}
 HasPlacesFor v l (Some c) = HasVipPlaces v (put_of c) × HasPlace l (key_of c)
+
+-- no place of what a change found stands empty after it, if there is one
+abbrev pub IsSweptAfter : FinMap key_cmp Entry → Option Entry → VipKeys → Type 0
+IsSweptAfter held None v = Unit {0}
+IsSweptAfter held (Some c) v = IsSwept v (get held (key_of c))
 
 -- the change that is ready, if there is one
 abbrev pub change_in : Ready → Option Entry

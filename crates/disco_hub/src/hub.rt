@@ -15,7 +15,7 @@ ghost use Rattle.disco_registry.specs.State as registry;
 ghost use Rattle.disco_writer.specs.Documents.{IsWritten, asked_by, is_delta};
 ghost use Rattle.disco_cache.specs.Payloads.{IsTrue};
 ghost use Rattle.disco_hub.specs.Refusals.{doc_of_id, doc_of_key, refusal_of, refusal_of_id};
-ghost use Rattle.disco_hub.specs.State.{HasPlacesFor, IsReady, change_in, limits};
+ghost use Rattle.disco_hub.specs.State.{HasPlacesFor, IsReady, IsSweptAfter, change_in, limits};
 ghost use Rattle.disco_hub.specs.Tied.{AreLeased};
 
 use crate::counts::count;
@@ -100,6 +100,7 @@ fn follow(
     requires places { HasPlacesFor index.old book.old (change_in ready.now) }
     ensures counts { counts.new ≡ tally_in (held_after registry.now.held (change_in ready.now)) }
     ensures vips { vip.IsIndexOf index.new (held_after registry.now.held (change_in ready.now)) }
+    ensures swept { IsSweptAfter registry.now.held (change_in ready.now) index.new }
     ensures leases { AreLeased registry.now.held book.old → AreLeased (held_after registry.now.held (change_in ready.now)) book.new }
 {
     let _version = registry.version();
@@ -156,11 +157,13 @@ impl Hub {
         })
     }
 
-    /// Does what is ready, which has to be of this hub as it is. Takes no memory.
+    /// Does what is ready, which has to be of this hub as it is. Takes no memory, and gives back the
+    /// places of vips that the change leaves empty.
     pub fn commit(&mut self, ready: Ready) -> Applied
         requires { IsReady self.old ready }
         ensures change { done_by result ≡ change_in ready }
         ensures takes { Takes self.old.registry (change_in ready) self.new.registry }
+        ensures swept { IsSweptAfter self.old.registry.held (change_in ready) self.new.vips }
         ensures history { (h : List Entry) → registry.StandsFor self.old.registry h → registry.StandsFor self.new.registry (extended h (done_by result)) }
     {
         follow(

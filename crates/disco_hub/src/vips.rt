@@ -6,7 +6,7 @@ ghost use Rattle.disco_history.specs.Change.{key_of, seen};
 ghost use Rattle.disco_history.specs.Registry.{put_of};
 ghost use Rattle.disco_index.specs.Vips.{IsIndexOf, IsSame, KeepsPlaces, TakesAny};
 ghost use Rattle.disco_registry.specs.Commit.{held_after};
-ghost use Rattle.disco_hub.specs.State.{AddsAny, HasVipPlaces};
+ghost use Rattle.disco_hub.specs.State.{AddsAny, HasVipPlaces, IsSwept, IsSweptAfter};
 
 use disco_history::Change;
 use disco_index::VipIndex;
@@ -57,18 +57,21 @@ fn add(vips: &mut VipIndex, change: &Change)
 
 /// Gives back the places of the held record of a key that stand empty.
 fn sweep(vips: &mut VipIndex, registry: &Registry, key: &Key)
-    ensures { IsSame vips.old vips.new }
+    ensures same { IsSame vips.old vips.new }
+    ensures swept { IsSwept vips.new (get registry.now.held key.now) }
 {
     if let Some(held) = registry.held(key) {
         vips.sweep(&held.rec);
     }
 }
 
-/// Does to the vips what a change is about to do to the registry.
+/// Does to the vips what a change is about to do to the registry, and gives back the places that it
+/// leaves empty.
 pub(crate) fn follow(vips: &mut VipIndex, registry: &Registry, change: &Change)
     requires places { HasVipPlaces vips.old (put_of (seen change.now)) }
     requires index { IsIndexOf vips.old registry.now.held }
-    ensures { IsIndexOf vips.new (held_after registry.now.held (Some (seen change.now))) }
+    ensures index { IsIndexOf vips.new (held_after registry.now.held (Some (seen change.now))) }
+    ensures swept { IsSweptAfter registry.now.held (Some (seen change.now)) vips.new }
 {
     put_vips_law();
     gone_vips_law();
