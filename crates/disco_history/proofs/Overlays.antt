@@ -41,7 +41,7 @@ last_found [] q sorted keyed = refl
 last_found (p ∷ es) q sorted keyed =
     ap (λ k. option_or (last (map (λ p. p.1) es) q) (cond (same_key q k) (Some p.1) None)) (sym keyed.0)
     ∙ one_last p.1 (same_key q p.0) (last (map (λ p. p.1) es) q) (find key_cmp q es) (last_found es q (both_second _ _ sorted) keyed.1)
-        (λ tied. none_below q es (subst (λ k. T (below_all key_cmp k es)) (sym (same_is q p.0 tied)) (both_first _ _ sorted)))
+    (λ tied. none_below q es (subst (λ k. T (below_all key_cmp k es)) (sym (same_is q p.0 tied)) (both_first _ _ sorted)))
 
 -- each entry that is found is of its key
 abbrev KeepsKeys : FinMap key_cmp Entry → Type 0
