@@ -1,9 +1,9 @@
 //! Changes of a registry.
-ghost use Rattle.std.specs.Prelude.{◌≡◌, ◌<◌, None, MatchOption, length, map, slice_get, option_map};
+ghost use Rattle.std.specs.Prelude.{◌≡◌, ◌<◌, None, IfOk, MatchOption, length, map, slice_get, option_map};
 ghost use Rattle.disco_history.specs.Change.{key_of, last, seen};
 
 use disco_instance::{Action, Key, Record};
-use std::alloc::Global;
+use std::alloc::{AllocError, Global};
 use std::sync::Arc;
 
 /// An accepted change of a registry.
@@ -28,6 +28,21 @@ impl Change {
         match self {
             Change::Put { action: _, rec } => &rec.key,
             Change::Gone { rec } => &rec.key,
+        }
+    }
+
+    /// The same once more. The record is shared, not copied.
+    pub fn share(&self) -> Result<Change, AllocError>
+        ensures { IfOk result (λ c. seen c ≡ seen self.now) }
+    {
+        match self {
+            Change::Put { action, rec } => Ok(Change::Put {
+                action: *action,
+                rec: Arc::try_clone(rec)?,
+            }),
+            Change::Gone { rec } => Ok(Change::Gone {
+                rec: Arc::try_clone(rec)?,
+            }),
         }
     }
 }

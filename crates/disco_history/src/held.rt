@@ -1,7 +1,9 @@
 //! A held record.
 ghost use Rattle.std.specs.Prelude.{◌≡◌, IfOk};
+ghost use Rattle.disco_history.specs.Change.{seen};
 ghost use Rattle.disco_history.specs.Held.{entry_of};
 
+use crate::change::Change;
 use disco_instance::{Action, Record};
 use std::alloc::{AllocError, Global};
 use std::sync::Arc;
@@ -14,6 +16,22 @@ pub struct Held {
 }
 
 impl Held {
+    /// What a change did, and to which record. The record is shared, not copied.
+    pub fn of(change: &Change) -> Result<Held, AllocError>
+        ensures { IfOk result (λ h. entry_of h ≡ seen change.now) }
+    {
+        match change {
+            Change::Put { action, rec } => Ok(Held {
+                rec: Arc::try_clone(rec)?,
+                action: *action,
+            }),
+            Change::Gone { rec } => Ok(Held {
+                rec: Arc::try_clone(rec)?,
+                action: Action::Deleted,
+            }),
+        }
+    }
+
     /// The same once more. The record is shared, not copied.
     pub fn share(&self) -> Result<Held, AllocError>
         ensures { IfOk result (λ h. entry_of h ≡ entry_of self.now) }

@@ -1,5 +1,5 @@
 //! Held records in the order of their keys.
-ghost use Rattle.std.specs.Prelude.{◌≡◌, ◌<◌, IfOk, IfErr, IfSome, OnOk, None, filter, map, option_map};
+ghost use Rattle.std.specs.Prelude.{◌≡◌, ◌<◌, ◌≤◌, ◌+◌, IfOk, IfErr, IfSome, OnOk, None, filter, map, option_map};
 ghost use Rattle.std.specs.FinMap as finmap;
 ghost use Rattle.std.specs.FinMap.{values};
 ghost use Rattle.disco_history.specs.Apps.{first_of_id, is_of_app};
@@ -110,10 +110,19 @@ impl RecordList {
         self.records.reserve(1)
     }
 
+    /// Makes room for so many more records.
+    pub fn reserve_for(&mut self, records: usize) -> Result<(), AllocError>
+        ensures same { self.new.held ≡ self.old.held }
+        ensures ok { OnOk result (records ≤ self.new.room) }
+    {
+        self.records.reserve(records)
+    }
+
     /// Puts a record in, in the place of that of its key or in room that is there. Takes no memory.
     pub fn put(&mut self, added: Held)
         requires { finmap.get self.old.held added.rec.value.key ≡ None → 0 < self.old.room }
-        ensures { self.new.held ≡ finmap.insert self.old.held added.rec.value.key (entry_of added) }
+        ensures held { self.new.held ≡ finmap.insert self.old.held added.rec.value.key (entry_of added) }
+        ensures room { self.old.room ≤ self.new.room + 1 }
     {
         match place(&self.records, &added.rec.key) {
             Ok(i) => self.records[i] = added,
@@ -123,7 +132,8 @@ impl RecordList {
 
     /// Takes the record of a key out, if there is one. Takes no memory.
     pub fn take(&mut self, key: &Key)
-        ensures { self.new.held ≡ finmap.remove self.old.held key.now }
+        ensures held { self.new.held ≡ finmap.remove self.old.held key.now }
+        ensures room { self.old.room ≤ self.new.room }
     {
         if let Ok(i) = place(&self.records, key) {
             let _ = self.records.remove(i);

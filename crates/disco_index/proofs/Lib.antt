@@ -5,6 +5,7 @@ mod Entries
 mod Numbers
 mod PlaceSteps
 mod Stored
+mod Stripped
 mod Texts
 pub mod VipLaws
 mod VipSteps

@@ -1,3 +1,4 @@
+pub mod Behind
 pub mod Laws
 pub mod Places
 pub mod Tally

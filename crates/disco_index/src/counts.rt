@@ -1,10 +1,14 @@
 //! How many instances have each status.
 ghost use Rattle.std.specs.Prelude.{◌≡◌, ◌<◌, ◌≤◌, ◌+◌, ◌-◌, ◌^◌, ◌++◌, [], IfOk, IfErr, string_bytes, vec_len};
+ghost use Rattle.std.specs.Option.{option_copied};
+ghost use Rattle.std.specs.Str.{bytes_eq};
 ghost use Rattle.std.specs.Vec.{vec_capacity};
 ghost use Rattle.disco_instance.specs.declared.fault.Fault.TheVariants.{OutOfMemory};
 ghost use Rattle.disco_history.specs.Hash.{hash_by};
+ghost use Rattle.disco_index.specs.Behind.{behind};
 ghost use Rattle.disco_index.specs.Tally.{count_in, fewer, more, tally_of};
 
+use crate::behind::behind_piece;
 use crate::pieces::{push_piece, write_piece};
 use disco_instance::{Fault, Status, Text};
 use std::alloc::{AllocError, Global};
@@ -103,5 +107,26 @@ impl Counts {
         push_piece(out, Status::Starting, self.starting);
         push_piece(out, Status::Unknown, self.unknown);
         push_piece(out, Status::Up, self.up);
+    }
+
+    /// Whether a text is the hash code. Takes no memory.
+    pub fn is_text(&self, text: &str) -> bool
+        ensures { result ≡ bytes_eq text.now (hash_by (count_in self.now)) }
+    {
+        match self.behind_text(text.as_bytes()) {
+            Some(rest) => rest.is_empty(),
+            None => false,
+        }
+    }
+
+    /// What stands behind the hash code, where a text begins with it.
+    fn behind_text<'a>(&self, text: &'a [u8]) -> Option<&'a [u8]>
+        ensures { option_copied result ≡ behind (hash_by (count_in self.now)) text.now }
+    {
+        let text = behind_piece(text, Status::Down, self.down)?;
+        let text = behind_piece(text, Status::OutOfService, self.out_of_service)?;
+        let text = behind_piece(text, Status::Starting, self.starting)?;
+        let text = behind_piece(text, Status::Unknown, self.unknown)?;
+        behind_piece(text, Status::Up, self.up)
     }
 }

@@ -2,6 +2,7 @@
 //! instances have a vip.
 #![tactic(auto)]
 
+mod behind;
 mod counts;
 pub mod laws;
 mod next_vip;

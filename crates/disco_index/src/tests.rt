@@ -43,3 +43,19 @@ fn pushes_the_hash_code_into_room(rt: HostRuntime) {
     counts.text_into(&mut out);
     assert_eq!(rt; out.as_slice(), b"=DOWN_1_UP_2_".as_slice());
 }
+
+#[test]
+fn knows_its_hash_code(rt: HostRuntime) {
+    assert!(rt; four().is_text("DOWN_1_UNKNOWN_1_UP_2_"));
+    for other in [
+        "",
+        "DOWN_1_UNKNOWN_1_UP_2",
+        "DOWN_1_UNKNOWN_1_UP_2_X",
+        "DOWN_1_UNKNOWN_1_UP_02_",
+        "UNKNOWN_1_UP_2_",
+    ] {
+        assert!(rt; !four().is_text(other));
+    }
+    assert!(rt; Counts::new().is_text(""));
+    assert!(rt; !Counts::new().is_text("UP_0_"));
+}

@@ -46,6 +46,13 @@ impl Mentions {
     {
         &self.mentions
     }
+
+    /// The mentions themselves. Takes no memory.
+    pub fn into_vec(self) -> Vec<Mention>
+        ensures { result.items ≡ self }
+    {
+        self.mentions
+    }
 }
 
 /// What a document means.

@@ -11,8 +11,8 @@ invariant_of-self c =
     let at = rw (c.deref.ensures.value, c.deref-2.ensures) at c.in-Ok.ensures.found in
     (inserted_at c.self.inside.records.items c.in-Ok.i c.args.added c.self.invariant at).0
 
-pub returns-in-Ok : goal.returns-in-Ok
-returns-in-Ok c =
+pub returns-in-Ok-clause-held : goal.returns-in-Ok-clause-held
+returns-in-Ok-clause-held c =
     let at = rw (c.deref.ensures.value, c.deref-2.ensures) at c.in-Ok.ensures.found in
     (inserted_at c.self.inside.records.items c.in-Ok.i c.args.added c.self.invariant at).1
     ∙ ap (λ (h : Room). map.insert h.held c.args.added.rec.value.key (entry_of c.args.added)) c.self.view_is
@@ -31,8 +31,8 @@ invariant_of-self-in-Err c =
     let items = c.insert.ensures.items ∙ ap (λ r. cond (is_ok r) (insert c.self.inside.records.items c.in-Err.i c.args.added) c.self.inside.records.items) c.unwrap.ensures in
     rw items (inserted_gap c.self.inside.records.items c.in-Err.i c.args.added c.self.invariant gap).0
 
-pub returns-in-Err : goal.returns-in-Err
-returns-in-Err c =
+pub returns-in-Err-clause-held : goal.returns-in-Err-clause-held
+returns-in-Err-clause-held c =
     let gap = rw (c.deref.ensures.value, c.deref-2.ensures) at c.in-Err.ensures.absent in
     let items = c.insert.ensures.items ∙ ap (λ r. cond (is_ok r) (insert c.self.inside.records.items c.in-Err.i c.args.added) c.self.inside.records.items) c.unwrap.ensures in
     ap map_of items

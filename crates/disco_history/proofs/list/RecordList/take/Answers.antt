@@ -9,15 +9,15 @@ invariant_of-self c =
     let at = rw c.deref.ensures.value at c.in-Ok.ensures.found in
     rw c.remove.ensures.items (removed_at c.self.inside.records.items c.args.key.now c.in-Ok.i c.self.invariant at).0
 
-pub returns-in-Ok : goal.returns-in-Ok
-returns-in-Ok c =
+pub returns-in-Ok-clause-held : goal.returns-in-Ok-clause-held
+returns-in-Ok-clause-held c =
     let at = rw c.deref.ensures.value at c.in-Ok.ensures.found in
     ap map_of c.remove.ensures.items
     ∙ (removed_at c.self.inside.records.items c.args.key.now c.in-Ok.i c.self.invariant at).1
     ∙ ap (λ (h : Room). map.remove h.held c.args.key.now) c.self.view_is
 
-pub returns-in_default : goal.returns-in_default
-returns-in_default c =
+pub returns-in_default-clause-held : goal.returns-in_default-clause-held
+returns-in_default-clause-held c =
     let gap = rw c.deref.ensures.value at c.in_default.ensures.absent in
     ap (λ (h : Room). h.held) (sym c.self.view_is)
     ∙ remove_gap c.self.inside.records.items c.args.key.now c.in_default.field-0 c.self.invariant gap

@@ -1,0 +1,8 @@
+-- What stands behind a text in another one.
+use Rattle.std.specs.Prelude.{ℕ, List, [], ◌∷◌, ◌==◌, if◌then◌else◌, Option, Some, None}
+
+-- what follows the first text in the second, where the second begins with it
+abbrev pub behind : List ℕ → List ℕ → Option (List ℕ)
+behind [] text = Some text
+behind (c ∷ cs) [] = None
+behind (c ∷ cs) (d ∷ text) = if d == c then behind cs text else None

@@ -1,0 +1,47 @@
+//! What stands behind the pieces of a hash code.
+ghost use Rattle.std.specs.Prelude.{◌≡◌, ◌∷◌, []};
+ghost use Rattle.std.specs.Option.{option_copied};
+ghost use Rattle.disco_instance.specs.Status.{status_name};
+ghost use Rattle.disco_history.specs.Hash.{digits, then_piece};
+ghost use Rattle.disco_index.specs.Behind.{behind};
+
+use disco_instance::Status;
+
+/// What stands behind a byte, where a text begins with it.
+fn behind_byte(text: &[u8], byte: u8) -> Option<&[u8]>
+    ensures { option_copied result ≡ behind (byte ∷ []) text.now }
+{
+    let (first, rest) = text.split_first()?;
+    if *first == byte { Some(rest) } else { None }
+}
+
+/// What stands behind a name, where a text begins with it.
+fn behind_name<'a>(text: &'a [u8], name: &str) -> Option<&'a [u8]>
+    ensures { option_copied result ≡ behind name.now text.now }
+{
+    text.strip_prefix(name.as_bytes())
+}
+
+/// What stands behind a number in decimal digits, where a text begins with it; 0 has no digits.
+fn behind_digits(text: &[u8], number: u64) -> Option<&[u8]>
+    ensures { option_copied result ≡ behind (digits number) text.now }
+{
+    if number == 0 {
+        return Some(text);
+    }
+    let rest = behind_digits(text, number / 10)?;
+    behind_byte(rest, 48 + (number % 10) as u8)
+}
+
+/// What stands behind the piece of a status, where a text begins with it.
+pub(crate) fn behind_piece(text: &[u8], status: Status, count: u64) -> Option<&[u8]>
+    ensures { option_copied result ≡ behind (then_piece (status_name status) count []) text.now }
+{
+    if count == 0 {
+        return Some(text);
+    }
+    let rest = behind_name(text, status.name())?;
+    let rest = behind_byte(rest, b'_')?;
+    let rest = behind_digits(rest, count)?;
+    behind_byte(rest, b'_')
+}
