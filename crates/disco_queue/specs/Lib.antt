@@ -1,0 +1,5 @@
+pub mod Base
+pub mod Queue
+pub mod Seen
+pub mod Timed
+pub mod Worked

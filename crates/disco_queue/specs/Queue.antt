@@ -1,0 +1,45 @@
+-- The recently changed queue as plain data.
+use Rattle.std.specs.Prelude.{◌≡◌, ℕ, ◌+◌, ◌-◌, ◌^◌, ◌<◌, ◌≤◌, List, drop, length, refl}
+use Rattle.std.specs.Coded.{Coded, code_by, coded×, coded_ℕ, coded_list}
+use Rattle.disco_queue.specs.Timed.{Timed, coded_timed}
+
+-- how many changes it keeps at most, how many leading ones it dropped, those that it keeps, and room for more
+pub record Queue : Type 0 where
+  pub max : ℕ
+  pub base : ℕ
+  pub kept : List Timed
+  pub room : ℕ
+
+abbrev pub coded_queue : Coded Queue
+coded_queue =
+    code_by (ℕ × (ℕ × (List Timed × ℕ))) (coded× coded_ℕ (coded× coded_ℕ (coded× (coded_list coded_timed) coded_ℕ)))
+    (λ q. (q.max, (q.base, (q.kept, q.room)))) (λ p. record { max = p.0; base = p.1.0; kept = p.1.1.0; room = p.1.1.1 }) (λ _. refl)
+
+-- how many changes there were
+abbrev pub version : Queue → ℕ
+version q = q.base + length q.kept
+
+-- the next change has room, where the queue is not full
+abbrev pub HasRoom : Queue → Type 0
+HasRoom q = length q.kept < q.max → 0 < q.room
+
+-- the same but for room, which no answer shows
+pub record IsSame (old new : Queue) : Type 0 where
+  pub max : new.max ≡ old.max
+  pub base : new.base ≡ old.base
+  pub kept : new.kept ≡ old.kept
+
+-- it keeps the history from its base on, and its version is the history's length
+pub record Keeps (q : Queue) (h : List Timed) : Type 0 where
+  pub contents : q.kept ≡ drop q.base h
+  pub version : version q ≡ length h
+
+-- the last so many of them
+abbrev pub newest : ℕ → List Timed → List Timed
+newest most ts = drop (length ts - most) ts
+
+-- it keeps no more than it may, and its version fits
+pub record IsWithin (max base len : ℕ) : Type 0 where
+  pub some : 1 ≤ max
+  pub few : len ≤ max
+  pub fits : base + len < 2 ^ 64

@@ -1,0 +1,190 @@
+//! The recently changed queue.
+ghost use Rattle.std.specs.Prelude.{◌≡◌, ℕ, ◌+◌, ◌-◌, ◌^◌, ◌<◌, ◌≤◌, List, [], ◌∷◌, ◌++◌, IfErr, IfOk, OnErr, OnOk, drop, length, map, nat_le, nat_lt};
+ghost use Rattle.std.specs.FinMap.{values};
+ghost use Rattle.disco_instance.specs.declared.fault.Fault.TheVariants.{OutOfMemory};
+ghost use Rattle.disco_history.specs.Change.{seen};
+ghost use Rattle.disco_history.specs.Mentions.{delta};
+ghost use Rattle.disco_queue.specs.Base.{base_after_change, base_after_cleaning, first_before, leaving};
+ghost use Rattle.disco_queue.specs.Queue.{HasRoom, IsSame, Keeps, newest, version};
+ghost use Rattle.disco_queue.specs.Timed.{Timed, changes};
+
+use crate::kept::Kept;
+use crate::latest::last_of_each;
+use disco_history::Change;
+use disco_instance::Fault;
+use std::alloc::Global;
+use std::collections::VecDeque;
+use std::marker::Model;
+
+/// The last changes of a history with the moments at which they came, in milliseconds. A moment may
+/// be below the one before it.
+#[derive(Drop)]
+pub struct ChangedQueue {
+    max: u64,
+    base: u64,
+    kept: VecDeque<Kept>,
+}
+
+impl Model for ChangedQueue {
+    ghost use Rattle.std.specs.Prelude.{◌-◌, map};
+    ghost use Rattle.std.specs.VecDeque.{deque_capacity, deque_len};
+    ghost use Rattle.disco_queue.specs.Queue.{IsWithin, Queue, coded_queue};
+    ghost use Rattle.disco_queue.specs.Seen.{timed};
+
+    ghost Value = { Queue };
+
+    ghost coded = { coded_queue };
+
+    ghost view = { λ q. record { max = q.max; base = q.base; kept = map timed q.kept.items; room = deque_capacity q.kept - deque_len q.kept } };
+
+    ghost invariant = { λ q. IsWithin q.max q.base (deque_len q.kept) };
+}
+
+impl ChangedQueue {
+    /// No changes so far. At most `max` of them will be kept, which is at least 1. Takes no memory.
+    pub fn new(alloc: Global, max: u64) -> ChangedQueue
+        requires { 1 ≤ max }
+        ensures max { result.max ≡ max }
+        ensures base { result.base ≡ 0 }
+        ensures kept { result.kept ≡ [] }
+        ensures history { Keeps result [] }
+    {
+        ChangedQueue {
+            max,
+            base: 0,
+            kept: VecDeque::new(alloc),
+        }
+    }
+
+    /// How many leading changes of the history are not kept any more. Takes no memory.
+    pub fn base(&self) -> u64
+        ensures { result ≡ self.now.base }
+    {
+        self.base
+    }
+
+    /// How many changes are kept. Takes no memory.
+    pub fn len(&self) -> usize
+        ensures kept { result ≡ length self.now.kept }
+        ensures most { result ≤ self.now.max }
+    {
+        self.kept.len()
+    }
+
+    /// How many changes the history has: the base and the kept ones. Takes no memory.
+    pub fn version(&self) -> u64
+        ensures sum { result ≡ version self.now }
+        ensures history { (h : List Timed) → Keeps self.now h → result ≡ length h }
+    {
+        self.base + self.kept.len() as u64
+    }
+
+    /// Makes room for one more change, where the queue is not full. Shows in nothing but the room.
+    /// Refused only as `OutOfMemory`, and only where there is no room already.
+    pub fn ready(&mut self) -> Result<(), Fault>
+        ensures same { IsSame self.old self.new }
+        ensures history { (h : List Timed) → Keeps self.old h → Keeps self.new h }
+        ensures room { OnOk result (HasRoom self.new) }
+        ensures needed { OnErr result (HasRoom self.old → ⊥) }
+        ensures memory { IfErr result (λ e. e ≡ OutOfMemory) }
+    {
+        if !self.is_full() {
+            self.kept.reserve(1)?;
+        }
+        Ok(())
+    }
+
+    /// The change comes last, with its moment `now`, in milliseconds. Where the queue is full, the
+    /// oldest change leaves. Takes no memory: the room is there after `ready`.
+    pub fn push(&mut self, change: Change, now: u64)
+        requires room { HasRoom self.old }
+        requires version { version self.old < 2 ^ 64 - 1 }
+        ensures max { self.new.max ≡ self.old.max }
+        ensures base { self.new.base ≡ base_after_change self.old.max self.old.base (version self.old + 1) }
+        ensures kept { self.new.kept ≡ newest self.old.max (self.old.kept ++ (seen change, now) ∷ []) }
+        ensures version { version self.new ≡ version self.old + 1 }
+        ensures history { (h : List Timed) → Keeps self.old h → Keeps self.new (h ++ (seen change, now) ∷ []) }
+        ensures history_base { (h : List Timed) → Keeps self.old h → self.new.base ≡ base_after_change self.old.max self.old.base (length (h ++ (seen change, now) ∷ [])) }
+    {
+        if self.is_full() {
+            self.drop_oldest();
+        }
+        self.kept.push_back_reserved(Kept {
+            change,
+            moment: now,
+        });
+    }
+
+    /// Drops changes at the front: those before the first whose moment is not below `now` less
+    /// `retention`, all in milliseconds, and none where `now` is below the retention. Answers how
+    /// many it dropped. Takes no memory.
+    pub fn clean(&mut self, now: u64, retention: u64) -> usize
+        ensures max { self.new.max ≡ self.old.max }
+        ensures dropped { self.new.base ≡ self.old.base + result }
+        ensures leaving { result ≡ leaving now retention self.old.kept }
+        ensures kept { self.new.kept ≡ drop result self.old.kept }
+        ensures version { version self.new ≡ version self.old }
+        ensures room { HasRoom self.old → HasRoom self.new }
+        ensures history { (h : List Timed) → Keeps self.old h → Keeps self.new h }
+        ensures history_base { (h : List Timed) → Keeps self.old h → self.new.base ≡ base_after_cleaning now retention self.old.base h }
+    {
+        match now.checked_sub(retention) {
+            Some(bound) => self.drop_before(bound),
+            None => 0,
+        }
+    }
+
+    /// The last kept change of each key, in the order of the keys. Takes memory for them alone. Refused
+    /// only as `OutOfMemory`.
+    pub fn last_changes(&self, alloc: Global) -> Result<Vec<&Change>, Fault>
+        ensures kept { IfOk result (λ found. map (λ c. seen c.now) found.items ≡ values (delta (changes self.now.kept) 0)) }
+        ensures history { (h : List Timed) → Keeps self.now h → IfOk result (λ found. map (λ c. seen c.now) found.items ≡ values (delta (changes h) self.now.base)) }
+        ensures memory { IfErr result (λ e. e ≡ OutOfMemory) }
+    {
+        Ok(last_of_each(&self.kept, alloc)?)
+    }
+
+    fn is_full(&self) -> bool
+        ensures { result ≡ nat_le self.now.max (length self.now.kept) }
+    {
+        self.max <= self.kept.len() as u64
+    }
+
+    /// Whether there is an oldest change, and its moment is below the bound.
+    fn oldest_is_before(&self, bound: u64) -> bool
+        ensures before { result ≡ nat_lt 0 (first_before bound self.now.kept) }
+        ensures fits { version self.now < 2 ^ 64 }
+    {
+        match self.kept.front() {
+            Some(oldest) => oldest.moment < bound,
+            None => false,
+        }
+    }
+
+    fn drop_oldest(&mut self)
+        requires { 0 < length self.old.kept }
+        ensures max { self.new.max ≡ self.old.max }
+        ensures base { self.new.base ≡ self.old.base + 1 }
+        ensures kept { self.new.kept ≡ drop 1 self.old.kept }
+        ensures room { self.new.room ≡ self.old.room + 1 }
+    {
+        self.kept.pop_front();
+        self.base += 1;
+    }
+
+    /// Drops the changes before the first whose moment is not below the bound.
+    fn drop_before(&mut self, bound: u64) -> usize
+        ensures max { self.new.max ≡ self.old.max }
+        ensures base { self.new.base ≡ self.old.base + result }
+        ensures dropped { result ≡ first_before bound self.old.kept }
+        ensures kept { self.new.kept ≡ drop result self.old.kept }
+        ensures room { self.new.room ≡ self.old.room + result }
+    {
+        let mut dropped = 0;
+        while self.oldest_is_before(bound) {
+            self.drop_oldest();
+            dropped += 1;
+        }
+        dropped
+    }
+}
