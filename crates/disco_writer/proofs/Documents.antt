@@ -11,14 +11,12 @@ use Rattle.disco_instance.specs.Row.{IsWellFormed}
 use Rattle.disco_writer.specs.Trees.{instance_tree, app_tree, document_tree, by_app, with_first, app_document, instance_document}
 use Rattle.disco_history.specs.Mentions.{mention_of}
 use Rattle.disco_writer.specs.Laws.{DocumentLaw}
+use Rattle.disco_writer.specs.Rows.{AreWellFormed}
 use Rattle.disco_writer.proofs.Again.{digits_again}
 use Rattle.disco_writer.proofs.Back.{instance_law}
 
-abbrev Fit : List Entry → Type 0
-Fit es = AllByRecursion (λ e. IsWellFormed e.0) es
-
-abbrev GroupsFit : List (List ℕ × List Entry) → Type 0
-GroupsFit gs = AllByRecursion (λ g. Fit g.1) gs
+abbrev AreGroupsWellFormed : List (List ℕ × List Entry) → Type 0
+AreGroupsWellFormed gs = AllByRecursion (λ g. AreWellFormed g.1) gs
 
 abbrev flat : List (List ℕ × List Entry) → List Entry
 flat [] = []
@@ -38,15 +36,15 @@ pub flat_by_app : (es : List Entry) → flat (by_app es) ≡ es
 flat_by_app [] = refl
 flat_by_app (e ∷ es) = flat_first e (by_app es) ∙ ap (λ r. e ∷ r) (flat_by_app es)
 
-fit_put : (e : Entry) (g : List ℕ × List Entry) (gs : List (List ℕ × List Entry)) (b : Bool) → IsWellFormed e.0 → GroupsFit (g ∷ gs) → GroupsFit (cond b ((g.0, e ∷ g.1) ∷ gs) ((e.0.key.app, e ∷ []) ∷ g ∷ gs))
+fit_put : (e : Entry) (g : List ℕ × List Entry) (gs : List (List ℕ × List Entry)) (b : Bool) → IsWellFormed e.0 → AreGroupsWellFormed (g ∷ gs) → AreGroupsWellFormed (cond b ((g.0, e ∷ g.1) ∷ gs) ((e.0.key.app, e ∷ []) ∷ g ∷ gs))
 fit_put e g gs true is all = ((is, all.0), all.1)
 fit_put e g gs false is all = ((is, tt), all)
 
-fit_first : (e : Entry) (gs : List (List ℕ × List Entry)) → IsWellFormed e.0 → GroupsFit gs → GroupsFit (with_first e gs)
+fit_first : (e : Entry) (gs : List (List ℕ × List Entry)) → IsWellFormed e.0 → AreGroupsWellFormed gs → AreGroupsWellFormed (with_first e gs)
 fit_first e [] is all = ((is, tt), tt)
 fit_first e (g ∷ gs) is all = fit_put e g gs (bytes_eq g.0 e.0.key.app) is all
 
-fit_by_app : (es : List Entry) → Fit es → GroupsFit (by_app es)
+fit_by_app : (es : List Entry) → AreWellFormed es → AreGroupsWellFormed (by_app es)
 fit_by_app [] all = tt
 fit_by_app (e ∷ es) all = fit_first e (by_app es) all.0 (fit_by_app es all.1)
 
@@ -60,14 +58,14 @@ map_append : (xs ys : List Entry) → map mention_of (xs ++ ys) ≡ map mention_
 map_append [] ys = refl
 map_append (x ∷ xs) ys = ap (λ r. mention_of x ∷ r) (map_append xs ys)
 
-instances_told : (app : Option (List ℕ)) (es : List Entry) → Fit es → all_told (told_in app) (map instance_tree es) ≡ Some (map mention_of es)
+instances_told : (app : Option (List ℕ)) (es : List Entry) → AreWellFormed es → all_told (told_in app) (map instance_tree es) ≡ Some (map mention_of es)
 instances_told app [] all = refl
 instances_told app (e ∷ es) all = rw (instance_law e app all.0, instances_told app es all.1) refl
 
-app_told : (g : List ℕ × List Entry) → Fit g.1 → told_item (app_tree g) ≡ Some (map mention_of g.1)
+app_told : (g : List ℕ × List Entry) → AreWellFormed g.1 → told_item (app_tree g) ≡ Some (map mention_of g.1)
 app_told g all = rw (list_of_items (map instance_tree g.1)) (instances_told (Some g.0) g.1 all)
 
-apps_told : (gs : List (List ℕ × List Entry)) → GroupsFit gs → all_told told_item (map app_tree gs) ≡ Some (map mention_of (flat gs))
+apps_told : (gs : List (List ℕ × List Entry)) → AreGroupsWellFormed gs → all_told told_item (map app_tree gs) ≡ Some (map mention_of (flat gs))
 apps_told [] all = refl
 apps_told (g ∷ gs) all = rw (app_told g all.0, apps_told gs all.1) (ap Some (sym (map_append g.1 (flat gs))))
 
@@ -77,7 +75,7 @@ document_law es hash version all small =
     let apps = apps_told (by_app es) (fit_by_app es all) in
     rw (list_of_items (map app_tree (by_app es)), apps, flat_by_app es, digits_again version small) refl
 
-pub app_law : (name : List ℕ) (es : List Entry) → Fit es → meaning_of (app_document name es) ≡ Some (meant App None None (map mention_of es))
+pub app_law : (name : List ℕ) (es : List Entry) → AreWellFormed es → meaning_of (app_document name es) ≡ Some (meant App None None (map mention_of es))
 unfolding meaning_of app_document
 app_law name es all = rw (list_of_items (map instance_tree es), instances_told (Some name) es all) refl
 

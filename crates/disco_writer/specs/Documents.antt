@@ -1,5 +1,5 @@
 -- What a written document means, and what a true one is.
-use Rattle.std.specs.Prelude.{◌≡◌, ◌≤◌, ℕ, Bool, true, false, not, ◌&&◌, ◌==◌, List, length, map, Option, Some, None, Ok}
+use Rattle.std.specs.Prelude.{◌≡◌, ◌≤◌, ℕ, Bool, true, false, List, length, map, Option, Some, None, Ok}
 use Rattle.std.specs.FinMap.{values}
 use Rattle.serde_json.specs.Written.{compact_text}
 use Rattle.disco_instance.specs.declared.form.Form.{Form}
@@ -7,13 +7,14 @@ use Rattle.disco_instance.specs.declared.form.Form.TheVariants.{Full}
 use Rattle.disco_history.specs.Change.{Entry, front}
 use Rattle.disco_history.specs.Forms.{formed}
 use Rattle.disco_history.specs.Hash.{hash}
+use Rattle.disco_history.specs.Mentions.{delta}
 use Rattle.disco_history.specs.Query.{Asked, all, of_app, of_vip, of_secure_vip, of_key, is_absent, restrict}
 use Rattle.disco_history.specs.Registry.{reg, said}
 use Rattle.disco_wire.specs.Documents.{document_of}
 use Rattle.disco_wire.specs.Meaning.{Meaning}
 use Rattle.disco_wire.specs.declared.wire.Shape.{Shape}
 use Rattle.disco_wire.specs.declared.wire.Shape.TheVariants.{Many, App, One}
-use Rattle.disco_writer.specs.Trees.{tree_of}
+use Rattle.disco_writer.specs.Trees.{document_tree, tree_of}
 use Rattle.disco_writer.specs.declared.query.Query.{Query}
 use Rattle.disco_writer.specs.declared.query.Query.TheVariants as query
 
@@ -85,3 +86,25 @@ pub record IsTrueFor (a : Asked) (text : List ℕ) (base version : ℕ) (f : For
 abbrev pub IsWritten : Asked → List Entry → Option (List ℕ) → Type 0
 IsWritten a h None = is_absent (reg h) a ≡ true
 IsWritten a h (Some text) = (is_absent (reg h) a ≡ false) × (text ≡ compact_text (tree_of a (mentioned a h) (length h))) × (document_of text ≡ Ok (meaning_for a Full h (length h)))
+
+-- ---- deltas
+
+-- what a delta in a form means after a history: the last changes from the base on, with the hash code of all records
+abbrev pub delta_meaning : Form → List Entry → ℕ → Meaning
+delta_meaning f h base = record {
+  shape = Many;
+  mentions = map (λ e. (formed f e.0, Some e.1)) (values (delta h base));
+  hash = Some (hash (values (reg h)));
+  version = Some (length h);
+}
+
+-- a true delta after a history: its text, its base and its version
+pub record IsTrueDelta (text : List ℕ) (base version : ℕ) (f : Form) (h : List Entry) : Type 0 where
+  pub meaning : document_of text ≡ Ok (delta_meaning f h base)
+  pub start : base ≤ version
+  pub now : version ≡ length h
+
+-- what is written of a delta: the compact text of its tree, which means it
+abbrev pub IsDeltaWritten : List Entry → ℕ → Option (List ℕ) → Type 0
+IsDeltaWritten h base None = ⊥
+IsDeltaWritten h base (Some text) = (text ≡ compact_text (document_tree (values (delta h base)) (hash (values (reg h))) (length h))) × (document_of text ≡ Ok (delta_meaning Full h base))

@@ -1,5 +1,5 @@
 //! The document that a query asks for.
-ghost use Rattle.std.specs.Prelude.{◌≡◌, ◌<◌, List, IfOk, IfErr, MatchOption, Ok, Some, false, length, map, option_map};
+ghost use Rattle.std.specs.Prelude.{◌≡◌, ◌<◌, List, IfOk, IfErr, MatchOption, Ok, Some, true, false, length, map, option_map};
 ghost use Rattle.serde_json.specs.Written.{compact_text};
 ghost use Rattle.disco_instance.specs.declared.fault.Fault.TheVariants.{OutOfMemory};
 ghost use Rattle.disco_history.specs.Change.{Entry};
@@ -8,30 +8,57 @@ ghost use Rattle.disco_history.specs.Mentions.{mention_of};
 ghost use Rattle.disco_history.specs.Query.{all, of_app, of_vip, of_secure_vip, of_key};
 ghost use Rattle.disco_index.specs.Tally.{tally_in};
 ghost use Rattle.disco_index.specs.Vips.{IsIndexOf};
+ghost use Rattle.disco_queue.specs.Queue.{Keeps};
+ghost use Rattle.disco_queue.specs.Timed.{Timed, changes};
 ghost use Rattle.disco_registry.specs.State.{StandsFor};
 ghost use Rattle.disco_wire.specs.Documents.{document_of};
 ghost use Rattle.disco_wire.specs.Meaning.{meant};
 ghost use Rattle.disco_wire.specs.declared.wire.Shape.TheVariants.{Many};
-ghost use Rattle.disco_writer.specs.Documents.{IsWritten, asked_by, is_delta};
+ghost use Rattle.disco_writer.specs.Documents.{IsDeltaWritten, IsWritten, asked_by, is_delta};
 ghost use Rattle.disco_writer.specs.Rows.{entries_of, rows_in};
 ghost use Rattle.disco_writer.specs.Trees.{document_tree};
 
+use crate::delta::write_delta;
 use crate::many::many_text;
 use crate::query::Query;
 use crate::selected::{count, held_under_svip, held_under_vip};
 use crate::single::{app_text, instance_text};
+use disco_history::Held;
 use disco_index::laws::{hash_law, under_vip_law};
 use disco_index::{Counts, VipIndex};
 use disco_instance::{Fault, Key, Text};
-use disco_history::Held;
+use disco_queue::ChangedQueue;
 use disco_registry::Registry;
 use std::alloc::Global;
 
 /// The document that a query asks for, in the full form, as compact JSON; `None` exactly where the
-/// query is for an app, a vip, a secure vip or an instance, and no record is. Of a delta there is
-/// none yet. The counts and the vips have to be those of the registry. Refused only as
+/// query is for an app, a vip, a secure vip or an instance, and no record is. A delta names what the
+/// queue keeps. The counts and the vips have to be those of the registry. Refused only as
 /// `OutOfMemory`.
 pub fn write_full(
+    alloc: Global,
+    query: &Query,
+    registry: &Registry,
+    vips: &VipIndex,
+    queue: &ChangedQueue,
+    counts: &Counts,
+) -> Result<Option<Vec<u8>>, Fault>
+    requires counts { counts.now ≡ tally_in registry.now.held }
+    requires vips { IsIndexOf vips.now registry.now.held }
+    ensures written { IfOk result (λ o. is_delta query.now ≡ false
+        → (h : List Entry) → StandsFor registry.now h → IsWritten (asked_by query.now) h (option_map (λ v. v.items) o)) }
+    ensures delta { IfOk result (λ o. is_delta query.now ≡ true
+        → (h : List Timed) → StandsFor registry.now (changes h) → Keeps queue.now h → IsDeltaWritten (changes h) queue.now.base (option_map (λ v. v.items) o)) }
+    ensures memory { IfErr result (λ e. e ≡ OutOfMemory) }
+{
+    if query.is_delta() {
+        return Ok(Some(write_delta(alloc, registry, queue, counts)?));
+    }
+    Ok(write_held(alloc, query, registry, vips, counts)?)
+}
+
+/// The document of the held records that a query asks for, where there are any.
+fn write_held(
     alloc: Global,
     query: &Query,
     registry: &Registry,

@@ -3,6 +3,7 @@
 //! A written document is the compact text of a JSON tree, and means what its definition says.
 #![tactic(auto)]
 
+mod delta;
 mod document;
 mod instance;
 pub mod laws;

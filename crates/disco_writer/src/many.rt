@@ -12,8 +12,8 @@ ghost use Rattle.disco_writer.specs.Trees.{instance_tree, app_tree, by_app, many
 
 use crate::instance::{digits_value, instance_value};
 use crate::text::text_of_tree;
-use disco_instance::{Text, well_formed};
 use disco_history::Held;
+use disco_instance::{Text, well_formed};
 use serde_json::{Value, json};
 use std::alloc::{AllocError, Global};
 

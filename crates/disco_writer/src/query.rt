@@ -1,5 +1,6 @@
 //! What a document is asked for.
 ghost use Rattle.std.specs.Prelude.{◌≡◌};
+ghost use Rattle.disco_writer.specs.Documents.{is_delta};
 
 use disco_instance::{Key, Text};
 use std::alloc::AllocError;
@@ -19,6 +20,15 @@ pub enum Query {
     Svip(Text),
     /// The one of a key: Eureka's `GET /apps/{app}/{id}`.
     Instance(Key),
+}
+
+impl Query {
+    /// Whether it asks for what changed.
+    pub fn is_delta(&self) -> bool
+        ensures { result ≡ is_delta self.now }
+    {
+        matches!(self, Query::Delta)
+    }
 }
 
 impl Clone for Query {

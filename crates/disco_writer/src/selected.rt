@@ -9,9 +9,9 @@ ghost use Rattle.disco_index.specs.Vips.{under};
 ghost use Rattle.disco_history.specs.Held.{entry_of};
 ghost use Rattle.disco_writer.specs.Rows.{entries_of, rows_in};
 
+use disco_history::Held;
 use disco_index::{Counts, VipIndex, has_vip};
 use disco_instance::{Fault, Key, Text};
-use disco_history::Held;
 use disco_registry::Registry;
 use std::alloc::{AllocError, Global};
 

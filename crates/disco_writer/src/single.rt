@@ -14,8 +14,8 @@ ghost use Rattle.serde_json.specs.View.{view};
 use crate::instance::instance_value;
 use crate::many::app_value;
 use crate::text::text_of_tree;
-use disco_instance::{Text, well_formed};
 use disco_history::Held;
+use disco_instance::{Text, well_formed};
 use serde_json::{Value, json};
 use std::alloc::{AllocError, Global};
 

@@ -4,6 +4,7 @@ use crate::{Query, write_full};
 use disco_instance::{Fault, Key, Text};
 use std::alloc::{AllocError, Global};
 
+mod deltas;
 mod escapes;
 mod queries;
 mod shelf;
@@ -11,17 +12,21 @@ mod texts;
 
 use shelf::Shelf;
 
-/// The document of a query; none of a delta.
+/// The document of a query.
 pub(crate) fn document(
     alloc: Global,
     shelf: &Shelf,
     query: &Query,
 ) -> Result<Option<Vec<u8>>, Fault> {
-    if shelf::is_delta(query) {
-        return Ok(None);
-    }
     let counts = count(shelf.registry.records());
-    write_full(alloc, query, &shelf.registry, &shelf.vips, &counts)
+    write_full(
+        alloc,
+        query,
+        &shelf.registry,
+        &shelf.vips,
+        &shelf.queue,
+        &counts,
+    )
 }
 
 /// The query of an app.

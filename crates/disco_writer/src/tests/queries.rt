@@ -171,6 +171,7 @@ fn a_query_is_copied(rt: HostRuntime) -> Result<(), Fail> {
         instance(alloc, "A", "1")?,
     ] {
         assert!(rt; query.clone()? == query);
+        assert_eq!(rt; query.is_delta(), query == Query::Delta);
     }
     Ok(())
 }

@@ -56,13 +56,16 @@ fn text_is(
 #[test]
 fn nothing_is_written_as_no_apps(rt: HostRuntime) -> Result<(), Fail> {
     let shelf = shelf_of(rt.alloc(), &[])?;
-    text_is(
-        &rt,
-        rt.alloc(),
-        &shelf,
-        &Query::Apps,
-        r#"{"applications":{"application":[],"apps__hashcode":"","versions__delta":"0"}}"#,
-    )
+    for query in [Query::Apps, Query::Delta] {
+        text_is(
+            &rt,
+            rt.alloc(),
+            &shelf,
+            &query,
+            r#"{"applications":{"application":[],"apps__hashcode":"","versions__delta":"0"}}"#,
+        )?;
+    }
+    Ok(())
 }
 
 #[test]
@@ -74,6 +77,7 @@ fn all_apps_are_written(rt: HostRuntime) -> Result<(), Fail> {
     let apps = format!(in alloc; "{first},{second}")?;
     let want = many(alloc, apps.as_str(), "DOWN_1_UP_1_")?;
     text_is(&rt, alloc, &shelf, &Query::Apps, want.as_str())?;
+    text_is(&rt, alloc, &shelf, &Query::Delta, want.as_str())?;
     text_is(&rt, alloc, &shelf, &vip(alloc, "v")?, want.as_str())
 }
 
@@ -85,6 +89,18 @@ fn a_vip_counts_its_own_instances(rt: HostRuntime) -> Result<(), Fail> {
     let want = many(alloc, first.as_str(), "UP_1_")?;
     text_is(&rt, alloc, &shelf, &vip(alloc, "w")?, want.as_str())?;
     text_is(&rt, alloc, &shelf, &svip(alloc, "s")?, want.as_str())
+}
+
+#[test]
+fn a_delta_is_written(rt: HostRuntime) -> Result<(), Fail> {
+    let alloc = rt.alloc();
+    let shelf = both(alloc)?.since(2000);
+    let second = app_with(alloc, "B", B1)?;
+    let want = many(alloc, second.as_str(), "DOWN_1_UP_1_")?;
+    text_is(&rt, alloc, &shelf, &Query::Delta, want.as_str())?;
+    let shelf = shelf.since(2001);
+    let want = many(alloc, "", "DOWN_1_UP_1_")?;
+    text_is(&rt, alloc, &shelf, &Query::Delta, want.as_str())
 }
 
 #[test]

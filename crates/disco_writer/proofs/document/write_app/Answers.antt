@@ -1,4 +1,4 @@
-use Rattle.std.proofs.Common.{ℕ, List, length, map, filter, refl, ap, sym, ◌≡◌, ◌<◌, ◌∙◌, arith}
+use Rattle.std.proofs.Common.{length, filter, refl, ap, sym, ◌≡◌, ◌<◌, ◌∙◌, arith}
 use Rattle.std.proofs.lemmas.Bool.Decides.{nat_tests}
 use Rattle.std.proofs.lemmas.List.{length-map}
 use Rattle.std.specs.FinMap.{FinMap, values}

@@ -1,4 +1,4 @@
-use Rattle.std.proofs.Common.{List, [], ◌∷◌, length, Some, None, refl, ap, sym, ◌≡◌, ◌∙◌, arith}
+use Rattle.std.proofs.Common.{List, [], ◌∷◌, length, refl, ap, sym, ◌≡◌, ◌∙◌, arith}
 use Rattle.std.specs.FinMap.{FinMap, get}
 use Rattle.disco_instance.specs.Key.{key_cmp}
 use Rattle.disco_history.specs.Change.{Entry}

@@ -1,4 +1,4 @@
-use Rattle.std.proofs.Common.{◌≡◌, List, refl, ap, sym, ◌∙◌, filter}
+use Rattle.std.proofs.Common.{◌≡◌, refl, ap, sym, ◌∙◌, filter}
 use Rattle.std.specs.FinMap.{FinMap, values}
 use Rattle.std.proofs.lemmas.List.{length-map}
 use Rattle.disco_instance.specs.Key.{key_cmp}

@@ -1,6 +1,5 @@
-use Rattle.std.proofs.Common.{ap, subst, sym, ◌∙◌, string_bytes}
+use Rattle.std.proofs.Common.{ap, subst, ◌∙◌, string_bytes}
 use Rattle.std.specs.Str.{IsUtf8}
-use Rattle.serde_json.specs.Read.{read}
 use Rattle.serde_json.specs.View.{view}
 use Rattle.disco_writer.proofs.Texts.{read_again}
 use Rattle.disco_writer.proofs.text.text_of_tree.Goals as goal

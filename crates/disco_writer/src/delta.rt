@@ -1,0 +1,49 @@
+//! The document of recent changes.
+ghost use Rattle.std.specs.Prelude.{◌≡◌, List, IfOk, IfErr, Some, map};
+ghost use Rattle.disco_instance.specs.declared.fault.Fault.TheVariants.{OutOfMemory};
+ghost use Rattle.disco_history.specs.Change.{seen};
+ghost use Rattle.disco_index.specs.Tally.{tally_in};
+ghost use Rattle.disco_queue.specs.Queue.{Keeps};
+ghost use Rattle.disco_queue.specs.Timed.{Timed, changes};
+ghost use Rattle.disco_registry.specs.State.{StandsFor};
+ghost use Rattle.disco_writer.specs.Documents.{IsDeltaWritten};
+ghost use Rattle.disco_writer.specs.Rows.{entries_of};
+
+use crate::many::many_text;
+use disco_history::{Change, Held};
+use disco_index::Counts;
+use disco_index::laws::hash_law;
+use disco_instance::Fault;
+use disco_queue::ChangedQueue;
+use disco_registry::Registry;
+use std::alloc::{AllocError, Global};
+
+/// What each of these changes did, and to which record. The records are shared.
+fn held_by(alloc: Global, changes: &[&Change]) -> Result<Vec<Held>, AllocError>
+    ensures { IfOk result (λ v. entries_of v.items ≡ map (λ c. seen c.now) changes.now) }
+{
+    let mut list = Vec::new(alloc);
+    for change in changes {
+        list.push(Held::of(*change)?)?;
+    }
+    Ok(list)
+}
+
+/// The document of the last change of each key that the queue keeps, with the hash code of all
+/// records. Refused only as `OutOfMemory`.
+pub(crate) fn write_delta(
+    alloc: Global,
+    registry: &Registry,
+    queue: &ChangedQueue,
+    counts: &Counts,
+) -> Result<Vec<u8>, Fault>
+    requires { counts.now ≡ tally_in registry.now.held }
+    ensures written { IfOk result (λ v. (h : List Timed) → StandsFor registry.now (changes h) → Keeps queue.now h → IsDeltaWritten (changes h) queue.now.base (Some v.items)) }
+    ensures memory { IfErr result (λ e. e ≡ OutOfMemory) }
+{
+    hash_law();
+    let last = queue.last_changes(alloc)?;
+    let held = held_by(alloc, last.as_slice())?;
+    let hash = counts.text(alloc)?;
+    Ok(many_text(alloc, held.as_slice(), &hash, registry.version())?)
+}
