@@ -1,0 +1,4 @@
+mod Letters
+mod Numbers
+mod Overlaying
+mod Shown

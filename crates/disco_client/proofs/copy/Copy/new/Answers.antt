@@ -1,0 +1,5 @@
+use Rattle.disco_client.proofs.Overlaying.{rows-empty}
+use Rattle.disco_client.proofs.copy.Copy.new.Goals as goal
+
+pub returns : goal.returns
+returns c = rows-empty c.new.result.held c.new.ensures

@@ -1,0 +1,144 @@
+//! Held records with the counts of their statuses.
+ghost use Rattle.std.specs.Prelude.{◌≡◌, ◌<◌, ◌≤◌, ◌+◌, IfOk, IfErr, OnOk, map, vec_len};
+ghost use Rattle.std.specs.FinMap.{empty, get, insert, len, remove, values};
+ghost use Rattle.std.specs.Str.{bytes_eq};
+ghost use Rattle.disco_instance.specs.declared.fault.Fault.TheVariants.{OutOfMemory};
+ghost use Rattle.disco_history.specs.Hash.{hash};
+ghost use Rattle.disco_history.specs.Held.{entry_of};
+ghost use Rattle.disco_index.specs.Tally.{rows_of, tally_in, without};
+ghost use Rattle.disco_client.specs.Steps.{after, after_all};
+
+use disco_history::{Held, RecordList};
+use disco_index::Counts;
+use disco_index::laws::{count_law, empty_law, hash_law, held_law, insert_law, remove_law};
+use disco_instance::{Action, Fault, Key, Text};
+use std::alloc::{AllocError, Global};
+use std::marker::Model;
+
+/// Held records, and how many of them have each status.
+#[derive(Drop)]
+pub(crate) struct Counted {
+    records: RecordList,
+    counts: Counts,
+}
+
+impl Model for Counted {
+    ghost use Rattle.disco_history.specs.List.{Room, coded_room};
+    ghost use Rattle.disco_client.specs.Copies.{IsTied};
+
+    ghost Value = { Room };
+
+    ghost coded = { coded_room };
+
+    ghost view = { λ c. c.records };
+
+    ghost invariant = { λ c. IsTied c.records.held c.counts };
+}
+
+/// Counts no more what is held at a key.
+fn uncount(counts: &mut Counts, records: &RecordList, key: &Key)
+    requires { counts.old ≡ tally_in records.now.held }
+    ensures { counts.new ≡ without (tally_in records.now.held) (get records.now.held key.now) }
+{
+    held_law();
+    if let Some(held) = records.get(key) {
+        counts.take(held.status);
+    }
+}
+
+impl Counted {
+    pub(crate) fn new(alloc: Global) -> Counted
+        ensures { result.held ≡ empty }
+    {
+        empty_law();
+        Counted {
+            records: RecordList::new(alloc),
+            counts: Counts::new(),
+        }
+    }
+
+    /// Makes room for so many more records.
+    pub(crate) fn reserve(&mut self, records: usize) -> Result<(), AllocError>
+        ensures same { self.new.held ≡ self.old.held }
+        ensures ok { OnOk result (records ≤ self.new.room) }
+    {
+        self.records.reserve_for(records)
+    }
+
+    /// Puts a record in, in the place of that of its key or in room that is there.
+    fn put(&mut self, added: Held)
+        requires { 0 < self.old.room }
+        ensures held { self.new.held ≡ insert self.old.held added.rec.value.key (entry_of added) }
+        ensures room { self.old.room ≤ self.new.room + 1 }
+    {
+        count_law();
+        insert_law();
+        uncount(&mut self.counts, &self.records, &added.rec.key);
+        let status = added.rec.status;
+        self.records.put(added);
+        let _held = self.records.len();
+        self.counts.add(status);
+    }
+
+    /// Takes the record of a key out, if there is one.
+    fn take(&mut self, key: &Key)
+        ensures held { self.new.held ≡ remove self.old.held key.now }
+        ensures room { self.old.room ≤ self.new.room }
+    {
+        remove_law();
+        uncount(&mut self.counts, &self.records, key);
+        self.records.take(key);
+    }
+
+    /// Puts the record in, or takes that of its key out where it was deleted.
+    fn follow(&mut self, change: Held)
+        requires { 0 < self.old.room }
+        ensures held { self.new.held ≡ after self.old.held (entry_of change) }
+        ensures room { self.old.room ≤ self.new.room + 1 }
+    {
+        match change.action {
+            Action::Added | Action::Modified => self.put(change),
+            Action::Deleted => self.take(&change.rec.key),
+        }
+    }
+
+    /// Follows one change after another, in room that is there. Takes no memory.
+    pub(crate) fn follow_all(&mut self, changes: Vec<Held>)
+        requires { vec_len changes ≤ self.old.room }
+        ensures { self.new.held ≡ after_all self.old.held (map entry_of changes.items) }
+    {
+        for change in changes {
+            self.follow(change);
+        }
+    }
+
+    /// The records in the order of their keys.
+    pub(crate) fn as_slice(&self) -> &[Held]
+        ensures { map entry_of result.now ≡ values self.now.held }
+    {
+        self.records.as_slice()
+    }
+
+    pub(crate) fn len(&self) -> usize
+        ensures { result ≡ len self.now.held }
+    {
+        self.records.len()
+    }
+
+    /// The hash code of the records. Refused only as `OutOfMemory`.
+    pub(crate) fn hash(&self, alloc: Global) -> Result<Text, Fault>
+        ensures hash { IfOk result (λ t. t ≡ hash (rows_of self.now.held)) }
+        ensures memory { IfErr result (λ e. e ≡ OutOfMemory) }
+    {
+        hash_law();
+        self.counts.text(alloc)
+    }
+
+    /// Whether a text is the hash code of the records.
+    pub(crate) fn hash_is(&self, text: &str) -> bool
+        ensures { result ≡ bytes_eq text.now (hash (rows_of self.now.held)) }
+    {
+        hash_law();
+        self.counts.is_text(text)
+    }
+}

@@ -1,0 +1,16 @@
+//! A client's copy of a registry.
+//!
+//! A full document replaces the copy, and a delta is overlaid on it. What the copy holds after
+//! each is said by the document and the copy before it alone, whoever wrote the document.
+#![tactic(auto)]
+
+mod copy;
+mod counted;
+mod overlaid;
+mod taken;
+#[cfg(test)]
+mod tests;
+mod vip;
+
+pub use copy::Copy;
+pub use overlaid::Overlaid;

@@ -1,0 +1,9 @@
+//! What came of a delta.
+
+/// What came of a delta.
+#[derive(Clone, Copy, Debug, PartialEq, Eq)]
+pub struct Overlaid {
+    /// Whether the document has a hash code and it is that of the new copy. If not, Eureka's client
+    /// asks for a full document.
+    pub hash_equal: bool,
+}
