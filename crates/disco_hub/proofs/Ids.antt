@@ -1,5 +1,5 @@
 -- The record of an id.
-use Rattle.std.proofs.Common.{◌≡◌, ℕ, Bool, true, false, cond, List, [], ◌∷◌, map, filter, Option, Some, option_map, Result, Ok, Err, IfOk, IfErr, slice_get, refl, ap, sym, ◌∙◌}
+use Rattle.std.proofs.Common.{◌≡◌, ℕ, Bool, true, false, cond, List, [], ◌∷◌, map, filter, Option, option_map, Result, Ok, Err, IfOk, IfErr, slice_get, refl, ap, sym, ◌∙◌}
 use Rattle.std.specs.FinMap.{FinMap, values}
 use Rattle.std.specs.Str.{bytes_eq}
 use Rattle.disco_instance.specs.Key.{key_cmp}

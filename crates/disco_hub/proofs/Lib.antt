@@ -1,2 +1,3 @@
 mod Ids
+mod Loads
 mod Ties

@@ -1,5 +1,5 @@
 -- What keeps the counts and the leases tied to the registry.
-use Rattle.std.proofs.Common.{◌≡◌, ℕ, ◌+◌, ◌-◌, ◌<◌, ◌≤◌, Bool, true, false, cond, List, [], Option, Some, None, option_map, Result, Ok, Err, IfErr, IfSome, OnOk, OnErr, refl, sym, ap, subst, ◌∙◌, arith}
+use Rattle.std.proofs.Common.{◌≡◌, ℕ, ◌+◌, ◌-◌, ◌≤◌, Bool, true, false, cond, List, [], length, Option, Some, None, option_map, Result, Ok, Err, IfErr, IfSome, OnOk, OnErr, refl, sym, ap, subst, ◌∙◌, arith}
 use Rattle.std.specs.FinMap.{FinMap, contains_key, empty, get, get-empty, get-insert, get-remove, insert, len, len-empty, len-insert, len-remove, remove}
 use Rattle.std.specs.Option.{option_flatten}
 use Rattle.disco_instance.specs.Key.{key_cmp, same_key}
@@ -9,7 +9,6 @@ use Rattle.disco_instance.specs.declared.fault.Fault.TheVariants.{NotFound}
 use Rattle.disco_instance.specs.declared.key.Key.{Key}
 use Rattle.disco_history.specs.Change.{Entry, key_of, seen}
 use Rattle.disco_history.specs.Registry.{put_of}
-use Rattle.disco_history.specs.declared.change.Change.{Change}
 use Rattle.disco_history.proofs.Keys.{keys_total, same_is}
 use Rattle.disco_history.proofs.Sets.{said_nil}
 use Rattle.disco_index.specs.Tally.{Tally, tally_in, tally_of}
@@ -19,12 +18,14 @@ use Rattle.disco_index.specs.Vips.{IsIndexOf, VipKeys}
 use Rattle.disco_index.specs.Vips as vips
 use Rattle.disco_lease.specs.Leases as leases
 use Rattle.disco_lease.specs.Leases.{Lease, Leases, Sets, extended, lease_at, marked, no_leases}
-use Rattle.disco_registry.specs.Commit.{IsReadyFor, Takes, change_in, held_after, version_after}
+use Rattle.disco_queue.specs.Queue as queue
+use Rattle.disco_queue.specs.Queue.{Keeps, Queue, version}
+use Rattle.disco_registry.specs.Commit.{Takes, held_after, version_after}
 use Rattle.disco_history.specs.Held.{record_at}
 use Rattle.disco_registry.specs.State.{State, StandsFor, IsSame}
-use Rattle.disco_registry.specs.declared.registry.Ready.{Ready}
 use Rattle.disco_instance.specs.declared.action.Action.{Action}
 use Rattle.disco_instance.specs.declared.action.Action.TheVariants.{Added, Modified, Deleted}
+use Rattle.disco_hub.specs.State as hub
 use Rattle.disco_hub.specs.State.{AddsAny, HasVipPlaces}
 use Rattle.disco_hub.specs.Tied.{AreLeased, IsTied}
 
@@ -39,8 +40,8 @@ entry_lasts o = rows_last (option_map (λ e. e.0) o)
 
 -- ---- a new world
 
-pub tied_new : EmptyLaw → NoVipsLaw → (s : State) (t : Tally) (i : VipKeys) (v : Leases) → StandsFor s [] → t ≡ tally_of [] → i ≡ empty → v ≡ no_leases → IsTied s t i v
-tied_new law none_law s t i v stands ts is vs =
+pub tied_new : EmptyLaw → NoVipsLaw → (s : State) (t : Tally) (i : VipKeys) (v : Leases) (q : Queue) → StandsFor s [] → t ≡ tally_of [] → i ≡ empty → v ≡ no_leases → Keeps q [] → IsTied s t i v q
+tied_new law none_law s t i v q stands ts is vs keeps =
     let held : s.held ≡ empty = stands.held ∙ said_nil in
     record {
       counts = ts ∙ sym law ∙ ap tally_in (sym held);
@@ -49,6 +50,7 @@ tied_new law none_law s t i v stands ts is vs =
           ap (λ x. lasts (lease_at x k)) vs ∙ ap (λ o. lasts (option_flatten o)) (get-empty key_cmp k)
           ∙ sym (ap (λ m. rows_last (record_at m k)) held ∙ ap entry_lasts (get-empty key_cmp k));
       few = let none : len s.held ≡ 0 = ap len held ∙ len-empty key_cmp Entry in omega (arith, none);
+      seen = keeps.version ∙ sym stands.version;
     }
 
 -- ---- leases
@@ -94,13 +96,6 @@ ended (Err e) k old new sets same none m leased = λ q.
 
 -- ---- numbers
 
-left_by : (s : State) (o : Option Change) (k : Option Entry) (e : Entry) → IsReadyFor s o k → Some e ≡ option_map seen o → s.version < s.versions
-left_by s None k e ready is = absurd (cc)
-left_by s (Some c) k e ready is = ready.0
-
-pub version_left : (s : State) (r : Ready) (e : Entry) (k : Option Entry) → IsReadyFor s r.change k → Some e ≡ change_in r → s.version < s.versions
-version_left s r e k ready is = left_by s r.change k e ready is
-
 len_put : (m : FinMap key_cmp Entry) (k : Key) (e : Entry) (b : Bool) → contains_key m k ≡ b → len (insert m k e) ≤ len m + 1
 len_put m k e true is = let l = len-insert keys_total m k e ∙ ap (λ b. cond b (len m) (len m + 1)) is in omega (arith, l)
 len_put m k e false is = let l = len-insert keys_total m k e ∙ ap (λ b. cond b (len m) (len m + 1)) is in omega (arith, l)
@@ -136,23 +131,29 @@ few_taken : (old new : State) (c : Option Entry) → Takes old c new → len old
 few_taken old new c takes few = let l = ap len takes.held in let v = takes.version in let after = few_after old.held c old.version few in omega (arith, l, v, after)
 
 -- what follows a change stays tied
-pub tied_after : (old new : State) (c : Option Entry) (t : Tally) (i : VipKeys) (v₀ v : Leases) → len old.held ≤ old.version → AreLeased old.held v₀ → Takes old c new → t ≡ tally_in (held_after old.held c)
-    → IsIndexOf i (held_after old.held c) → (AreLeased old.held v₀ → AreLeased (held_after old.held c) v) → IsTied new t i v
-tied_after old new c t i v₀ v few leased takes counted indexed moves = record {
+pub tied_after : (old new : State) (c : Option Entry) (t : Tally) (i : VipKeys) (v₀ v : Leases) (q₀ q : Queue) → len old.held ≤ old.version → AreLeased old.held v₀ → version q₀ ≡ old.version → Takes old c new → t ≡ tally_in (held_after old.held c)
+    → IsIndexOf i (held_after old.held c) → (AreLeased old.held v₀ → AreLeased (held_after old.held c) v) → version q ≡ version_after (version q₀) c → IsTied new t i v q
+tied_after old new c t i v₀ v q₀ q few leased seen takes counted indexed moves recent = record {
   counts = counted ∙ ap tally_in (sym takes.held);
   indexed = subst (λ m. IsIndexOf i m) (sym takes.held) indexed;
   leased = subst (λ m. AreLeased m v) (sym takes.held) (moves leased);
   few = few_taken old new c takes few;
+  seen = recent ∙ ap (λ n. version_after n c) seen ∙ sym takes.version;
 }
 
 -- what gets more places stays tied
-pub tied_same : SameVipsLaw → (old new : State) (t : Tally) (i j : VipKeys) (v w : Leases) → IsTied old t i v → IsSame old new → vips.IsSame i j → leases.IsSame v w → IsTied new t j w
-tied_same law old new t i j v w tied same vips_same leases_same = record {
+pub tied_same : SameVipsLaw → (old new : State) (t : Tally) (i j : VipKeys) (v w : Leases) (q r : Queue) → IsTied old t i v q → IsSame old new → vips.IsSame i j → leases.IsSame v w → queue.IsSame q r → IsTied new t j w r
+tied_same law old new t i j v w q r tied same vips_same leases_same queue_same = record {
   counts = tied.counts ∙ ap tally_in (sym same.held);
   indexed = subst (λ m. IsIndexOf j m) (sym same.held) (law old.held i j tied.indexed vips_same);
   leased = subst (λ m. AreLeased m w) (sym same.held) (λ k. ap lasts (leases_same.leases k) ∙ tied.leased k);
   few = few_same old new same tied.few;
+  seen = (λ k. queue_same.base k + length (queue_same.kept k)) ∙ tied.seen ∙ sym same.version;
 }
+
+-- what is the same as the view of a hub is the same as the hub
+pub same_from : (view old new : hub.State) → view ≡ old → hub.IsSame view new → hub.IsSame old new
+same_from view old new is same = subst (λ s. hub.IsSame s new) is same
 
 -- a call that is refused for a missing lease alone
 pub missed : {A : Type 0} (r : Result A Fault) (P : Type 0) → (r ≡ Err NotFound → P) → IfErr r (λ e. e ≡ NotFound) → OnErr r P

@@ -1,3 +1,4 @@
+pub mod Past
 pub mod Refusals
 pub mod State
 pub mod Tied

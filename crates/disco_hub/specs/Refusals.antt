@@ -1,5 +1,5 @@
 -- Which document is asked for, and why it isn't served.
-use Rattle.std.specs.Prelude.{ℕ, List, if◌then◌else◌, Option, Some, None, option_map}
+use Rattle.std.specs.Prelude.{ℕ, Bool, true, List, if◌then◌else◌, Option, Some, None, option_map}
 use Rattle.disco_instance.specs.Row.{Row}
 use Rattle.disco_instance.specs.declared.fault.Fault.{Fault}
 use Rattle.disco_instance.specs.declared.fault.Fault.TheVariants.{DeltaDisabled, NotFound}
@@ -13,9 +13,9 @@ use Rattle.disco_writer.specs.Documents.{asked_by, is_delta}
 use Rattle.disco_writer.specs.declared.query.Query.{Query}
 use Rattle.disco_writer.specs.declared.query.Query.TheVariants.{Instance}
 
--- why a document isn't served after a history, if it isn't; deltas aren't served yet
-abbrev pub refusal_of : Query → List Entry → Option Fault
-refusal_of q h = if is_delta q then Some DeltaDisabled else (if is_absent (reg h) (asked_by q) then Some NotFound else None)
+-- why a document isn't served after a history, if it isn't, where deltas are on or off
+abbrev pub refusal_of : Bool → Query → List Entry → Option Fault
+refusal_of on q h = if is_delta q then (if on then None else Some DeltaDisabled) else (if is_absent (reg h) (asked_by q) then Some NotFound else None)
 
 abbrev pub doc_of_key : Key → Form → DocKey
 doc_of_key k f = record { query = Instance k; form = f }
@@ -26,7 +26,7 @@ doc_of_id id f h = option_map (λ r. doc_of_key r.key f) (by_id (reg h) id)
 
 abbrev pub refusal_by : Option Row → List Entry → Option Fault
 refusal_by None h = Some NotFound
-refusal_by (Some r) h = refusal_of (Instance r.key) h
+refusal_by (Some r) h = refusal_of true (Instance r.key) h
 
 -- why it isn't served
 abbrev pub refusal_of_id : List ℕ → List Entry → Option Fault

@@ -1,29 +1,72 @@
 -- What a hub is, and what its commits need.
-use Rattle.std.specs.Prelude.{ℕ, Option, Some, None, refl}
-use Rattle.std.specs.Coded.{Coded, code_by, coded×}
+use Rattle.std.specs.Prelude.{◌≡◌, ℕ, Bool, Option, Some, None, option_map, refl}
+use Rattle.std.specs.Coded.{Coded, code_by, coded×, coded_ℕ, coded_bool}
 use Rattle.std.specs.FinMap.{FinMap, get}
 use Rattle.disco_instance.specs.Key.{key_cmp}
 use Rattle.disco_history.specs.Change.{Entry, key_of, seen}
 use Rattle.disco_history.specs.Registry.{put_of}
-use Rattle.disco_index.specs.Vips.{Adds, HasNoneEmpty, HasPlaces, IsSame, VipKeys, coded_vip_keys}
+use Rattle.disco_index.specs.Vips as vips
+use Rattle.disco_index.specs.Vips.{Adds, HasNoneEmpty, HasPlaces, VipKeys, coded_vip_keys}
+use Rattle.disco_lease.specs.Leases as leases
 use Rattle.disco_lease.specs.Leases.{HasPlace, Leases, coded_leases}
+use Rattle.disco_queue.specs.Queue as queue
+use Rattle.disco_queue.specs.Queue.{HasRoom, Keeps, Queue, coded_queue}
 use Rattle.disco_registry.specs.Commit as commit
 use Rattle.disco_registry.specs.State as registry
-use Rattle.disco_registry.specs.Accept.{Limits}
+use Rattle.disco_registry.specs.Accept.{Limits, limits_of}
+use Rattle.disco_hub.specs.Past.{Past, history}
 use Rattle.disco_hub.specs.declared.hub.Ready.{Ready}
 use Rattle.disco_hub.specs.declared.settings.Settings.{Settings}
 
 abbrev pub limits : Settings → Limits
 limits s = record { versions = s.versions; instances = s.instances }
 
--- the registry, and beside it the vips and the leases with their places
+-- the registry, beside it the vips and the leases with their places, the recent changes, how long these are kept, and whether deltas are served
 pub record State : Type 0 where
   pub registry : registry.State
   pub vips : VipKeys
   pub leases : Leases
+  pub queue : Queue
+  pub retention : ℕ
+  pub delta : Bool
 
 abbrev pub coded_state : Coded State
-coded_state = code_by (registry.State × (VipKeys × Leases)) (coded× registry.coded_state (coded× coded_vip_keys coded_leases)) (λ s. (s.registry, (s.vips, s.leases))) (λ p. record { registry = p.0; vips = p.1.0; leases = p.1.1 }) (λ _. refl)
+coded_state =
+    code_by (registry.State × (VipKeys × (Leases × (Queue × (ℕ × Bool))))) (coded× registry.coded_state (coded× coded_vip_keys (coded× coded_leases (coded× coded_queue (coded× coded_ℕ coded_bool)))))
+    (λ s. (s.registry, (s.vips, (s.leases, (s.queue, (s.retention, s.delta))))))
+    (λ p. record { registry = p.0; vips = p.1.0; leases = p.1.1.0; queue = p.1.1.1.0; retention = p.1.1.1.1.0; delta = p.1.1.1.1.1 }) (λ _. refl)
+
+-- the limits and choices that answers depend on
+pub record Rules : Type 0 where
+  pub limits : Limits
+  pub queue : ℕ
+  pub retention : ℕ
+  pub delta : Bool
+
+abbrev pub rules : Settings → Rules
+rules s = record { limits = limits s; queue = s.queue; retention = s.retention; delta = s.delta }
+
+abbrev pub rules_of : State → Rules
+rules_of s = record { limits = limits_of s.registry; queue = s.queue.max; retention = s.retention; delta = s.delta }
+
+-- the queue keeps what happened from its base on
+pub record Remembers (q : Queue) (p : Past) : Type 0 where
+  pub kept : Keeps q p.timed
+  pub base : q.base ≡ p.base
+
+-- it holds what is left of what happened, and keeps what is recent
+pub record StandsFor (s : State) (p : Past) : Type 0 where
+  pub registry : registry.StandsFor s.registry (history p)
+  pub queue : Remembers s.queue p
+
+-- the same but for places and room, which no answer shows
+pub record IsSame (old new : State) : Type 0 where
+  pub registry : registry.IsSame old.registry new.registry
+  pub vips : vips.IsSame old.vips new.vips
+  pub leases : leases.IsSame old.leases new.leases
+  pub queue : queue.IsSame old.queue new.queue
+  pub retention : new.retention ≡ old.retention
+  pub delta : new.delta ≡ old.delta
 
 -- there is a place under each vip of what a change puts
 abbrev pub HasVipPlaces : VipKeys → Option Entry → Type 0
@@ -32,7 +75,7 @@ HasVipPlaces v (Some e) = HasPlaces v e.0
 
 -- the index with what a change puts, if it puts something
 abbrev pub AddsAny : Option Entry → VipKeys → VipKeys → Type 0
-AddsAny None old new = IsSame old new
+AddsAny None old new = vips.IsSame old new
 AddsAny (Some e) old new = Adds e.0 old new
 
 -- no place of the entry stands empty
@@ -45,6 +88,11 @@ abbrev pub HasPlacesFor : VipKeys → Leases → Option Entry → Type 0
 HasPlacesFor v l None = Unit {0}
 HasPlacesFor v l (Some c) = HasVipPlaces v (put_of c) × HasPlace l (key_of c)
 
+-- there is room for a change in the queue, if there is one
+abbrev pub HasRoomFor : Queue → Option Entry → Type 0
+HasRoomFor q None = Unit {0}
+HasRoomFor q (Some c) = HasRoom q
+
 -- no place of what a change found stands empty after it, if there is one
 abbrev pub IsSweptAfter : FinMap key_cmp Entry → Option Entry → VipKeys → Type 0
 IsSweptAfter held None v = Unit {0}
@@ -54,6 +102,10 @@ IsSweptAfter held (Some c) v = IsSwept v (get held (key_of c))
 abbrev pub change_in : Ready → Option Entry
 change_in r = commit.change_in r.ready
 
+-- the moment at which it was made ready
+abbrev pub moment_in : Ready → ℕ
+moment_in r = r.moment
+
 -- the hub can commit it without memory
 abbrev pub IsReady : State → Ready → Type 0
-IsReady s r = commit.IsReady s.registry r.ready × HasPlacesFor s.vips s.leases (change_in r)
+IsReady s r = commit.IsReady s.registry r.ready × HasPlacesFor s.vips s.leases (change_in r) × HasRoomFor s.queue (change_in r) × (option_map seen r.kept ≡ change_in r)

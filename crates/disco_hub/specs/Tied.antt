@@ -8,15 +8,17 @@ use Rattle.disco_index.specs.Tally.{Tally, tally_in}
 use Rattle.disco_index.specs.Vips.{IsIndexOf, VipKeys}
 use Rattle.disco_lease.specs.Leases.{Leases, lease_at}
 use Rattle.disco_history.specs.Held.{record_at}
+use Rattle.disco_queue.specs.Queue.{Queue, version}
 use Rattle.disco_registry.specs.State.{State}
 
 -- exactly the instances that are held have leases, of their records' durations
 abbrev pub AreLeased : FinMap key_cmp Entry → Leases → Type 0
 AreLeased held v = (k : Key) → option_map (λ l. l.duration_secs) (lease_at v k) ≡ option_map (λ r. r.lease.duration_secs) (record_at held k)
 
--- the counts and the vips are those of the records, each has its lease, and there are no more records than changes
-pub record IsTied (s : State) (t : Tally) (i : VipKeys) (v : Leases) : Type 0 where
+-- the counts and the vips are those of the records, each has its lease, there are no more records than changes, and the queue has seen each change
+pub record IsTied (s : State) (t : Tally) (i : VipKeys) (v : Leases) (q : Queue) : Type 0 where
   pub counts : t ≡ tally_in s.held
   pub indexed : IsIndexOf i s.held
   pub leased : AreLeased s.held v
   pub few : len s.held ≤ s.version
+  pub seen : version q ≡ s.version

@@ -1,5 +1,5 @@
 //! The hub: the registry and all that follows its changes.
-ghost use Rattle.std.specs.Prelude.{◌≡◌, ◌≢◌, ◌≤◌, List, [], IfErr, IfOk, OnOk, Ok, Some, false, option_map};
+ghost use Rattle.std.specs.Prelude.{◌≡◌, ◌≢◌, ◌≤◌, List, IfErr, IfOk, OnOk, Ok, Some, None, true, false, option_map};
 ghost use Rattle.std.specs.FinMap.{len};
 ghost use Rattle.disco_instance.specs.declared.fault.Fault.TheVariants.{OutOfMemory};
 ghost use Rattle.disco_instance.specs.declared.form.Form.TheVariants.{Full};
@@ -7,19 +7,22 @@ ghost use Rattle.disco_history.specs.Change.{Entry, seen};
 ghost use Rattle.disco_index.specs.Tally.{tally_in};
 ghost use Rattle.disco_index.specs.Vips as vip;
 ghost use Rattle.disco_lease.specs.Leases as lease;
-ghost use Rattle.disco_registry.specs.Accept.{Refuses, accepts, limits_of};
+ghost use Rattle.disco_queue.specs.Queue as recent;
+ghost use Rattle.disco_registry.specs.Accept.{Refuses, accepts};
 ghost use Rattle.disco_registry.specs.Commit as commit;
-ghost use Rattle.disco_registry.specs.Commit.{Takes, done_by, extended, held_after, outcome};
+ghost use Rattle.disco_registry.specs.Commit.{Takes, done_by, held_after, outcome};
 ghost use Rattle.disco_registry.specs.Op.{ask_of};
 ghost use Rattle.disco_registry.specs.State as registry;
-ghost use Rattle.disco_writer.specs.Documents.{IsWritten, asked_by, is_delta};
+ghost use Rattle.disco_writer.specs.Documents.{IsDeltaWritten, IsWritten, asked_by, is_delta};
 ghost use Rattle.disco_cache.specs.Payloads.{IsTrue};
+ghost use Rattle.disco_hub.specs.Past.{Past, cleaned, history, nothing, with_change};
 ghost use Rattle.disco_hub.specs.Refusals.{doc_of_id, doc_of_key, refusal_of, refusal_of_id};
-ghost use Rattle.disco_hub.specs.State.{HasPlacesFor, IsReady, IsSweptAfter, change_in, limits};
+ghost use Rattle.disco_hub.specs.State.{HasPlacesFor, HasRoomFor, IsReady, IsSame, IsSweptAfter, StandsFor, change_in, moment_in, rules, rules_of};
 ghost use Rattle.disco_hub.specs.Tied.{AreLeased};
 
 use crate::counts::count;
 use crate::leases::{Step, keep, step_of};
+use crate::recent::{remember, shared};
 use crate::settings::Settings;
 use crate::{leases, vips};
 use disco_cache::{DocKey, Payload};
@@ -28,6 +31,7 @@ use disco_index::laws::{no_vips_law, same_vips_law};
 use disco_index::{Counts, VipIndex};
 use disco_instance::{Bytes, Fault, Form, Key};
 use disco_lease::LeaseBook;
+use disco_queue::ChangedQueue;
 use disco_registry::{Applied, Op, Registry};
 use disco_writer::{Query, write_full};
 use std::alloc::Global;
@@ -35,7 +39,7 @@ use std::marker::Model;
 use std::sync::Arc;
 
 /// The registered instances with all that is kept beside them: the counts of their statuses, which
-/// of them have a vip, and their leases.
+/// of them have a vip, their leases, and what changed of late.
 #[derive(Drop)]
 pub struct Hub {
     alloc: Global,
@@ -43,6 +47,11 @@ pub struct Hub {
     counts: Counts,
     vips: VipIndex,
     leases: LeaseBook,
+    queue: ChangedQueue,
+    /// How long a recent change is kept, in milliseconds.
+    retention: u64,
+    /// Whether deltas are served.
+    delta: bool,
 }
 
 impl Model for Hub {
@@ -53,9 +62,9 @@ impl Model for Hub {
 
     ghost coded = { coded_state };
 
-    ghost view = { λ h. record { registry = h.registry; vips = h.vips; leases = h.leases } };
+    ghost view = { λ h. record { registry = h.registry; vips = h.vips; leases = h.leases; queue = h.queue; retention = h.retention; delta = h.delta } };
 
-    ghost invariant = { λ h. IsTied h.registry h.counts h.vips h.leases };
+    ghost invariant = { λ h. IsTied h.registry h.counts h.vips h.leases h.queue };
 }
 
 /// An accepted operation, with all that its commit needs.
@@ -64,6 +73,8 @@ pub struct Ready {
     ready: disco_registry::Ready,
     key: Key,
     step: Step,
+    /// The change once more, for the queue.
+    kept: Option<Change>,
     moment: u64,
 }
 
@@ -71,18 +82,22 @@ pub struct Ready {
 fn open_places(
     index: &mut VipIndex,
     book: &mut LeaseBook,
+    queue: &mut ChangedQueue,
     change: Option<&Change>,
 ) -> Result<(), Fault>
     ensures vips { vip.IsSame index.old index.new }
     ensures leases { lease.IsSame book.old book.new }
+    ensures queue { recent.IsSame queue.old queue.new }
     ensures places { OnOk result (HasPlacesFor index.new book.new (option_map (λ c. seen c.now) change.entry)) }
+    ensures room { OnOk result (HasRoomFor queue.new (option_map (λ c. seen c.now) change.entry)) }
     ensures memory { IfErr result (λ e. e ≡ OutOfMemory) }
 {
     let Some(change) = change else {
         return Ok(());
     };
     vips::open(index, change)?;
-    book.ready(change.key())
+    book.ready(change.key())?;
+    queue.ready()
 }
 
 /// Does to what is kept beside the registry what the ready operation does to the registry.
@@ -117,8 +132,8 @@ fn follow(
 impl Hub {
     /// An empty registry within the limits of the settings.
     pub fn new(alloc: Global, settings: &Settings) -> Hub
-        ensures empty { registry.StandsFor result.registry [] }
-        ensures limits { limits_of result.registry ≡ limits settings.now }
+        ensures empty { StandsFor result nothing }
+        ensures rules { rules_of result ≡ rules settings.now }
     {
         no_vips_law();
         Hub {
@@ -127,6 +142,9 @@ impl Hub {
             counts: Counts::new(),
             vips: VipIndex::new(alloc),
             leases: LeaseBook::new(alloc),
+            queue: ChangedQueue::new(alloc, settings.queue),
+            retention: settings.retention,
+            delta: settings.delta,
         }
     }
 
@@ -140,19 +158,27 @@ impl Hub {
     /// Makes every growth that an operation at a moment in milliseconds needs, and changes no
     /// answer. Refused as the operation is, and as `OutOfMemory`.
     pub fn ready(&mut self, op: Op, now: u64) -> Result<Ready, Fault>
-        ensures same { registry.IsSame self.old.registry self.new.registry }
+        ensures same { IsSame self.old self.new }
         ensures ready { IfOk result (λ r. accepts self.old.registry (ask_of op) now ≡ Ok (change_in r) × IsReady self.new r) }
+        ensures moment { IfOk result (λ r. moment_in r ≡ now) }
         ensures refused { IfErr result (Refuses self.old.registry (ask_of op) now) }
     {
         same_vips_law();
         let step = step_of(&op);
         let key = op.key().clone()?;
         let ready = self.registry.ready(op, now)?;
-        open_places(&mut self.vips, &mut self.leases, ready.change())?;
+        let kept = shared(ready.change())?;
+        open_places(
+            &mut self.vips,
+            &mut self.leases,
+            &mut self.queue,
+            ready.change(),
+        )?;
         Ok(Ready {
             ready,
             key,
             step,
+            kept,
             moment: now,
         })
     }
@@ -164,8 +190,10 @@ impl Hub {
         ensures change { done_by result ≡ change_in ready }
         ensures takes { Takes self.old.registry (change_in ready) self.new.registry }
         ensures swept { IsSweptAfter self.old.registry.held (change_in ready) self.new.vips }
-        ensures history { (h : List Entry) → registry.StandsFor self.old.registry h → registry.StandsFor self.new.registry (extended h (done_by result)) }
+        ensures history { (p : Past) → StandsFor self.old p → StandsFor self.new (with_change self.old.queue.max p (moment_in ready) (done_by result)) }
+        ensures rules { rules_of self.new ≡ rules_of self.old }
     {
+        let _version = self.registry.version();
         follow(
             &mut self.counts,
             &mut self.vips,
@@ -173,6 +201,7 @@ impl Hub {
             &self.registry,
             &ready,
         );
+        remember(&mut self.queue, ready.kept, ready.moment);
         self.registry.commit(ready.ready)
     }
 
@@ -180,20 +209,34 @@ impl Hub {
     pub fn write(&mut self, op: Op, now: u64) -> Result<Applied, Fault>
         ensures done { IfOk result (λ a. accepts self.old.registry (ask_of op) now ≡ Ok (done_by a)) }
         ensures refused { IfErr result (Refuses self.old.registry (ask_of op) now) }
-        ensures limits { limits_of self.new.registry ≡ limits_of self.old.registry }
-        ensures history { (h : List Entry) → registry.StandsFor self.old.registry h → registry.StandsFor self.new.registry (extended h (outcome result)) }
+        ensures rules { rules_of self.new ≡ rules_of self.old }
+        ensures history { (p : Past) → StandsFor self.old p → StandsFor self.new (with_change self.old.queue.max p now (outcome result)) }
     {
         let ready = self.ready(op, now)?;
         Ok(self.commit(ready))
     }
 
-    fn payload(&self, key: &DocKey, text: Vec<u8>) -> Result<Arc<Payload, Global>, Fault>
-        ensures payload { IfOk result (λ p. p.value ≡ record { key = key.now; base = self.now.registry.version; version = self.now.registry.version; text = text.items }) }
+    /// Forgets the recent changes that are older than the retention at a moment in milliseconds, up
+    /// to the first that isn't. Answers the version from which deltas start now. Takes no memory.
+    pub fn clean(&mut self, now: u64) -> u64
+        ensures base { result ≡ self.new.queue.base }
+        ensures registry { self.new.registry ≡ self.old.registry }
+        ensures vips { self.new.vips ≡ self.old.vips }
+        ensures leases { self.new.leases ≡ self.old.leases }
+        ensures rules { rules_of self.new ≡ rules_of self.old }
+        ensures history { (p : Past) → StandsFor self.old p → StandsFor self.new (cleaned self.old.retention p now) }
+    {
+        self.queue.clean(now, self.retention);
+        self.queue.base()
+    }
+
+    fn payload(&self, key: &DocKey, base: u64, text: Vec<u8>) -> Result<Arc<Payload, Global>, Fault>
+        ensures payload { IfOk result (λ p. p.value ≡ record { key = key.now; base = base; version = self.now.registry.version; text = text.items }) }
         ensures memory { IfErr result (λ e. e ≡ OutOfMemory) }
     {
         let payload = Payload {
             key: key.clone()?,
-            base: self.registry.version(),
+            base,
             version: self.registry.version(),
             text: Bytes::from_vec(text),
         };
@@ -201,28 +244,70 @@ impl Hub {
     }
 
     fn text_of(&self, query: &Query) -> Result<Option<Vec<u8>>, Fault>
-        requires { is_delta query.now ≡ false }
-        ensures written { IfOk result (λ o. (h : List Entry) → registry.StandsFor self.now.registry h → IsWritten (asked_by query.now) h (option_map (λ v. v.items) o)) }
+        ensures written { IfOk result (λ o. is_delta query.now ≡ false
+            → (h : List Entry) → registry.StandsFor self.now.registry h → IsWritten (asked_by query.now) h (option_map (λ v. v.items) o)) }
+        ensures delta { IfOk result (λ o. is_delta query.now ≡ true
+            → (p : Past) → StandsFor self.now p → IsDeltaWritten (history p) self.now.queue.base (option_map (λ v. v.items) o)) }
         ensures memory { IfErr result (λ e. e ≡ OutOfMemory) }
     {
-        write_full(self.alloc, query, &self.registry, &self.vips, &self.counts)
+        write_full(
+            self.alloc,
+            query,
+            &self.registry,
+            &self.vips,
+            &self.queue,
+            &self.counts,
+        )
     }
 
     /// The document that is asked for, written anew. An app's name has to be in upper case. Refused
     /// as `NotFound` exactly where an app, a vip, a secure vip or an instance is asked for and there
-    /// is none, as `DeltaDisabled` exactly for a delta, and as `OutOfMemory`.
+    /// is none, as `DeltaDisabled` exactly for a delta where deltas are off, and as `OutOfMemory`.
     pub fn load(&self, key: &DocKey) -> Result<Arc<Payload, Global>, Fault>
         requires { key.now.form ≡ Full }
-        ensures key { IfOk result (λ p. p.value.key ≡ key.now) }
-        ensures version { IfOk result (λ p. p.value.version ≡ self.now.registry.version) }
-        ensures true_now { IfOk result (λ p. (h : List Entry) → registry.StandsFor self.now.registry h → IsTrue p.value h) }
-        ensures refused { IfErr result (λ e. e ≢ OutOfMemory → (h : List Entry) → registry.StandsFor self.now.registry h → refusal_of key.now.query h ≡ Some e) }
+        ensures key { IfOk result (λ d. d.value.key ≡ key.now) }
+        ensures version { IfOk result (λ d. d.value.version ≡ self.now.registry.version) }
+        ensures base { IfOk result (λ d. is_delta key.now.query ≡ true → d.value.base ≡ self.now.queue.base) }
+        ensures true_now { IfOk result (λ d. (p : Past) → StandsFor self.now p → IsTrue d.value (history p)) }
+        ensures allowed { IfOk result (λ _. (p : Past) → StandsFor self.now p → refusal_of self.now.delta key.now.query (history p) ≡ None) }
+        ensures refused { IfErr result (λ e. e ≢ OutOfMemory → (p : Past) → StandsFor self.now p → refusal_of self.now.delta key.now.query (history p) ≡ Some e) }
     {
-        if matches!(key.query, Query::Delta) {
+        if key.query.is_delta() {
+            return Ok(self.load_delta(key)?);
+        }
+        Ok(self.load_held(key)?)
+    }
+
+    fn load_delta(&self, key: &DocKey) -> Result<Arc<Payload, Global>, Fault>
+        requires form { key.now.form ≡ Full }
+        requires delta { is_delta key.now.query ≡ true }
+        ensures key { IfOk result (λ d. d.value.key ≡ key.now) }
+        ensures version { IfOk result (λ d. d.value.version ≡ self.now.registry.version) }
+        ensures base { IfOk result (λ d. d.value.base ≡ self.now.queue.base) }
+        ensures true_now { IfOk result (λ d. (p : Past) → StandsFor self.now p → IsTrue d.value (history p)) }
+        ensures allowed { IfOk result (λ _. (p : Past) → StandsFor self.now p → refusal_of self.now.delta key.now.query (history p) ≡ None) }
+        ensures refused { IfErr result (λ e. e ≢ OutOfMemory → (p : Past) → StandsFor self.now p → refusal_of self.now.delta key.now.query (history p) ≡ Some e) }
+    {
+        if !self.delta {
             return Err(Fault::DeltaDisabled);
         }
         match self.text_of(&key.query)? {
-            Some(text) => Ok(self.payload(key, text)?),
+            Some(text) => Ok(self.payload(key, self.queue.base(), text)?),
+            None => Err(Fault::NotFound),
+        }
+    }
+
+    fn load_held(&self, key: &DocKey) -> Result<Arc<Payload, Global>, Fault>
+        requires form { key.now.form ≡ Full }
+        requires held { is_delta key.now.query ≡ false }
+        ensures key { IfOk result (λ d. d.value.key ≡ key.now) }
+        ensures version { IfOk result (λ d. d.value.version ≡ self.now.registry.version) }
+        ensures true_now { IfOk result (λ d. (h : List Entry) → registry.StandsFor self.now.registry h → IsTrue d.value h) }
+        ensures allowed { IfOk result (λ _. (h : List Entry) → registry.StandsFor self.now.registry h → refusal_of self.now.delta key.now.query h ≡ None) }
+        ensures refused { IfErr result (λ e. e ≢ OutOfMemory → (h : List Entry) → registry.StandsFor self.now.registry h → refusal_of self.now.delta key.now.query h ≡ Some e) }
+    {
+        match self.text_of(&key.query)? {
+            Some(text) => Ok(self.payload(key, self.registry.version(), text)?),
             None => Err(Fault::NotFound),
         }
     }
@@ -233,13 +318,14 @@ impl Hub {
         ensures key { IfOk result (λ p. p.value.key ≡ doc_of_key key.now form) }
         ensures version { IfOk result (λ p. p.value.version ≡ self.now.registry.version) }
         ensures true_now { IfOk result (λ p. (h : List Entry) → registry.StandsFor self.now.registry h → IsTrue p.value h) }
-        ensures refused { IfErr result (λ e. e ≢ OutOfMemory → (h : List Entry) → registry.StandsFor self.now.registry h → refusal_of (doc_of_key key.now form).query h ≡ Some e) }
+        ensures allowed { IfOk result (λ _. (h : List Entry) → registry.StandsFor self.now.registry h → refusal_of true (doc_of_key key.now form).query h ≡ None) }
+        ensures refused { IfErr result (λ e. e ≢ OutOfMemory → (h : List Entry) → registry.StandsFor self.now.registry h → refusal_of true (doc_of_key key.now form).query h ≡ Some e) }
     {
         let key = DocKey {
             query: Query::Instance(key.clone()?),
             form,
         };
-        Ok(self.load(&key)?)
+        Ok(self.load_held(&key)?)
     }
 
     /// The document of the instance of an id, as [`Hub::load`] gives it: of several apps' the one
@@ -249,6 +335,7 @@ impl Hub {
         ensures key { IfOk result (λ p. (h : List Entry) → registry.StandsFor self.now.registry h → doc_of_id id.now form h ≡ Some p.value.key) }
         ensures version { IfOk result (λ p. p.value.version ≡ self.now.registry.version) }
         ensures true_now { IfOk result (λ p. (h : List Entry) → registry.StandsFor self.now.registry h → IsTrue p.value h) }
+        ensures allowed { IfOk result (λ _. (h : List Entry) → registry.StandsFor self.now.registry h → refusal_of_id id.now h ≡ None) }
         ensures refused { IfErr result (λ e. e ≢ OutOfMemory → (h : List Entry) → registry.StandsFor self.now.registry h → refusal_of_id id.now h ≡ Some e) }
     {
         match self.registry.by_id(id) {

@@ -4,6 +4,7 @@
 mod counts;
 mod hub;
 mod leases;
+mod recent;
 mod settings;
 mod vips;
 

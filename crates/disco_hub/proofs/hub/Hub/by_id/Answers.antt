@@ -28,3 +28,10 @@ returns-in-None-clause-refused c = λ other h stands.
     let missing = c.in-None.ensures ∙ ap (λ (s : State). option_map (λ e. e.0) (first_of_id c.args.id.now (values s.registry.held))) c.self.view_is in
     let none : by_id (reg h) c.args.id.now ≡ None = by_id_held c.args.self.now.registry h c.args.id.now None stands missing in
     ap (λ (o : Option Row). refusal_by o h) none
+
+pub returns-in-Some-clause-allowed : goal.returns-in-Some-clause-allowed
+returns-in-Some-clause-allowed c = ok_then c.instance.result _ _ (λ d none h stands.
+    let rec = c.in-Some.rec.now in
+    let found = c.in-Some.ensures ∙ ap (λ (s : State). option_map (λ e. e.0) (first_of_id c.args.id.now (values s.registry.held))) c.self.view_is in
+    let there : by_id (reg h) c.args.id.now ≡ Some (row rec) = by_id_held c.args.self.now.registry h c.args.id.now (Some (row rec)) stands found in
+    ap (λ (o : Option Row). refusal_by o h) there ∙ none h stands) c.instance.ensures.allowed
