@@ -1,5 +1,5 @@
 -- What events answer.
-use Rattle.std.specs.Prelude.{◌≡◌, ◌≢◌, ℕ, ◌+◌, Bool, true, false, List, length, Option, Some, None, Result, Ok, Err, slice_get}
+use Rattle.std.specs.Prelude.{◌≡◌, ◌≢◌, ℕ, ◌+◌, ◌≤◌, Bool, true, false, List, length, Option, Some, None, Result, Ok, Err, slice_get}
 use Rattle.std.specs.declared.alloc.Global.{Global}
 use Rattle.std.specs.declared.sync.Arc.{Arc}
 use Rattle.disco_instance.specs.Instance.{Gives}
@@ -8,38 +8,57 @@ use Rattle.disco_instance.specs.declared.fault.Fault.TheVariants.{OutOfMemory}
 use Rattle.disco_instance.specs.declared.form.Form.{Form}
 use Rattle.disco_instance.specs.declared.form.Form.TheVariants.{Full, Compact}
 use Rattle.disco_history.specs.Change.{Entry}
-use Rattle.disco_registry.specs.Accept.{Limits}
-use Rattle.disco_registry.specs.Commit.{done_by, extended, outcome}
-use Rattle.disco_registry.specs.State.{State, StandsFor}
+use Rattle.disco_registry.specs.Commit.{done_by, outcome}
 use Rattle.disco_registry.specs.declared.op.Applied.{Applied}
 use Rattle.disco_registry.specs.declared.op.Applied.TheVariants as applied
-use Rattle.disco_world.specs.Events.{doc_after, done_after, hist}
+use Rattle.disco_writer.specs.Documents.{is_delta}
+use Rattle.disco_hub.specs.Past.{Past, cleaned, history, with_change}
+use Rattle.disco_hub.specs.State.{Rules, State, StandsFor}
+use Rattle.disco_world.specs.Events.{cleans_at, doc_after, done_after, past}
 use Rattle.disco_world.specs.declared.event.Event.{Event}
-use Rattle.disco_world.specs.declared.event.Event.TheVariants.{Register, Cancel, Renew, SetStatus, DropStatus, Metadata, Load, LoadById}
+use Rattle.disco_world.specs.declared.event.Event.TheVariants.{Register, Cancel, Renew, SetStatus, DropStatus, Metadata, Load, LoadById, Clean}
 use Rattle.disco_cache.specs.Payloads.{IsTrue}
 use Rattle.disco_cache.specs.declared.payload.Payload.{Payload}
 use Rattle.disco_world.specs.declared.event.Reply.{Reply}
-use Rattle.disco_world.specs.declared.event.Reply.TheVariants.{Changed, Same, Doc, Refused}
+use Rattle.disco_world.specs.declared.event.Reply.TheVariants.{Changed, Same, Doc, Cleaned, Refused}
 
 abbrev is_compact : Form → Bool
 is_compact Full = false
 is_compact Compact = true
 
--- what an event may answer after a history; a refused growth may be answered in place of anything
-abbrev pub IsAnswer : Limits → List Entry → Event → Reply → Type 0
-IsAnswer limits h event (Changed v) = (c : Entry) × (done_after limits h event ≡ Some (Ok (Some c))) × (v ≡ length h + 1)
-IsAnswer limits h event Same = done_after limits h event ≡ Some (Ok None)
-IsAnswer limits h event (Doc p) = (doc_after h event ≡ Some p.value.key) × IsTrue p.value h × (p.value.version ≡ length h)
-IsAnswer limits h event (Refused e) = e ≢ OutOfMemory → done_after limits h event ≡ Some (Err e)
+-- a true document after what has happened; a delta starts no later than the queue does
+pub record IsServed (d : Payload) (p : Past) : Type 0 where
+  pub true_now : IsTrue d (history p)
+  pub start : is_delta d.key.query ≡ true → d.base ≤ p.base
 
--- each event's reply is its answer after the history of the events before it
-abbrev pub AreAnswers : Limits → List Event → List Reply → Type 0
-AreAnswers limits events replies = (i : ℕ) (event : Event) (reply : Reply) → slice_get events i ≡ Some event → slice_get replies i ≡ Some reply
-    → IsAnswer limits (hist limits events replies i) event reply
+-- an event that may find no memory: each but a cleaning
+abbrev pub takes_memory : Event → Bool
+takes_memory (Register now app json) = true
+takes_memory (Cancel now app id) = true
+takes_memory (Renew now app id) = true
+takes_memory (SetStatus now app id status) = true
+takes_memory (DropStatus now app id status) = true
+takes_memory (Metadata now app id entries) = true
+takes_memory (Load key) = true
+takes_memory (LoadById id form) = true
+takes_memory (Clean now) = false
 
--- each served document is true after the history of the events up to that which served it
-abbrev pub AreServed : Limits → List Event → List Reply → Type 0
-AreServed limits events replies = (i : ℕ) (p : Arc Payload Global) → slice_get replies i ≡ Some (Doc p) → IsTrue p.value (hist limits events replies (i + 1))
+-- what an event may answer after what has happened; a refused growth may be answered in place of anything that takes memory
+abbrev pub IsAnswer : Rules → Past → Event → Reply → Type 0
+IsAnswer rules p event (Changed v) = (c : Entry) × (done_after rules p event ≡ Some (Ok (Some c))) × (v ≡ length (history p) + 1)
+IsAnswer rules p event Same = done_after rules p event ≡ Some (Ok None)
+IsAnswer rules p event (Doc d) = (done_after rules p event ≡ None) × (doc_after (history p) event ≡ Some d.value.key) × IsServed d.value p × (d.value.version ≡ length (history p))
+IsAnswer rules p event (Cleaned b) = (now : ℕ) × (cleans_at event ≡ Some now) × (b ≡ (cleaned rules.retention p now).base)
+IsAnswer rules p event (Refused e) = (takes_memory event ≡ true) × (e ≢ OutOfMemory → done_after rules p event ≡ Some (Err e))
+
+-- each event's reply is its answer after what the events before it did
+abbrev pub AreAnswers : Rules → List Event → List Reply → Type 0
+AreAnswers rules events replies = (i : ℕ) (event : Event) (reply : Reply) → slice_get events i ≡ Some event → slice_get replies i ≡ Some reply
+    → IsAnswer rules (past rules events replies i) event reply
+
+-- each served document is true after the events up to that which served it
+abbrev pub AreServed : Rules → List Event → List Reply → Type 0
+AreServed rules events replies = (i : ℕ) (d : Arc Payload Global) → slice_get replies i ≡ Some (Doc d) → IsServed d.value (past rules events replies (i + 1))
 
 -- a document is asked for in the compact form
 abbrev pub is_compact_load : Event → Bool
@@ -51,6 +70,7 @@ is_compact_load (DropStatus now app id status) = false
 is_compact_load (Metadata now app id entries) = false
 is_compact_load (Load key) = is_compact (key.form)
 is_compact_load (LoadById id form) = is_compact form
+is_compact_load (Clean now) = false
 
 -- the reply to a write, after which there are so many versions
 abbrev pub reply_to : Result Applied Fault → ℕ → Reply
@@ -63,6 +83,6 @@ abbrev pub reply_of : Result (Arc Payload Global) Fault → Reply
 reply_of (Ok p) = Doc p
 reply_of (Err e) = Refused e
 
--- what a write did to a registry, and what it answered, follow what is done after a history
-abbrev pub Follows : State → State → Result Applied Fault → (List Entry → Result (Option Entry) Fault) → Type 0
-Follows old new result done = (h : List Entry) → StandsFor old h → Gives done_by result (done h) × StandsFor new (extended h (outcome result))
+-- what a write at a moment did to a hub, and what it answered, follow what is done after what has happened
+abbrev pub Follows : State → State → ℕ → Result Applied Fault → (Past → Result (Option Entry) Fault) → Type 0
+Follows old new now result done = (p : Past) → StandsFor old p → Gives done_by result (done p) × StandsFor new (with_change old.queue.max p now (outcome result))

@@ -56,6 +56,10 @@ pub enum Event {
         id: Text,
         form: Form,
     },
+    /// The changes that are older than the retention are forgotten.
+    Clean {
+        now: u64,
+    },
 }
 
 /// What an event answers.
@@ -66,5 +70,7 @@ pub enum Reply {
     /// There was nothing to change.
     Same,
     Doc(Arc<Payload, Global>),
+    /// The queue was cleaned: the version from which deltas start now.
+    Cleaned(u64),
     Refused(Fault),
 }

@@ -1,16 +1,14 @@
 //! Runs of events.
 ghost use Rattle.std.specs.Prelude.{◌≡◌, ◌≢◌, ℕ, ◌+◌, List, length, false, IfOk, IfErr, OnOk, Some, None, position};
 ghost use Rattle.disco_instance.specs.declared.fault.Fault.TheVariants.{OutOfMemory, BadEvent};
-ghost use Rattle.disco_history.specs.Change.{Entry};
-ghost use Rattle.disco_registry.specs.Accept.{accept_after, limits_of};
+ghost use Rattle.disco_registry.specs.Accept.{accept_after};
 ghost use Rattle.disco_registry.specs.Op as asking;
-ghost use Rattle.disco_registry.specs.State.{StandsFor};
 ghost use Rattle.disco_wire.specs.Registration.{registration_of};
 ghost use Rattle.disco_instance.specs.declared.form.Form.TheVariants.{Full};
-ghost use Rattle.disco_cache.specs.Payloads.{IsTrue};
 ghost use Rattle.disco_hub.specs.Refusals.{refusal_of};
-ghost use Rattle.disco_hub.specs.State.{limits};
-ghost use Rattle.disco_world.specs.Answers.{AreAnswers, AreServed, Follows, IsAnswer, is_compact_load, reply_of, reply_to};
+ghost use Rattle.disco_hub.specs.Past.{Past, history};
+ghost use Rattle.disco_hub.specs.State.{StandsFor, rules, rules_of};
+ghost use Rattle.disco_world.specs.Answers.{AreAnswers, AreServed, Follows, IsAnswer, IsServed, is_compact_load, reply_of, reply_to};
 ghost use Rattle.disco_world.specs.Events.{after, doc_asked, done_by_ask, key_named, query_asked, registers};
 
 use crate::event::{Event, Reply};
@@ -29,8 +27,8 @@ use std::sync::Arc;
 /// finds no memory is answered so and changes nothing.
 pub fn run(alloc: Global, settings: &Settings, events: &[Event]) -> Result<Vec<Reply>, Fault>
     ensures each { IfOk result (λ replies. length replies.items ≡ length events.now) }
-    ensures answers { IfOk result (λ replies. AreAnswers (limits settings.now) events.now replies.items) }
-    ensures served { IfOk result (λ replies. AreServed (limits settings.now) events.now replies.items) }
+    ensures answers { IfOk result (λ replies. AreAnswers (rules settings.now) events.now replies.items) }
+    ensures served { IfOk result (λ replies. AreServed (rules settings.now) events.now replies.items) }
     ensures full { OnOk result (position is_compact_load events.now ≡ None) }
     ensures refused { IfErr result (λ e. e ≢ OutOfMemory → (i : ℕ) × (position is_compact_load events.now ≡ Some i) × (e ≡ BadEvent (i + 1))) }
 {
@@ -68,8 +66,8 @@ fn is_compact_load(event: &Event) -> bool
 fn run_full(alloc: Global, settings: &Settings, events: &[Event]) -> Result<Vec<Reply>, Fault>
     requires { position is_compact_load events.now ≡ None }
     ensures each { IfOk result (λ replies. length replies.items ≡ length events.now) }
-    ensures answers { IfOk result (λ replies. AreAnswers (limits settings.now) events.now replies.items) }
-    ensures served { IfOk result (λ replies. AreServed (limits settings.now) events.now replies.items) }
+    ensures answers { IfOk result (λ replies. AreAnswers (rules settings.now) events.now replies.items) }
+    ensures served { IfOk result (λ replies. AreServed (rules settings.now) events.now replies.items) }
     ensures memory { IfErr result (λ e. e ≡ OutOfMemory) }
 {
     let mut hub = Hub::new(alloc, settings);
@@ -84,9 +82,9 @@ fn run_full(alloc: Global, settings: &Settings, events: &[Event]) -> Result<Vec<
 /// Answers one event.
 fn answer(alloc: Global, hub: &mut Hub, event: &Event) -> Reply
     requires { is_compact_load event.now ≡ false }
-    ensures answer { (h : List Entry) → StandsFor hub.old.registry h → IsAnswer (limits_of hub.old.registry) h event.now result }
-    ensures history { (h : List Entry) → StandsFor hub.old.registry h → StandsFor hub.new.registry (after (limits_of hub.old.registry) h event.now result) }
-    ensures limits { limits_of hub.new.registry ≡ limits_of hub.old.registry }
+    ensures answer { (p : Past) → StandsFor hub.old p → IsAnswer (rules_of hub.old) p event.now result }
+    ensures past { (p : Past) → StandsFor hub.old p → StandsFor hub.new (after (rules_of hub.old) p event.now result) }
+    ensures rules { rules_of hub.new ≡ rules_of hub.old }
 {
     match event {
         Event::Register { now, app, json } => {
@@ -130,6 +128,7 @@ fn answer(alloc: Global, hub: &mut Hub, event: &Event) -> Reply
         }
         Event::Load { key } => served(load(alloc, hub, key)),
         Event::LoadById { id, form } => served(hub.by_id(id.as_str(), *form)),
+        Event::Clean { now } => Reply::Cleaned(hub.clean(*now)),
     }
 }
 
@@ -169,8 +168,9 @@ fn load(alloc: Global, hub: &Hub, key: &DocKey) -> Result<Arc<Payload, Global>, 
     requires { key.now.form ≡ Full }
     ensures key { IfOk result (λ p. p.value.key ≡ doc_asked key.now) }
     ensures version { IfOk result (λ p. p.value.version ≡ hub.now.registry.version) }
-    ensures true_now { IfOk result (λ p. (h : List Entry) → StandsFor hub.now.registry h → IsTrue p.value h) }
-    ensures refused { IfErr result (λ e. e ≢ OutOfMemory → (h : List Entry) → StandsFor hub.now.registry h → refusal_of (query_asked key.now.query) h ≡ Some e) }
+    ensures served { IfOk result (λ d. (p : Past) → StandsFor hub.now p → IsServed d.value p) }
+    ensures allowed { IfOk result (λ _. (p : Past) → StandsFor hub.now p → refusal_of hub.now.delta (query_asked key.now.query) (history p) ≡ None) }
+    ensures refused { IfErr result (λ e. e ≢ OutOfMemory → (p : Past) → StandsFor hub.now p → refusal_of hub.now.delta (query_asked key.now.query) (history p) ≡ Some e) }
 {
     let asked = DocKey {
         query: query_asked(alloc, &key.query)?,
@@ -186,8 +186,8 @@ fn register(
     app: &Text,
     json: &Bytes,
 ) -> Result<Applied, Fault>
-    ensures follows { Follows hub.old.registry hub.new.registry result (λ h. done_by_ask (limits_of hub.old.registry) h now (registers app.now (registration_of json.now))) }
-    ensures limits { limits_of hub.new.registry ≡ limits_of hub.old.registry }
+    ensures follows { Follows hub.old hub.new now result (λ p. done_by_ask (rules_of hub.old).limits (history p) now (registers app.now (registration_of json.now))) }
+    ensures rules { rules_of hub.new ≡ rules_of hub.old }
 {
     let posted = read_registration(alloc, json.as_slice())?;
     if upper(alloc, app.as_str())? != posted.key.app {
@@ -208,16 +208,16 @@ fn key_named(alloc: Global, app: &Text, id: &Text) -> Result<Key, Fault>
 }
 
 fn cancel(alloc: Global, hub: &mut Hub, now: u64, app: &Text, id: &Text) -> Result<Applied, Fault>
-    ensures follows { Follows hub.old.registry hub.new.registry result (λ h. accept_after (limits_of hub.old.registry) h (asking.cancel (key_named app.now id.now)) now) }
-    ensures limits { limits_of hub.new.registry ≡ limits_of hub.old.registry }
+    ensures follows { Follows hub.old hub.new now result (λ p. accept_after (rules_of hub.old).limits (history p) (asking.cancel (key_named app.now id.now)) now) }
+    ensures rules { rules_of hub.new ≡ rules_of hub.old }
 {
     let key = key_named(alloc, app, id)?;
     hub.write(Op::Cancel(key), now)
 }
 
 fn renew(alloc: Global, hub: &mut Hub, now: u64, app: &Text, id: &Text) -> Result<Applied, Fault>
-    ensures follows { Follows hub.old.registry hub.new.registry result (λ h. accept_after (limits_of hub.old.registry) h (asking.renew (key_named app.now id.now)) now) }
-    ensures limits { limits_of hub.new.registry ≡ limits_of hub.old.registry }
+    ensures follows { Follows hub.old hub.new now result (λ p. accept_after (rules_of hub.old).limits (history p) (asking.renew (key_named app.now id.now)) now) }
+    ensures rules { rules_of hub.new ≡ rules_of hub.old }
 {
     let key = key_named(alloc, app, id)?;
     hub.write(Op::Renew(key), now)
@@ -231,8 +231,8 @@ fn set_status(
     id: &Text,
     status: &Text,
 ) -> Result<Applied, Fault>
-    ensures follows { Follows hub.old.registry hub.new.registry result (λ h. accept_after (limits_of hub.old.registry) h (asking.set_status (key_named app.now id.now) status.now) now) }
-    ensures limits { limits_of hub.new.registry ≡ limits_of hub.old.registry }
+    ensures follows { Follows hub.old hub.new now result (λ p. accept_after (rules_of hub.old).limits (history p) (asking.set_status (key_named app.now id.now) status.now) now) }
+    ensures rules { rules_of hub.new ≡ rules_of hub.old }
 {
     let key = key_named(alloc, app, id)?;
     let status = status.clone()?;
@@ -247,8 +247,8 @@ fn drop_status(
     id: &Text,
     status: &Option<Text>,
 ) -> Result<Applied, Fault>
-    ensures follows { Follows hub.old.registry hub.new.registry result (λ h. accept_after (limits_of hub.old.registry) h (asking.drop_status (key_named app.now id.now) status.now) now) }
-    ensures limits { limits_of hub.new.registry ≡ limits_of hub.old.registry }
+    ensures follows { Follows hub.old hub.new now result (λ p. accept_after (rules_of hub.old).limits (history p) (asking.drop_status (key_named app.now id.now) status.now) now) }
+    ensures rules { rules_of hub.new ≡ rules_of hub.old }
 {
     let key = key_named(alloc, app, id)?;
     let status = status.clone()?;
@@ -263,8 +263,8 @@ fn add_metadata(
     id: &Text,
     entries: &Entries,
 ) -> Result<Applied, Fault>
-    ensures follows { Follows hub.old.registry hub.new.registry result (λ h. accept_after (limits_of hub.old.registry) h (asking.add_metadata (key_named app.now id.now) entries.now) now) }
-    ensures limits { limits_of hub.new.registry ≡ limits_of hub.old.registry }
+    ensures follows { Follows hub.old hub.new now result (λ p. accept_after (rules_of hub.old).limits (history p) (asking.add_metadata (key_named app.now id.now) entries.now) now) }
+    ensures rules { rules_of hub.new ≡ rules_of hub.old }
 {
     let key = key_named(alloc, app, id)?;
     let entries = entries.copy()?;

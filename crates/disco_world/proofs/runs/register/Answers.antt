@@ -13,8 +13,8 @@ not_not false e = sym e
 
 pub returns-clause-follows : goal.returns-clause-follows
 returns-clause-follows c =
-    let old = c.args.hub.now.registry in
-    let new = c.write.new.self.registry in
+    let old = c.args.hub.now in
+    let new = c.write.new.self in
     let p = c.in_ok-posted.posted in
     let upper = c.in_ok-upper.ensures.text ∙ ap in_upper_case c.as_str.ensures in
     let same = ap (λ (t : List ℕ). bytes_eq t p.key.app) (sym upper) ∙ not_not _ (sym c.ne-2.ensures ∙ c.if-ne.false) in
