@@ -7,7 +7,7 @@ use Rattle.disco_instance.specs.declared.fault.Fault.{Fault}
 use Rattle.disco_instance.specs.declared.fault.Fault.TheVariants.{MissingField}
 use Rattle.disco_cache.specs.declared.payload.Payload.{Payload}
 use Rattle.disco_world.specs.declared.event.Reply.{Reply}
-use Rattle.disco_world.specs.declared.event.Reply.TheVariants.{Changed, Same, Doc, Refused}
+use Rattle.disco_world.specs.declared.event.Reply.TheVariants.{Changed, Same, Doc, Cleaned, Refused}
 
 -- `doc BASE VERSION TEXT`
 abbrev pub document_line : Payload → List ℕ
@@ -22,6 +22,7 @@ abbrev pub answer_line : Reply → List ℕ
 answer_line (Changed version) = codes "ok " ++ decimal version ++ codes "\n"
 answer_line Same = codes "same\n"
 answer_line (Doc payload) = document_line (arc_value payload)
+answer_line (Cleaned base) = codes "base " ++ decimal base ++ codes "\n"
 answer_line (Refused fault) = refusal_line fault
 
 -- the answer lines of replies, one behind another

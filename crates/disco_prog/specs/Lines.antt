@@ -5,7 +5,7 @@ use Rattle.std.specs.Str.{bytes_eq}
 use Rattle.disco_instance.specs.declared.fault.Fault.{Fault}
 use Rattle.disco_instance.specs.declared.fault.Fault.TheVariants.{BadEvent}
 use Rattle.disco_world.specs.declared.event.Event.{Event}
-use Rattle.disco_world.specs.declared.event.Event.TheVariants.{Register, Cancel, Renew, SetStatus, DropStatus, Metadata}
+use Rattle.disco_world.specs.declared.event.Event.TheVariants.{Register, Cancel, Renew, SetStatus, DropStatus, Metadata, Clean}
 use Rattle.disco_prog.specs.Loads.{last_word, load}
 use Rattle.disco_prog.specs.Query.{entries_of_query}
 use Rattle.disco_prog.specs.Words.{first_word, after_word, text_of_word, moment_of_word}
@@ -60,6 +60,10 @@ override_removal words = option_and_then (dropped_by (behind_target words)) (tar
 abbrev pub metadata_change : List ℕ → Option Event
 metadata_change words = option_map (λ t. Metadata t.0 t.1 t.2 (entries_of_query (unwrap_or (behind_target words) []))) (target words)
 
+-- `NOW`
+abbrev pub cleaning : List ℕ → Option Event
+cleaning words = if is_some (after_word words) then None else option_map (λ now. Clean now) (moment_of_word (first_word words))
+
 -- what is meant by a keyword and the words behind it
 abbrev pub event_named : List ℕ → List ℕ → Option Event
 event_named keyword words =
@@ -69,7 +73,8 @@ event_named keyword words =
     else (if bytes_eq keyword (codes "status") then status_change words
     else (if bytes_eq keyword (codes "unstatus") then override_removal words
     else (if bytes_eq keyword (codes "metadata") then metadata_change words
-    else (if bytes_eq keyword (codes "load") then load words else None))))))
+    else (if bytes_eq keyword (codes "clean") then cleaning words
+    else (if bytes_eq keyword (codes "load") then load words else None)))))))
 
 abbrev pub event_of : List ℕ → Option Event
 event_of line =

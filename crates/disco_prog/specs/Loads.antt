@@ -4,7 +4,7 @@ use Rattle.std.specs.Str.{bytes_eq}
 use Rattle.disco_instance.specs.declared.form.Form.{Form}
 use Rattle.disco_instance.specs.declared.form.Form.TheVariants.{Full, Compact}
 use Rattle.disco_writer.specs.declared.query.Query.{Query}
-use Rattle.disco_writer.specs.declared.query.Query.TheVariants.{Apps, App, Vip, Svip, Instance}
+use Rattle.disco_writer.specs.declared.query.Query.TheVariants.{Apps, Delta, App, Vip, Svip, Instance}
 use Rattle.disco_world.specs.declared.event.Event.{Event}
 use Rattle.disco_world.specs.declared.event.Event.TheVariants.{Load, LoadById}
 use Rattle.disco_prog.specs.Words.{after_word, first_word, text_of_word}
@@ -37,9 +37,9 @@ load_named form kind words =
     else (if bytes_eq kind (codes "id") then option_map (λ id. LoadById id form) (last_word words)
     else (if bytes_eq kind (codes "one") then instance_load form words else None))))
 
--- `apps`, which nothing stands behind, or another kind of query
+-- `apps` or `delta`, which nothing stands behind, or another kind of query
 abbrev pub load_of_kind : Form → List ℕ → Option (List ℕ) → Option Event
-load_of_kind form kind None = if bytes_eq kind (codes "apps") then Some (load_by form Apps) else None
+load_of_kind form kind None = if bytes_eq kind (codes "apps") then Some (load_by form Apps) else (if bytes_eq kind (codes "delta") then Some (load_by form Delta) else None)
 load_of_kind form kind (Some words) = load_named form kind words
 
 -- `FORM QUERY`

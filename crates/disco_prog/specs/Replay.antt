@@ -4,7 +4,7 @@ use Rattle.std.specs.Io.KnownBytes.{Appends}
 use Rattle.clap.specs.Words.{Text}
 use Rattle.disco_instance.specs.declared.fault.Fault.{Fault}
 use Rattle.disco_instance.specs.declared.fault.Fault.TheVariants.{BadEvent, OutOfMemory, ReadFailed, WriteFailed}
-use Rattle.disco_hub.specs.State.{limits}
+use Rattle.disco_hub.specs.State.{rules}
 use Rattle.disco_world.specs.Answers.{AreAnswers, AreServed, is_compact_load}
 use Rattle.disco_world.specs.declared.event.Event.{Event}
 use Rattle.disco_world.specs.declared.event.Reply.{Reply}
@@ -39,8 +39,8 @@ pub record IsAnswered (settings : Settings) (known old new : Option (List ℕ)) 
   pub replies : List Reply
   pub read : AreRead known events
   pub each : length replies ≡ length events
-  pub answers : AreAnswers (limits settings) events replies
-  pub served : AreServed (limits settings) events replies
+  pub answers : AreAnswers (rules settings) events replies
+  pub served : AreServed (rules settings) events replies
   pub written : Appends old new (answer_lines replies)
 
 -- the words are `replay` and options, and the input is answered with the settings that these name

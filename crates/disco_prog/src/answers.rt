@@ -39,6 +39,7 @@ fn write_answer<W: Write>(reply: &Reply, out: &mut W) -> io::Result<()>
         Reply::Changed(version) => writeln!(out, "ok {version}"),
         Reply::Same => writeln!(out, "same"),
         Reply::Doc(payload) => write_document(payload, out),
+        Reply::Cleaned(base) => writeln!(out, "base {base}"),
         Reply::Refused(fault) => write_refusal(fault, out),
     }
 }

@@ -1,7 +1,7 @@
 //! The event that a line means. `None` stands for a line that can't be read.
 ghost use Rattle.std.specs.Prelude.{◌≡◌, IfOk, IfErr, option_map};
 ghost use Rattle.disco_instance.specs.declared.fault.Fault.TheVariants.{OutOfMemory};
-ghost use Rattle.disco_prog.specs.Lines.{behind_target, cancellation, event_of, metadata_change, override_removal, registration, renewal, status_change, target};
+ghost use Rattle.disco_prog.specs.Lines.{behind_target, cancellation, cleaning, event_of, metadata_change, override_removal, registration, renewal, status_change, target};
 ghost use Rattle.disco_prog.specs.Words.{moment_of_word};
 
 use crate::load::{last_text, load_of};
@@ -21,8 +21,9 @@ use std::alloc::Global;
 /// - `unstatus NOW APP ID`, or `unstatus NOW APP ID STATUS`;
 /// - `metadata NOW APP ID`, or `metadata NOW APP ID QUERY`, where the query is the rest of the line
 ///   as it stands;
-/// - `load FORM QUERY`, where the form is `full` or `compact`, and the query `apps`, `app NAME`,
-///   `vip VIP`, `svip SVIP`, `one APP ID` or `id ID`.
+/// - `clean NOW`;
+/// - `load FORM QUERY`, where the form is `full` or `compact`, and the query `apps`, `delta`,
+///   `app NAME`, `vip VIP`, `svip SVIP`, `one APP ID` or `id ID`.
 ///
 /// Refused only as `OutOfMemory`.
 pub(crate) fn event_of(alloc: Global, line: &[u8]) -> Result<Option<Event>, Fault>
@@ -42,6 +43,7 @@ pub(crate) fn event_of(alloc: Global, line: &[u8]) -> Result<Option<Event>, Faul
         "status" => status_of(alloc, rest),
         "unstatus" => unstatus_of(alloc, rest),
         "metadata" => metadata_of(alloc, rest),
+        "clean" => clean_of(alloc, rest),
         "load" => load_of(alloc, rest),
         _ => Ok(None),
     }
@@ -196,4 +198,17 @@ fn metadata_of(alloc: Global, words: &[u8]) -> Result<Option<Event>, Fault>
         id,
         entries,
     }))
+}
+
+fn clean_of(alloc: Global, words: &[u8]) -> Result<Option<Event>, Fault>
+    ensures value { IfOk result (λ found. found ≡ cleaning words.now) }
+    ensures memory { IfErr result (λ e. e ≡ OutOfMemory) }
+{
+    let (now, None) = split_word(words) else {
+        return Ok(None);
+    };
+    match moment_of_word(alloc, now)? {
+        Some(now) => Ok(Some(Event::Clean { now })),
+        None => Ok(None),
+    }
 }

@@ -1,7 +1,7 @@
 //! What the words behind `load` ask for.
-ghost use Rattle.std.specs.Prelude.{◌≡◌, IfOk, IfErr, option_and_then};
+ghost use Rattle.std.specs.Prelude.{◌≡◌, IfOk, IfErr, None, option_and_then};
 ghost use Rattle.disco_instance.specs.declared.fault.Fault.TheVariants.{OutOfMemory};
-ghost use Rattle.disco_prog.specs.Loads.{form_named, instance_load, last_word, load, load_by, load_named};
+ghost use Rattle.disco_prog.specs.Loads.{form_named, instance_load, last_word, load, load_by, load_named, load_of_kind};
 ghost use Rattle.disco_prog.specs.Words.{text_of_word};
 
 use crate::words::{split_word, text_of_word};
@@ -84,6 +84,17 @@ fn load_named(alloc: Global, form: Form, kind: &str, words: &[u8]) -> Result<Opt
     }
 }
 
+/// What is asked for by a form and a kind of query that nothing stands behind.
+fn whole_load(form: Form, kind: &str) -> Option<Event>
+    ensures { result ≡ load_of_kind form kind.now None }
+{
+    match kind {
+        "apps" => Some(load_by(form, Query::Apps)),
+        "delta" => Some(load_by(form, Query::Delta)),
+        _ => None,
+    }
+}
+
 /// The load that the words behind `load` ask for, `None` where they ask for none.
 pub(crate) fn load_of(alloc: Global, words: &[u8]) -> Result<Option<Event>, Fault>
     ensures value { IfOk result (λ found. found ≡ load words.now) }
@@ -101,7 +112,6 @@ pub(crate) fn load_of(alloc: Global, words: &[u8]) -> Result<Option<Event>, Faul
     };
     match rest {
         Some(rest) => load_named(alloc, form, kind.as_str(), rest),
-        None if kind.as_str() == "apps" => Ok(Some(load_by(form, Query::Apps))),
-        None => Ok(None),
+        None => Ok(whole_load(form, kind.as_str())),
     }
 }

@@ -7,6 +7,7 @@ use std::io::{Read, Write};
 use std::process::Abort;
 use std::test::Fail;
 
+mod deltas;
 mod documents;
 mod operations;
 
@@ -187,7 +188,6 @@ fn names_the_load_that_it_cannot_read(rt: HostRuntime) -> Result<(), Fail> {
             b"load  full apps",
             b"load full apps\r",
             b"load half apps",
-            b"load full delta",
             b"load full app",
             b"load full vip a b",
             b"load full one A",

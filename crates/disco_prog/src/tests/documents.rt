@@ -243,7 +243,9 @@ fn the_least_app_has_the_id(rt: HostRuntime) -> Result<(), Fail> {
 #[test]
 fn the_compact_form_is_not_served_yet(rt: HostRuntime) -> Result<(), Fail> {
     let alloc = rt.alloc();
-    for query in ["apps", "app A", "vip a", "svip a", "one A 1", "id 1"] {
+    for query in [
+        "apps", "delta", "app A", "vip a", "svip a", "one A 1", "id 1",
+    ] {
         let input = format!(in alloc; "load full apps\nload compact {query}\nload compact apps\n")?;
         let outcome = run(alloc, &["replay"], input.as_bytes())?;
         check(&rt, &outcome, 1, b"", b"discovery: fault 23 at line 2\n");
