@@ -9,9 +9,13 @@ from runs import adopt, median_seconds, print_growth
 # How often each run is made. The median counts.
 TIMES = 5
 
-# How many instances an app and a vip have.
+# How many instances an app and a vip have, and how many changed of late.
 OF_APP = 200
 OF_VIP = 20
+RECENT = 20
+
+# When they changed, in milliseconds: long after the registrations.
+LATE = 1_000_000_000
 
 BODY = (
     '{"instance":{"instanceId":"i%06d","hostName":"h%d","app":"APP%06d","ipAddr":"10.0.0.1",'
@@ -29,6 +33,12 @@ def middle(size):
     return size // 2 + OF_VIP // 2
 
 
+def recent_changes():
+    """Forgets the registrations, and then changes the status of some instances."""
+    changed = ["status %d APP%06d i%06d DOWN\n" % (LATE, i // OF_APP, i) for i in range(RECENT)]
+    return ["clean %d\n" % LATE] + changed
+
+
 def app_load(size):
     return "load full app APP%06d\n" % (middle(size) // OF_APP)
 
@@ -41,11 +51,16 @@ def one_load(size):
     return "load full one APP%06d i%06d\n" % (middle(size) // OF_APP, middle(size))
 
 
+def delta_load(size):
+    return "load full delta\n"
+
+
 # Each kind with how many loads stand for one of an app.
 KINDS = (
     ("an app of %d" % OF_APP, app_load, 1),
     ("a vip with %d" % OF_VIP, vip_load, 10),
     ("one instance", one_load, 100),
+    ("a delta of %d" % RECENT, delta_load, 10),
 )
 
 
@@ -54,7 +69,7 @@ def main():
     program, folder, count = sys.argv[1], sys.argv[2], int(sys.argv[3])
     path = os.path.join(folder, "documents.events")
     sizes = [int(word) for word in sys.argv[4:]]
-    starts = {size: [registration(i) for i in range(size)] for size in sizes}
+    starts = {size: [registration(i) for i in range(size)] + recent_changes() for size in sizes}
     alone = {size: median_seconds(program, path, starts[size], TIMES) for size in sizes}
     for name, line_of, times in KINDS:
 
