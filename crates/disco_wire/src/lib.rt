@@ -6,8 +6,6 @@
 mod document;
 pub mod laws;
 mod registration;
-#[cfg(test)]
-mod tests;
 mod tree;
 mod wire;
 

@@ -11,8 +11,6 @@ mod many;
 mod query;
 mod selected;
 mod single;
-#[cfg(test)]
-mod tests;
 mod text;
 
 pub use document::write_full;
