@@ -1,4 +1,2 @@
-mod Feeds
 mod Given
-mod Spelling
 mod Whole

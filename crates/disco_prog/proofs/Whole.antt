@@ -7,8 +7,9 @@ use Rattle.disco_instance.specs.declared.fault.Fault.{Fault}
 use Rattle.disco_instance.specs.declared.fault.Fault.TheVariants.{BadEvent, OutOfMemory}
 use Rattle.disco_world.specs.Answers.{is_compact_load}
 use Rattle.disco_world.specs.declared.event.Event.{Event}
-use Rattle.disco_prog.specs.Replay.{AreRead, IsRunFault}
-use Rattle.disco_prog.specs.Lines.{IsFirstBadLine, is_none, meanings}
+use Rattle.disco_lines.specs.Input.{AreRead}
+use Rattle.disco_lines.specs.Lines.{IsFirstBadLine, is_none, meanings}
+use Rattle.disco_prog.specs.Replay.{IsRunFault}
 
 -- where all lines mean events, none is bad
 no_bad : (events : List Event) → position_or_len is_none (map Some events) ≡ length (map Some events)

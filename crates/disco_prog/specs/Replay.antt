@@ -1,5 +1,5 @@
 -- What `replay` reads and writes.
-use Rattle.std.specs.Prelude.{◌≡◌, ◌⊎◌, ◌+◌, ℕ, List, length, map, Option, Some, IfSome, position}
+use Rattle.std.specs.Prelude.{◌≡◌, ◌⊎◌, ◌+◌, ℕ, List, length, Option, Some, position}
 use Rattle.std.specs.Io.KnownBytes.{Appends}
 use Rattle.clap.specs.Words.{Text}
 use Rattle.disco_instance.specs.declared.fault.Fault.{Fault}
@@ -9,21 +9,9 @@ use Rattle.disco_world.specs.Answers.{AreAnswers, AreServed, is_compact_load}
 use Rattle.disco_world.specs.declared.event.Event.{Event}
 use Rattle.disco_world.specs.declared.event.Reply.{Reply}
 use Rattle.disco_hub.specs.declared.settings.Settings.{Settings}
-use Rattle.disco_prog.specs.Answers.{answer_lines}
-use Rattle.disco_prog.specs.Lines.{IsFirstBadLine, meanings}
+use Rattle.disco_lines.specs.Answers.{answer_lines}
+use Rattle.disco_lines.specs.Input.{AreRead, NamesBadLine}
 use Rattle.disco_prog.specs.Options.{NamedBy}
-
--- the input is all that the reader had, where that is known
-abbrev pub IsAllOf : Option (List ℕ) → List ℕ → Type 0
-IsAllOf known input = IfSome known (λ bytes. input ≡ bytes)
-
--- the events are those of the whole input
-abbrev pub AreRead : Option (List ℕ) → List Event → Type 0
-AreRead known events = (input : List ℕ) × IsAllOf known input × (map Some events ≡ meanings input)
-
--- the fault names the first line of the whole input that means nothing
-abbrev pub NamesBadLine : Option (List ℕ) → Fault → Type 0
-NamesBadLine known fault = (input : List ℕ) × IsAllOf known input × IsFirstBadLine input fault
 
 -- the fault names the first event of the whole input that asks for the compact form, which isn't served yet
 abbrev pub NamesCompactLoad : Option (List ℕ) → Fault → Type 0

@@ -76,7 +76,7 @@ pub(crate) fn refused<W: Write, E: Write>(error: &Error, out: &mut W, errors: &m
 
 /// The status where the words themselves can't be had: 1 for want of memory, 2 where one isn't
 /// text.
-pub(crate) fn without_words<E: Write>(error: &io::Error, errors: &mut E) -> u8
+pub fn without_words<E: Write>(error: &io::Error, errors: &mut E) -> u8
     ensures { result ≡ status_without_words (error_kind error.now) }
 {
     match error.kind() {

@@ -54,7 +54,8 @@ fn no_delta<'a>(alloc: Global) -> Arg<'a>
 fn replay_command<'a>(alloc: Global) -> Result<Command<'a>, AllocError>
     ensures { IfOk result (λ c. app_of c ≡ replay_app) }
 {
-    let versions = "How many versions there are at most [default: 18446744073709551615]";
+    let versions =
+        "How many versions there are at most, 1 to 18446744073709551615 [default: 18446744073709551615]";
     let instances = "How many instances are held at most, 1 to 65536 [default: 65536]";
     let queue = "How many recent changes are kept at most, 1 to 65536 [default: 65536]";
     let entries = "How many documents the cache keeps at most, 1 to 4096 [default: 4096]";
@@ -73,6 +74,7 @@ fn program_command<'a>(alloc: Global) -> Result<Command<'a>, AllocError>
     ensures { IfOk result (λ c. app_of c ≡ program_app) }
 {
     Command::new(alloc, "discovery")
+        .bin_name("discovery")?
         .about("A registry of instances, after Netflix Eureka")
         .no_binary_name(true)
         .subcommand_required(true)
@@ -162,20 +164,20 @@ pub(crate) fn read_words<'a>(alloc: Global, words: &'a [String]) -> Result<Setti
     }
 }
 
-/// The settings that the words behind the command word `replay` name: `--versions N`,
-/// `--instances N`, `--queue N`, `--entries N`, `--retention MS`, `--no-delta`. An option that
-/// isn't given has its default.
+/// The settings that the words behind the program's name are for: `replay`, and then `--versions N`,
+/// `--instances N`, `--queue N`, `--entries N`, `--retention MS`, `--no-delta`. An option that isn't
+/// given has its default.
 ///
 /// An error is the program's exit status: 0 where help was asked for, 1 for want of memory, 2 for
 /// words that are refused.
 pub fn settings_of<'a>(alloc: Global, words: &'a [String]) -> Result<Settings, u8>
-    ensures settings { IfOk result (AreSettingsOf (map string_bytes words.entry.now)) }
-    ensures ok_only_without_fault { OnOk result (faults_of_options
+    ensures settings { IfOk result (NamedBy (map string_bytes words.entry.now)) }
+    ensures ok_only_without_fault { OnOk result (faults_of_words
         (map string_bytes words.entry.now) ≡ []) }
     ensures status { IfErr result (λ status. status ≤ 2) }
-    ensures kind { IfErr result (IsStatusAmong (faults_of_options (map string_bytes words.entry.now))) }
+    ensures kind { IfErr result (IsStatusAmong (faults_of_words (map string_bytes words.entry.now))) }
 {
-    match read_options(alloc, words) {
+    match read_words(alloc, words) {
         Ok(settings) => Ok(settings),
         Err(error) => Err(status_of(&error)),
     }

@@ -12,7 +12,7 @@ third false b true d e = absurd (let bad : false ≡ true = e in cc)
 
 pub returns : goal.returns
 returns c =
-    let bare = ap app_of_fields c.about.ensures ∙ c.new.ensures.app in
+    let bare = ap app_of_fields c.about.ensures ∙ (ap app_of_fields c.in_ok-bin_name.ensures.0 ∙ c.new.ensures.app) in
     let nameless = ap app_of_fields c.no_binary_name.ensures ∙ ap (on_top (λ s. record s { no_binary_name = true })) bare in
     let whole = ap app_of_fields c.subcommand_required.ensures ∙ ap (on_top (λ s. record s { subcommand_required = true })) nameless in
     let local = third _ _ _ _ (ap (λ (a : App). a.top.is_plain) c.in_ok-replay_command.ensures) in

@@ -1,0 +1,106 @@
+//! Answer lines.
+ghost use Rattle.std.specs.Prelude.{◌≡◌, ◌⊎◌, [], IfErr, OnOk};
+ghost use Rattle.disco_instance.specs.declared.fault.Fault.TheVariants.{OutOfMemory, WriteFailed};
+ghost use Rattle.std.specs.Io.KnownBytes.{Appends, append_known};
+ghost use Rattle.disco_lines.specs.Answers.{answer_line, answer_lines, document_line, refusal_line};
+
+use disco_instance::Fault;
+use disco_world::{Payload, Reply};
+use std::alloc::Global;
+use std::io;
+use std::io::{ErrorKind, Write};
+
+fn write_document<W: Write>(payload: &Payload, out: &mut W) -> io::Result<()>
+    ensures { OnOk result (Appends (W.contents out.old) (W.contents out.new) (document_line payload.now)) }
+{
+    let (base, version) = (payload.base, payload.version);
+    write!(out, "doc {base} {version} ")?;
+    out.write_all(payload.text.as_slice())?;
+    out.write_all(b"\n")
+}
+
+fn write_refusal<W: Write>(fault: &Fault, out: &mut W) -> io::Result<()>
+    ensures { OnOk result (Appends (W.contents out.old) (W.contents out.new) (refusal_line fault.now)) }
+{
+    let number = fault.number();
+    match fault {
+        Fault::MissingField(field) => {
+            let name = field.name();
+            writeln!(out, "fault {number} {name}")
+        }
+        _ => writeln!(out, "fault {number}"),
+    }
+}
+
+fn write_answer<W: Write>(reply: &Reply, out: &mut W) -> io::Result<()>
+    ensures { OnOk result (Appends (W.contents out.old) (W.contents out.new) (answer_line reply.now)) }
+{
+    match reply {
+        Reply::Changed(version) => writeln!(out, "ok {version}"),
+        Reply::Same => writeln!(out, "same"),
+        Reply::Doc(payload) => write_document(payload, out),
+        Reply::Cleaned(base) => writeln!(out, "base {base}"),
+        Reply::Refused(fault) => write_refusal(fault, out),
+    }
+}
+
+/// How many bytes are gathered for one write, at least.
+const ENOUGH: usize = 8_192;
+
+/// How many bytes can be gathered without more memory: less than enough, and one short line more.
+const ROOM: usize = 2 * ENOUGH + 64;
+
+/// Writes what is gathered, and takes it out.
+fn write_gathered<W: Write>(gathered: &mut Vec<u8>, out: &mut W) -> io::Result<()>
+    ensures empty { OnOk result (gathered.new.items ≡ []) }
+    ensures written { OnOk result (Appends (W.contents out.old) (W.contents out.new) gathered.old.items) }
+{
+    out.write_all(gathered.as_slice())?;
+    gathered.clear();
+    Ok(())
+}
+
+/// Gathers an answer line, and writes what is gathered where that is enough. A document that is
+/// enough by itself is written as it lies, behind what is gathered.
+fn gather_answer<W: Write>(reply: &Reply, gathered: &mut Vec<u8>, out: &mut W) -> io::Result<()>
+    ensures { OnOk result (Appends (append_known (W.contents out.old) gathered.old.items)
+        (append_known (W.contents out.new) gathered.new.items) (answer_line reply.now)) }
+{
+    if matches!(reply, Reply::Doc(payload) if payload.text.as_slice().len() >= ENOUGH) {
+        write_gathered(gathered, out)?;
+        return write_answer(reply, out);
+    }
+    write_answer(reply, gathered)?;
+    if gathered.len() < ENOUGH {
+        return Ok(());
+    }
+    write_gathered(gathered, out)
+}
+
+fn write_buffered<W: Write>(alloc: Global, replies: &[Reply], out: &mut W) -> io::Result<()>
+    ensures { OnOk result (Appends (W.contents out.old) (W.contents out.new) (answer_lines replies.now)) }
+{
+    let mut gathered = Vec::with_capacity(alloc, ROOM)?;
+    for reply in replies {
+        gather_answer(reply, &mut gathered, out)?;
+    }
+    write_gathered(&mut gathered, out)?;
+    out.flush()
+}
+
+/// Writes one line for each reply, in order. Refused as `WriteFailed` where a write fails, with
+/// some of the lines perhaps written, and as `OutOfMemory`. Memory is asked for at the start.
+pub fn write_answers<W: Write>(
+    alloc: Global,
+    replies: &[Reply],
+    out: &mut W,
+) -> Result<(), Fault>
+    ensures written { OnOk result (Appends (W.contents out.old) (W.contents out.new) (answer_lines replies.now)) }
+    ensures fault { IfErr result (λ e. (e ≡ WriteFailed) ⊎ (e ≡ OutOfMemory)) }
+{
+    match write_buffered(alloc, replies, out) {
+        Ok(()) => Ok(()),
+        Err(error) if error.kind() == ErrorKind::OutOfMemory => Err(Fault::OutOfMemory),
+        Err(_) => Err(Fault::WriteFailed),
+    }
+}

@@ -1,0 +1,13 @@
+//! Event lines and answer lines: [`read_events`] reads the events of an input, one a line, and
+//! [`write_answers`] writes a line for each reply.
+#![tactic(auto)]
+
+mod answers;
+mod line;
+mod lines;
+mod load;
+mod query;
+mod words;
+
+pub use answers::write_answers;
+pub use lines::read_events;

@@ -1,0 +1,65 @@
+//! All lines of the input.
+ghost use Rattle.std.specs.Prelude.{◌≡◌, ◌⊎◌, IfOk, IfErr, OnOk, Some, map};
+ghost use Rattle.std.specs.Io.KnownBytes.{IsAtEnd};
+ghost use Rattle.std.specs.List.{after_first, before_first, position};
+ghost use Rattle.disco_instance.specs.declared.fault.Fault.TheVariants.{OutOfMemory, ReadFailed};
+ghost use Rattle.disco_lines.specs.Lines.{IsFirstBadLine, is_feed, meanings};
+ghost use Rattle.disco_lines.specs.Input.{AreRead, NamesBadLine};
+
+use crate::line::event_of;
+use disco_instance::Fault;
+use disco_world::Event;
+use std::alloc::Global;
+use std::io::{ErrorKind, Read};
+
+fn first_feed(input: &[u8]) -> Option<usize>
+    ensures { result ≡ position is_feed input.now }
+{
+    input.iter().position(|b| *b == b'\n')
+}
+
+fn split_line(input: &[u8]) -> (&[u8], &[u8])
+    ensures line { result.0.now ≡ before_first is_feed input.now }
+    ensures rest { result.1.now ≡ after_first is_feed input.now }
+{
+    match first_feed(input) {
+        Some(at) => (&input[..at], &input[at + 1..]),
+        None => (input, &[]),
+    }
+}
+
+/// The events of an input, in order. A line ends at a line feed, which the last one may lack; every
+/// line is an event. Refused as `BadEvent`, with the number from 1 of the first line that means
+/// none, or as `OutOfMemory`.
+pub(crate) fn events_of(alloc: Global, input: &[u8]) -> Result<Vec<Event>, Fault>
+    ensures events { IfOk result (λ events. map Some events.items ≡ meanings input.now) }
+    ensures fault { IfErr result (λ e. (e ≡ OutOfMemory) ⊎ IsFirstBadLine input.now e) }
+{
+    let mut events = Vec::new(alloc);
+    let mut rest = input;
+    while !rest.is_empty() {
+        let (line, after) = split_line(rest);
+        match event_of(alloc, line)? {
+            Some(event) => events.push(event)?,
+            None => return Err(Fault::BadEvent(events.len() as u64 + 1)),
+        }
+        rest = after;
+    }
+    Ok(events)
+}
+
+/// The events of all that a reader gives, up to its end. Refused as `ReadFailed` where a read
+/// fails, and as [`events_of`] is.
+pub fn read_events<R: Read>(alloc: Global, reader: &mut R) -> Result<Vec<Event>, Fault>
+    ensures events { IfOk result (λ events. AreRead (R.remaining reader.old) events.items) }
+    ensures end { OnOk result (IsAtEnd (R.remaining reader.new)) }
+    ensures fault { IfErr result (λ e. (e ≡ OutOfMemory) ⊎ ((e ≡ ReadFailed)
+        ⊎ NamesBadLine (R.remaining reader.old) e)) }
+{
+    let mut input = Vec::new(alloc);
+    match reader.read_to_end(&mut input) {
+        Ok(_) => events_of(alloc, input.as_slice()),
+        Err(error) if error.kind() == ErrorKind::OutOfMemory => Err(Fault::OutOfMemory),
+        Err(_) => Err(Fault::ReadFailed),
+    }
+}
