@@ -1,0 +1,62 @@
+//! Runs the rows that lie where it runs, and compares every byte with what has to come out.
+//!
+//! Of a row that is as it has to be the name is printed, of another one where it differs first, and
+//! then the exit status is 1. The README beside `src/` says what
+//! the files of a row hold.
+#![tactic(auto)]
+
+mod difference;
+mod files;
+mod meanings;
+mod names;
+mod outcome;
+mod row;
+
+use names::names;
+use std::alloc::Global;
+use std::io;
+use std::process::ExitCode;
+use std::rt::Files;
+
+/// Runs the row of a name, prints how it went, and tells whether it is as it has to be.
+fn is_kept<R: Files + AllocGlobal + Print>(rt: &R, name: &str) -> io::Result<bool> {
+    let row = files::read_row(rt, name)?;
+    let came = row::run(rt.alloc(), &row)?;
+    match difference::first(&row.wanted, &came) {
+        Some(difference) => {
+            difference::write_difference(&mut io::writer(rt), name, &difference)?;
+            Ok(false)
+        }
+        None => {
+            println!(rt; "{name}")?;
+            Ok(true)
+        }
+    }
+}
+
+/// As [`is_kept`]; of a row whose files can't be read it is printed why.
+fn is_kept_or_told<R: Files + AllocGlobal + Print>(rt: &R, name: &str) -> io::Result<bool> {
+    match is_kept(rt, name) {
+        Ok(kept) => Ok(kept),
+        Err(error) => {
+            println!(rt; "{name}: {error}")?;
+            Ok(false)
+        }
+    }
+}
+
+/// Runs all rows, and tells whether each is as it has to be.
+fn are_kept<R: Files + AllocGlobal + Print + Clone + Drop>(rt: &R) -> io::Result<bool> {
+    let mut all = true;
+    for name in &names(rt)? {
+        all = is_kept_or_told(rt, name.as_str())? && all;
+    }
+    Ok(all)
+}
+
+fn main(rt: HostRuntime) -> ExitCode {
+    match are_kept(&rt) {
+        Ok(true) => ExitCode::SUCCESS,
+        _ => ExitCode::FAILURE,
+    }
+}
