@@ -8,8 +8,6 @@ mod copy;
 mod counted;
 mod overlaid;
 mod taken;
-#[cfg(test)]
-mod tests;
 mod vip;
 
 pub use copy::Copy;

@@ -9,8 +9,6 @@ mod change;
 mod held;
 pub mod laws;
 mod list;
-#[cfg(test)]
-mod tests;
 
 pub use change::{Change, last_of};
 pub use held::Held;

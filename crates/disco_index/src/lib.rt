@@ -14,5 +14,3 @@ pub use counts::Counts;
 pub use next_vip::has_vip;
 pub use vips::VipIndex;
 
-#[cfg(test)]
-mod tests;

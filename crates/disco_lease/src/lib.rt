@@ -9,5 +9,3 @@ mod places;
 
 pub use book::LeaseBook;
 
-#[cfg(test)]
-mod tests;

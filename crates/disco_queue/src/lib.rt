@@ -11,5 +11,3 @@ mod queue;
 
 pub use queue::ChangedQueue;
 
-#[cfg(test)]
-mod tests;

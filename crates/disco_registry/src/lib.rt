@@ -7,8 +7,6 @@
 mod op;
 mod registry;
 mod settle;
-#[cfg(test)]
-mod tests;
 
 pub use op::{Applied, Op};
 pub use registry::{Ready, Registry};

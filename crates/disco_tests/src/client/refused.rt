@@ -1,5 +1,5 @@
 //! Documents that a copy doesn't take.
-use crate::tests::{copy_of, keys_are, read};
+use crate::client::{copy_of, keys_are, read};
 use std::test::Fail;
 
 #[test]

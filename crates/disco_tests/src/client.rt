@@ -1,5 +1,5 @@
 //! A copy by the documents that it was given, with answers worked out by hand.
-use crate::{Copy, Overlaid};
+use disco_client::{Copy, Overlaid};
 use disco_instance::Fault;
 use disco_wire::{Wire, read_document};
 use std::alloc::Global;

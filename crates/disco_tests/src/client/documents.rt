@@ -1,6 +1,6 @@
 //! What full documents make of a copy.
-use crate::Copy;
-use crate::tests::{SAMPLE, copy_of, document, keys_are, read};
+use crate::client::{SAMPLE, copy_of, document, keys_are, read};
+use disco_client::Copy;
 use std::test::Fail;
 
 #[test]

@@ -1,6 +1,6 @@
 //! What deltas make of a copy.
-use crate::Copy;
-use crate::tests::{copy_of, hashed, keys_are, overlay};
+use crate::client::{copy_of, hashed, keys_are, overlay};
+use disco_client::Copy;
 use std::test::Fail;
 
 /// A/1 comes, and B/1 has gone.

@@ -1,0 +1,10 @@
+//! Tests of what no contract and no row of files says: streams that fail, more instances than a file
+//! of lines should have, and calls that no event reaches.
+#![tactic(auto)]
+
+#[cfg(test)]
+mod calls;
+#[cfg(test)]
+mod client;
+#[cfg(test)]
+mod program;
