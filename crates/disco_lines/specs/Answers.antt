@@ -2,9 +2,11 @@
 use Rattle.std.specs.Prelude.{ℕ, List, ◌++◌, codes, decimal}
 use Rattle.std.specs.List.{flat_map}
 use Rattle.std.specs.Arc.{arc_value}
+use Rattle.std.specs.declared.io.ErrorKind.{ErrorKind}
+use Rattle.std.specs.declared.io.ErrorKind.TheVariants as io
 use Rattle.disco_instance.specs.Fault.{fault_number, field_name}
 use Rattle.disco_instance.specs.declared.fault.Fault.{Fault}
-use Rattle.disco_instance.specs.declared.fault.Fault.TheVariants.{MissingField}
+use Rattle.disco_instance.specs.declared.fault.Fault.TheVariants.{MissingField, OutOfMemory, WriteFailed}
 use Rattle.disco_cache.specs.declared.payload.Payload.{Payload}
 use Rattle.disco_world.specs.declared.event.Reply.{Reply}
 use Rattle.disco_world.specs.declared.event.Reply.TheVariants.{Changed, Same, Doc, Cleaned, Refused}
@@ -28,3 +30,8 @@ answer_line (Refused fault) = refusal_line fault
 -- the answer lines of replies, one behind another
 abbrev pub answer_lines : List Reply → List ℕ
 answer_lines replies = flat_map answer_line replies
+
+-- what a write that fails is refused as
+abbrev pub write_fault : ErrorKind → Fault
+write_fault io.OutOfMemory = OutOfMemory
+write_fault _ = WriteFailed

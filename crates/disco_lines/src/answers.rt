@@ -2,7 +2,8 @@
 ghost use Rattle.std.specs.Prelude.{◌≡◌, ◌⊎◌, [], IfErr, OnOk};
 ghost use Rattle.disco_instance.specs.declared.fault.Fault.TheVariants.{OutOfMemory, WriteFailed};
 ghost use Rattle.std.specs.Io.KnownBytes.{Appends, append_known};
-ghost use Rattle.disco_lines.specs.Answers.{answer_line, answer_lines, document_line, refusal_line};
+ghost use Rattle.std.specs.IoError.{error_kind};
+ghost use Rattle.disco_lines.specs.Answers.{answer_line, answer_lines, document_line, refusal_line, write_fault};
 
 use disco_instance::Fault;
 use disco_world::{Payload, Reply};
@@ -88,19 +89,24 @@ fn write_buffered<W: Write>(alloc: Global, replies: &[Reply], out: &mut W) -> io
     out.flush()
 }
 
+/// What a write that fails is refused as.
+fn write_fault(error: &io::Error) -> Fault
+    ensures { result ≡ write_fault (error_kind error.now) }
+{
+    match error.kind() {
+        ErrorKind::OutOfMemory => Fault::OutOfMemory,
+        _ => Fault::WriteFailed,
+    }
+}
+
 /// Writes one line for each reply, in order. Refused as `WriteFailed` where a write fails, with
 /// some of the lines perhaps written, and as `OutOfMemory`. Memory is asked for at the start.
-pub fn write_answers<W: Write>(
-    alloc: Global,
-    replies: &[Reply],
-    out: &mut W,
-) -> Result<(), Fault>
+pub fn write_answers<W: Write>(alloc: Global, replies: &[Reply], out: &mut W) -> Result<(), Fault>
     ensures written { OnOk result (Appends (W.contents out.old) (W.contents out.new) (answer_lines replies.now)) }
     ensures fault { IfErr result (λ e. (e ≡ WriteFailed) ⊎ (e ≡ OutOfMemory)) }
 {
     match write_buffered(alloc, replies, out) {
         Ok(()) => Ok(()),
-        Err(error) if error.kind() == ErrorKind::OutOfMemory => Err(Fault::OutOfMemory),
-        Err(_) => Err(Fault::WriteFailed),
+        Err(error) => Err(write_fault(&error)),
     }
 }

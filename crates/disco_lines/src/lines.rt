@@ -1,15 +1,17 @@
 //! All lines of the input.
 ghost use Rattle.std.specs.Prelude.{◌≡◌, ◌⊎◌, IfOk, IfErr, OnOk, Some, map};
 ghost use Rattle.std.specs.Io.KnownBytes.{IsAtEnd};
+ghost use Rattle.std.specs.IoError.{error_kind};
 ghost use Rattle.std.specs.List.{after_first, before_first, position};
 ghost use Rattle.disco_instance.specs.declared.fault.Fault.TheVariants.{OutOfMemory, ReadFailed};
 ghost use Rattle.disco_lines.specs.Lines.{IsFirstBadLine, is_feed, meanings};
-ghost use Rattle.disco_lines.specs.Input.{AreRead, NamesBadLine};
+ghost use Rattle.disco_lines.specs.Input.{AreRead, NamesBadLine, read_fault};
 
 use crate::line::event_of;
 use disco_instance::Fault;
 use disco_world::Event;
 use std::alloc::Global;
+use std::io;
 use std::io::{ErrorKind, Read};
 
 fn first_feed(input: &[u8]) -> Option<usize>
@@ -48,6 +50,16 @@ pub(crate) fn events_of(alloc: Global, input: &[u8]) -> Result<Vec<Event>, Fault
     Ok(events)
 }
 
+/// What a read that fails is refused as.
+fn read_fault(error: &io::Error) -> Fault
+    ensures { result ≡ read_fault (error_kind error.now) }
+{
+    match error.kind() {
+        ErrorKind::OutOfMemory => Fault::OutOfMemory,
+        _ => Fault::ReadFailed,
+    }
+}
+
 /// The events of all that a reader gives, up to its end. Refused as `ReadFailed` where a read
 /// fails, and as [`events_of`] is.
 pub fn read_events<R: Read>(alloc: Global, reader: &mut R) -> Result<Vec<Event>, Fault>
@@ -59,7 +71,6 @@ pub fn read_events<R: Read>(alloc: Global, reader: &mut R) -> Result<Vec<Event>,
     let mut input = Vec::new(alloc);
     match reader.read_to_end(&mut input) {
         Ok(_) => events_of(alloc, input.as_slice()),
-        Err(error) if error.kind() == ErrorKind::OutOfMemory => Err(Fault::OutOfMemory),
-        Err(_) => Err(Fault::ReadFailed),
+        Err(error) => Err(read_fault(&error)),
     }
 }
