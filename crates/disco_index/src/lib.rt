@@ -13,4 +13,3 @@ mod vips;
 pub use counts::Counts;
 pub use next_vip::has_vip;
 pub use vips::VipIndex;
-

@@ -8,4 +8,3 @@ mod lease;
 mod places;
 
 pub use book::LeaseBook;
-

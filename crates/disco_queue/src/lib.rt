@@ -10,4 +10,3 @@ pub mod laws;
 mod queue;
 
 pub use queue::ChangedQueue;
-
