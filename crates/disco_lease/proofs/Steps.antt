@@ -60,3 +60,25 @@ pub place-out : (m n : Places) (k : Key) → n ≡ remove m k → (q : Key) → 
 place-out m n k e q apart h =
     let now : get n q ≡ get m q = ap (λ p. get p q) e ∙ get-remove keys_total m k q ∙ ap (λ b. cond b None (get m q)) apart in
     subst (λ (o : Option (Option Lease)). IsSome o) (sym now) h
+
+pub others-put : (m n : Places) (k : Key) (v : Option Lease) → n ≡ insert m k v → (q : Key) → same_key q k ≡ false → get n q ≡ get m q
+others-put m n k v e q apart = ap (λ p. get p q) e ∙ get-insert keys_total m k v q ∙ ap (λ b. cond b (Some v) (get m q)) apart
+
+pub others-out : (m n : Places) (k : Key) → n ≡ remove m k → (q : Key) → same_key q k ≡ false → get n q ≡ get m q
+others-out m n k e q apart = ap (λ p. get p q) e ∙ get-remove keys_total m k q ∙ ap (λ b. cond b None (get m q)) apart
+
+-- a place that is taken out is none
+pub none-out : (m n : Places) (k : Key) → n ≡ remove m k → get n k ≡ None
+none-out m n k e = ap (λ p. get p k) e ∙ get-remove keys_total m k k ∙ ap (λ b. cond b None (get m k)) (itself k)
+
+pub no-place : (o : Option (Option Lease)) → o ≡ None → IsSome o → ⊥
+no-place None is some = absurd (cc)
+no-place (Some v) is some = absurd (cc)
+
+-- an empty place that is taken out shows nothing
+pub lease-close : (m n : Places) (k : Key) → option_flatten (get m k) ≡ None → n ≡ remove m k → (q : Key) → option_flatten (get n q) ≡ option_flatten (get m q)
+lease-close m n k none e q = lease-out m n k e q ∙ one (same_key q k) refl
+  where
+    one : (b : Bool) → same_key q k ≡ b → cond b None (option_flatten (get m q)) ≡ option_flatten (get m q)
+    one true same = sym (ap (λ x. option_flatten (get m x)) (same_is q k same) ∙ none)
+    one false same = refl

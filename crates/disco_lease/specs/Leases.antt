@@ -50,6 +50,14 @@ KeepsPlaces old new = (q : Key) → HasPlace old q → HasPlace new q
 abbrev pub KeepsOtherPlaces : Key → Leases → Leases → Type 0
 KeepsOtherPlaces k old new = (q : Key) → same_key q k ≡ false → HasPlace old q → HasPlace new q
 
+-- each place but that of the key is as it was
+abbrev pub KeepsOthers : Key → Leases → Leases → Type 0
+KeepsOthers k old new = (q : Key) → same_key q k ≡ false → get new.places q ≡ get old.places q
+
+-- the key's place, if it has one, doesn't stand empty
+abbrev pub IsFilled : Key → Leases → Type 0
+IsFilled k v = HasPlace v k → IsSome (lease_at v k)
+
 -- the key has that lease, or none, and each other key what it had
 abbrev pub Sets : Key → Option Lease → Leases → Leases → Type 0
 Sets k l old new = (q : Key) → lease_at new q ≡ (if same_key q k then l else lease_at old q)

@@ -1,7 +1,7 @@
 //! The leases of all instances.
 ghost use Rattle.std.specs.Prelude.{◌≡◌, ◌↔◌, IfErr, None, OnErr, OnOk, Some, Err, option_map};
 ghost use Rattle.disco_instance.specs.declared.fault.Fault.TheVariants.{NotFound, OutOfMemory};
-ghost use Rattle.disco_lease.specs.Leases.{HasPlace, IsSame, KeepsOtherPlaces, KeepsPlaces, Sets, counted, extended, lease_at, marked, no_leases};
+ghost use Rattle.disco_lease.specs.Leases.{HasPlace, IsFilled, IsSame, KeepsOtherPlaces, KeepsOthers, KeepsPlaces, Sets, counted, extended, lease_at, marked, no_leases};
 
 use crate::lease::Lease;
 use crate::places::Places;
@@ -39,11 +39,12 @@ impl LeaseBook {
     }
 
     /// Makes a place for a key, so that its lease can be registered. No answer shows a place
-    /// without a lease. Refused only as `OutOfMemory`.
+    /// without a lease, and `sweep` gives it back. Refused only as `OutOfMemory`.
     pub fn ready(&mut self, key: &Key) -> Result<(), Fault>
         ensures same { IsSame self.old self.new }
         ensures place { OnOk result (HasPlace self.new key.now) }
         ensures places { KeepsPlaces self.old self.new }
+        ensures others { KeepsOthers key.now self.old self.new }
         ensures memory { IfErr result (λ e. e ≡ OutOfMemory) }
     {
         if !self.places.has(key) {
@@ -105,6 +106,7 @@ impl LeaseBook {
         ensures err { OnErr result (self.new ≡ self.old) }
 
         ensures leases { OnOk result (Sets key.now None self.old self.new) }
+        ensures gone { OnOk result (HasPlace self.new key.now → ⊥) }
         ensures places { KeepsOtherPlaces key.now self.old self.new }
         ensures renewals { self.new.renewals ≡ self.old.renewals }
     {
@@ -113,5 +115,17 @@ impl LeaseBook {
         }
         self.places.close(key);
         Ok(())
+    }
+
+    /// Gives back the place of a key where it has no lease. Takes no memory.
+    pub fn sweep(&mut self, key: &Key)
+        ensures same { IsSame self.old self.new }
+        ensures swept { IsFilled key.now self.new }
+        ensures others { KeepsOthers key.now self.old self.new }
+    {
+        if self.places.lease(key).is_some() {
+            return;
+        }
+        self.places.close(key);
     }
 }

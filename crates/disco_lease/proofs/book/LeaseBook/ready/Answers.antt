@@ -1,7 +1,7 @@
 use Rattle.std.proofs.Common.{None, refl, sym, ap, ◌∙◌}
 use Rattle.std.specs.FinMap.{insert}
 use Rattle.disco_instance.specs.declared.key.Key.{Key}
-use Rattle.disco_lease.proofs.Steps.{lease-open, place-open, place-put}
+use Rattle.disco_lease.proofs.Steps.{lease-open, others-put, place-open, place-put}
 use Rattle.disco_lease.proofs.book.LeaseBook.ready.Goals as goal
 
 pub returns-in_ok-open-clause-same : goal.returns-in_ok-open-clause-same
@@ -23,3 +23,9 @@ returns-in_ok-open-clause-places c =
     let m = c.self.inside.places in
     rw (← c.self.view_is)
     (place-put m c.open.new.self c.args.key.now None (c.in_ok-open.ensures.ok ∙ ap (λ (k : Key). insert m k None) c.in_ok-clone.ensures.cases))
+
+pub returns-in_ok-open-clause-others : goal.returns-in_ok-open-clause-others
+returns-in_ok-open-clause-others c =
+    let m = c.self.inside.places in
+    rw (← c.self.view_is)
+    (others-put m c.open.new.self c.args.key.now None (c.in_ok-open.ensures.ok ∙ ap (λ (k : Key). insert m k None) c.in_ok-clone.ensures.cases))
