@@ -62,6 +62,36 @@ opened_stays : (b : Bool) (o : Option Bool) → IsSome o → IsSome (cond b (ope
 opened_stays true o h = refl
 opened_stays false o h = h
 
+-- each place but those of the key under these vips is as it was
+abbrev pub OthersOf : List (List ℕ) → Key → VipKeys → VipKeys → Type 0
+OthersOf vs k old new = (q : List ℕ) (p : Key) → (list_any (bytes_eq q) vs && same_key p k) ≡ false → place_at new q p ≡ place_at old q p
+
+-- each of these vips is one of those
+abbrev pub IsAmong : List (List ℕ) → List (List ℕ) → Type 0
+IsAmong vs all = (q : List ℕ) → list_any (bytes_eq q) vs ≡ true → list_any (bytes_eq q) all ≡ true
+
+among_step : (a b : Bool) → b ≡ true → (a || b) ≡ true
+among_step true b is = refl
+among_step false b is = is
+
+pub among-rest : (all : List (List ℕ)) (vip : List ℕ) (before rest : List (List ℕ)) → before ≡ vip ∷ rest → IsAmong before all → IsAmong rest all
+among-rest all vip before rest is among = λ q there. among q (ap (list_any (bytes_eq q)) is ∙ among_step (bytes_eq q vip) (list_any (bytes_eq q) rest) there)
+
+one_among : (a b c : Bool) → ((a || false) ≡ true → b ≡ true) → (b && c) ≡ false → ((a || false) && c) ≡ false
+one_among true true c among apart = apart
+one_among true false c among apart = absurd (let bad = among refl in cc)
+one_among false b c among apart = refl
+
+first_among : (a b : Bool) → (a || false) ≡ true → (a || b) ≡ true
+first_among true b is = refl
+first_among false b is = absurd (cc)
+
+-- one more vip of these is opened
+pub others-step : (all : List (List ℕ)) (k : Key) (old : VipKeys) (vip : List ℕ) (before rest : List (List ℕ)) (here next : VipKeys) → before ≡ vip ∷ rest → IsAmong before all → Alters opened (vip ∷ []) k here next → OthersOf all k old here → OthersOf all k old next
+others-step all k old vip before rest here next is among one others = λ q p apart.
+    let there = one_among (bytes_eq q vip) (list_any (bytes_eq q) all) (same_key p k) (λ h. among q (ap (list_any (bytes_eq q)) is ∙ first_among (bytes_eq q vip) (list_any (bytes_eq q) rest) h)) apart in
+    one q p ∙ ap (λ b. cond b (opened (place_at here q p)) (place_at here q p)) there ∙ others q p apart
+
 module _ (vs : List (List ℕ)) (k : Key) (old new : VipKeys) where
   -- shows nothing
   pub opens_same : Alters opened vs k old new → IsSame old new

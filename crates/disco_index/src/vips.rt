@@ -59,7 +59,7 @@ impl VipIndex {
     pub fn ready(&mut self, rec: &Record) -> Result<(), Fault>
         ensures same { IsSame self.old self.new }
         ensures ready { OnOk result (HasPlaces self.new (row rec.now)) }
-        ensures others { OnOk result (KeepsOthers (row rec.now) self.old self.new) }
+        ensures others { KeepsOthers (row rec.now) self.old self.new }
         ensures places { KeepsPlaces self.old self.new }
         ensures memory { IfErr result (λ e. e ≡ OutOfMemory) }
     {
