@@ -1,3 +1,5 @@
+mod Asks
 mod Ids
 mod Loads
+mod Marks
 mod Ties

@@ -1,5 +1,5 @@
 -- What keeps the counts and the leases tied to the registry.
-use Rattle.std.proofs.Common.{◌≡◌, ℕ, ◌+◌, ◌-◌, ◌≤◌, Bool, true, false, cond, List, [], length, Option, Some, None, option_map, Result, Ok, Err, IfErr, IfSome, OnOk, OnErr, refl, sym, ap, subst, ◌∙◌, arith}
+use Rattle.std.proofs.Common.{◌≡◌, ℕ, ◌+◌, ◌-◌, ◌≤◌, Bool, true, false, cond, List, [], length, Option, Some, None, option_map, Result, Ok, Err, IfErr, IfSome, OnErr, refl, sym, ap, subst, ◌∙◌, arith}
 use Rattle.std.specs.FinMap.{FinMap, contains_key, empty, get, get-empty, get-insert, get-remove, insert, len, len-empty, len-insert, len-remove, remove}
 use Rattle.std.specs.Option.{option_flatten}
 use Rattle.disco_instance.specs.Key.{key_cmp, same_key}
@@ -26,7 +26,9 @@ use Rattle.disco_registry.specs.State.{State, StandsFor, IsSame}
 use Rattle.disco_instance.specs.declared.action.Action.{Action}
 use Rattle.disco_instance.specs.declared.action.Action.TheVariants.{Added, Modified, Deleted}
 use Rattle.disco_hub.specs.State as hub
+use Rattle.disco_hub.specs.Moves.{Moves, lease_by}
 use Rattle.disco_hub.specs.State.{AddsAny, HasVipPlaces}
+use Rattle.disco_hub.specs.declared.leases.Step.{Step}
 use Rattle.disco_hub.specs.Tied.{AreLeased, IsTied}
 
 abbrev lasts : Option Lease → Option ℕ
@@ -66,33 +68,29 @@ moved k now old new sets q = ap lasts (sets q) ∙ one (same_key q k) refl
     one true same = lasts_extended now (lease_at old k) ∙ ap (λ x. lasts (lease_at old x)) (sym (same_is q k same))
     one false same = refl
 
--- a lease that moves, or is missing, lasts as long
-pub kept : {A : Type 0} (r : Result A Fault) (k : Key) (now : ℕ) (old new : Leases) → OnOk r (Sets k (option_map (extended now) (lease_at old k)) old new) → OnErr r (new ≡ old)
-    → (m : FinMap key_cmp Entry) → AreLeased m old → AreLeased m new
-kept (Ok x) k now old new sets same m leased = λ q. moved k now old new sets q ∙ leased q
-kept (Err e) k now old new sets same m leased = λ q. ap (λ v. lasts (lease_at v q)) same ∙ leased q
-
-pub started : (k : Key) (secs now : ℕ) (old new : Leases) (e : Entry) → secs ≡ e.0.lease.duration_secs → Sets k (Some (marked secs now)) old new → (m : FinMap key_cmp Entry) → AreLeased m old → AreLeased (insert m k e) new
-started k secs now old new e same sets m leased = λ q.
-    ap lasts (sets q) ∙ one q (same_key q k) ∙ sym (ap entry_lasts (get-insert keys_total m k e q))
+leased_put : (r : Row) (a : Action) (o : Option Lease) (old new : Leases) → lasts o ≡ Some r.lease.duration_secs → Sets r.key o old new → (m : FinMap key_cmp Entry) → AreLeased m old → AreLeased (insert m r.key (r, a)) new
+leased_put r a o old new same sets m leased = λ q. ap lasts (sets q) ∙ one q (same_key q r.key) ∙ sym (ap entry_lasts (get-insert keys_total m r.key (r, a) q))
   where
-    one : (q : Key) (b : Bool) → lasts (cond b (Some (marked secs now)) (lease_at old q)) ≡ entry_lasts (cond b (Some e) (get m q))
-    one q true = ap (λ n. Some n) same
+    one : (q : Key) (b : Bool) → lasts (cond b o (lease_at old q)) ≡ entry_lasts (cond b (Some (r, a)) (get m q))
+    one q true = same
     one q false = leased q
 
-gone_at : (k : Key) (old : Leases) (m : FinMap key_cmp Entry) → AreLeased m old → lasts (lease_at old k) ≡ None → (q : Key) (b : Bool) → same_key q k ≡ b → lasts (lease_at old q) ≡ entry_lasts (cond b None (get m q))
-gone_at k old m leased none q true same = ap (λ x. lasts (lease_at old x)) (same_is q k same) ∙ none
-gone_at k old m leased none q false same = leased q
-
--- a lease that ends, or is missing, is gone
-pub ended : {A : Type 0} (r : Result A Fault) (k : Key) (old new : Leases) → OnOk r (Sets k None old new) → OnErr r (new ≡ old) → OnErr r (lease_at old k ≡ None) → (m : FinMap key_cmp Entry) → AreLeased m old → AreLeased (remove m k) new
-ended (Ok x) k old new sets same none m leased = λ q. ap lasts (sets q) ∙ one q (same_key q k) ∙ sym (ap entry_lasts (get-remove keys_total m k q))
+leased_out : (k : Key) (old new : Leases) → Sets k None old new → (m : FinMap key_cmp Entry) → AreLeased m old → AreLeased (remove m k) new
+leased_out k old new sets m leased = λ q. ap lasts (sets q) ∙ one q (same_key q k) ∙ sym (ap entry_lasts (get-remove keys_total m k q))
   where
     one : (q : Key) (b : Bool) → lasts (cond b None (lease_at old q)) ≡ entry_lasts (cond b None (get m q))
     one q true = refl
     one q false = leased q
-ended (Err e) k old new sets same none m leased = λ q.
-    ap (λ v. lasts (lease_at v q)) same ∙ gone_at k old m leased (ap lasts none) q (same_key q k) refl ∙ sym (ap entry_lasts (get-remove keys_total m k q))
+
+leased_by_change : (r : Row) (a : Action) (now : ℕ) (old new : Leases) → Sets r.key (lease_by (r, a) now) old new → (m : FinMap key_cmp Entry) → AreLeased m old → AreLeased (held_after m (Some (r, a))) new
+leased_by_change r Added now old new sets m leased = leased_put r Added (Some (marked r.lease.duration_secs now)) old new refl sets m leased
+leased_by_change r Modified now old new sets m leased = leased_put r Modified (Some (extended now (marked r.lease.duration_secs now))) old new refl sets m leased
+leased_by_change r Deleted now old new sets m leased = leased_out r.key old new sets m leased
+
+-- leases that follow what is ready last as long as the records say
+pub leased_by : (c : Option Entry) (k : Key) (step : Step) (now : ℕ) (old new : Leases) → Moves c k step now old new → (m : FinMap key_cmp Entry) → AreLeased m old → AreLeased (held_after m c) new
+leased_by None k step now old new moves m leased = λ q. moved k now old new moves.leases q ∙ leased q
+leased_by (Some c) k step now old new moves m leased = leased_by_change c.0 c.1 now old new moves.leases m leased
 
 -- ---- numbers
 

@@ -1,3 +1,4 @@
+pub mod Moves
 pub mod Past
 pub mod Refusals
 pub mod State

@@ -1,19 +1,22 @@
 -- What a hub is, and what its commits need.
-use Rattle.std.specs.Prelude.{◌≡◌, ℕ, Bool, Option, Some, None, option_map, refl}
+use Rattle.std.specs.Prelude.{◌≡◌, ℕ, Bool, Option, Some, None, Ok, option_map, refl}
 use Rattle.std.specs.Coded.{Coded, code_by, coded×, coded_ℕ, coded_bool}
 use Rattle.std.specs.FinMap.{FinMap, get}
 use Rattle.disco_instance.specs.Key.{key_cmp}
+use Rattle.disco_instance.specs.declared.key.Key.{Key}
 use Rattle.disco_history.specs.Change.{Entry, key_of, seen}
-use Rattle.disco_history.specs.Registry.{put_of}
+use Rattle.disco_history.specs.Registry.{put_of, reg}
 use Rattle.disco_index.specs.Vips as vips
 use Rattle.disco_index.specs.Vips.{Adds, HasNoneEmpty, HasPlaces, VipKeys, coded_vip_keys}
 use Rattle.disco_lease.specs.Leases as leases
-use Rattle.disco_lease.specs.Leases.{HasPlace, Leases, coded_leases}
+use Rattle.disco_lease.specs.Leases.{HasPlace, IsFilled, Leases, coded_leases, lease_at}
 use Rattle.disco_queue.specs.Queue as queue
 use Rattle.disco_queue.specs.Queue.{HasRoom, Keeps, Queue, coded_queue}
 use Rattle.disco_registry.specs.Commit as commit
 use Rattle.disco_registry.specs.State as registry
-use Rattle.disco_registry.specs.Accept.{Limits, limits_of}
+use Rattle.disco_registry.specs.Accept.{Limits, accepts, limits_of}
+use Rattle.disco_registry.specs.Op.{Ask, asked_key}
+use Rattle.disco_hub.specs.Moves.{step_for}
 use Rattle.disco_hub.specs.Past.{Past, history}
 use Rattle.disco_hub.specs.declared.hub.Ready.{Ready}
 use Rattle.disco_hub.specs.declared.settings.Settings.{Settings}
@@ -54,10 +57,17 @@ pub record Remembers (q : Queue) (p : Past) : Type 0 where
   pub kept : Keeps q p.timed
   pub base : q.base ≡ p.base
 
--- it holds what is left of what happened, and keeps what is recent
+-- exactly the held instances have leases, each of its record's duration and with its mark, and each renewal was counted
+pub record AreLeasesOf (v : Leases) (p : Past) : Type 0 where
+  pub durations : (k : Key) → option_map (λ l. l.duration_secs) (lease_at v k) ≡ option_map (λ r. r.lease.duration_secs) (get (reg (history p)) k)
+  pub marks : (k : Key) → option_map (λ l. l.mark) (lease_at v k) ≡ get p.marks k
+  pub renewals : v.renewals ≡ p.renewals
+
+-- it holds what is left of what happened, keeps what is recent, and has the leases
 pub record StandsFor (s : State) (p : Past) : Type 0 where
   pub registry : registry.StandsFor s.registry (history p)
   pub queue : Remembers s.queue p
+  pub leases : AreLeasesOf s.leases p
 
 -- the same but for places and room, which no answer shows
 pub record IsSame (old new : State) : Type 0 where
@@ -93,10 +103,14 @@ abbrev pub HasRoomFor : Queue → Option Entry → Type 0
 HasRoomFor q None = Unit {0}
 HasRoomFor q (Some c) = HasRoom q
 
--- no place of what a change found stands empty after it, if there is one
-abbrev pub IsSweptAfter : FinMap key_cmp Entry → Option Entry → VipKeys → Type 0
-IsSweptAfter held None v = Unit {0}
-IsSweptAfter held (Some c) v = IsSwept v (get held (key_of c))
+-- no place of what a change found, and none of its key's lease, stands empty after it, if there is one
+abbrev pub IsSweptAfter : FinMap key_cmp Entry → Option Entry → VipKeys → Leases → Type 0
+IsSweptAfter held None v l = Unit {0}
+IsSweptAfter held (Some c) v l = IsSwept v (get held (key_of c)) × IsFilled (key_of c) l
+
+-- there is no place of a vip or a lease that was not there
+abbrev pub AddsNoPlaces : VipKeys → Leases → VipKeys → Leases → Type 0
+AddsNoPlaces v l w m = vips.KeepsPlaces w v × leases.KeepsPlaces m l
 
 -- the change that is ready, if there is one
 abbrev pub change_in : Ready → Option Entry
@@ -109,3 +123,9 @@ moment_in r = r.moment
 -- the hub can commit it without memory
 abbrev pub IsReady : State → Ready → Type 0
 IsReady s r = commit.IsReady s.registry r.ready × HasPlacesFor s.vips s.leases (change_in r) × HasRoomFor s.queue (change_in r) × (option_map seen r.kept ≡ change_in r)
+
+-- what is ready is what was asked of the hub, which accepts it
+pub record IsFor (s : State) (r : Ready) (ask : Ask) : Type 0 where
+  pub accepted : accepts s.registry ask (moment_in r) ≡ Ok (change_in r)
+  pub key : r.key ≡ asked_key ask
+  pub step : r.step ≡ step_for ask

@@ -1,24 +1,25 @@
 //! The hub: the registry and all that follows its changes.
-ghost use Rattle.std.specs.Prelude.{◌≡◌, ◌≢◌, ◌≤◌, List, IfErr, IfOk, OnOk, Ok, Some, None, true, false, option_map};
+ghost use Rattle.std.specs.Prelude.{◌≡◌, ◌≢◌, ◌≤◌, List, IfErr, IfOk, OnErr, OnOk, Ok, Some, None, true, false, option_map};
 ghost use Rattle.std.specs.FinMap.{len};
 ghost use Rattle.disco_instance.specs.declared.fault.Fault.TheVariants.{OutOfMemory};
 ghost use Rattle.disco_instance.specs.declared.form.Form.TheVariants.{Full};
-ghost use Rattle.disco_history.specs.Change.{Entry, seen};
+ghost use Rattle.disco_history.specs.Change.{Entry, key_of, seen};
+ghost use Rattle.disco_history.specs.Registry.{put_of};
 ghost use Rattle.disco_index.specs.Tally.{tally_in};
 ghost use Rattle.disco_index.specs.Vips as vip;
 ghost use Rattle.disco_lease.specs.Leases as lease;
 ghost use Rattle.disco_queue.specs.Queue as recent;
 ghost use Rattle.disco_registry.specs.Accept.{Refuses, accepts};
 ghost use Rattle.disco_registry.specs.Commit as commit;
-ghost use Rattle.disco_registry.specs.Commit.{Takes, done_by, held_after, outcome};
-ghost use Rattle.disco_registry.specs.Op.{ask_of};
+ghost use Rattle.disco_registry.specs.Commit.{Takes, done_by, held_after};
+ghost use Rattle.disco_registry.specs.Op.{Ask, ask_of};
 ghost use Rattle.disco_registry.specs.State as registry;
 ghost use Rattle.disco_writer.specs.Documents.{IsDeltaWritten, IsWritten, asked_by, is_delta};
 ghost use Rattle.disco_cache.specs.Payloads.{IsTrue};
-ghost use Rattle.disco_hub.specs.Past.{Past, cleaned, history, nothing, with_change};
+ghost use Rattle.disco_hub.specs.Past.{Past, cleaned, history, nothing, with_done};
 ghost use Rattle.disco_hub.specs.Refusals.{doc_of_id, doc_of_key, refusal_of, refusal_of_id};
-ghost use Rattle.disco_hub.specs.State.{HasPlacesFor, HasRoomFor, IsReady, IsSame, IsSweptAfter, StandsFor, change_in, moment_in, rules, rules_of};
-ghost use Rattle.disco_hub.specs.Tied.{AreLeased};
+ghost use Rattle.disco_hub.specs.Moves.{Moves, OthersStay};
+ghost use Rattle.disco_hub.specs.State.{AddsNoPlaces, HasPlacesFor, HasRoomFor, IsFor, IsReady, IsSame, IsSwept, IsSweptAfter, StandsFor, change_in, moment_in, rules, rules_of};
 
 use crate::counts::count;
 use crate::leases::{Step, keep, step_of};
@@ -78,7 +79,42 @@ pub struct Ready {
     moment: u64,
 }
 
-/// Makes the places that a change needs, if there is one. Refused only as `OutOfMemory`.
+/// Makes the places that a change needs. Refused only as `OutOfMemory`, with places half made.
+fn open_all(
+    index: &mut VipIndex,
+    book: &mut LeaseBook,
+    queue: &mut ChangedQueue,
+    change: &Change,
+) -> Result<(), Fault>
+    ensures vips { vip.IsSame index.old index.new }
+    ensures other_vips { OthersStay (put_of (seen change.now)) index.old index.new }
+    ensures leases { lease.IsSame book.old book.new }
+    ensures other_leases { lease.KeepsOthers (key_of (seen change.now)) book.old book.new }
+    ensures queue { recent.IsSame queue.old queue.new }
+    ensures places { OnOk result (HasPlacesFor index.new book.new (Some (seen change.now))) }
+    ensures room { OnOk result (HasRoomFor queue.new (Some (seen change.now))) }
+    ensures memory { IfErr result (λ e. e ≡ OutOfMemory) }
+{
+    vips::open(index, change)?;
+    book.ready(change.key())?;
+    queue.ready()
+}
+
+/// Gives back the places of a change that stand empty.
+fn sweep_all(index: &mut VipIndex, book: &mut LeaseBook, change: &Change)
+    ensures vips { vip.IsSame index.old index.new }
+    ensures other_vips { OthersStay (put_of (seen change.now)) index.old index.new }
+    ensures swept_vips { IsSwept index.new (put_of (seen change.now)) }
+    ensures leases { lease.IsSame book.old book.new }
+    ensures other_leases { lease.KeepsOthers (key_of (seen change.now)) book.old book.new }
+    ensures swept_leases { lease.IsFilled (key_of (seen change.now)) book.new }
+{
+    vips::close(index, change);
+    book.sweep(change.key());
+}
+
+/// Makes the places that a change needs, if there is one. Refused only as `OutOfMemory`, and then
+/// gives back what was made.
 fn open_places(
     index: &mut VipIndex,
     book: &mut LeaseBook,
@@ -91,13 +127,16 @@ fn open_places(
     ensures places { OnOk result (HasPlacesFor index.new book.new (option_map (λ c. seen c.now) change.entry)) }
     ensures room { OnOk result (HasRoomFor queue.new (option_map (λ c. seen c.now) change.entry)) }
     ensures memory { IfErr result (λ e. e ≡ OutOfMemory) }
+    ensures given_back { OnErr result (AddsNoPlaces index.old book.old index.new book.new) }
 {
     let Some(change) = change else {
         return Ok(());
     };
-    vips::open(index, change)?;
-    book.ready(change.key())?;
-    queue.ready()
+    let opened = open_all(index, book, queue, change);
+    if opened.is_err() {
+        sweep_all(index, book, change);
+    }
+    opened
 }
 
 /// Does to what is kept beside the registry what the ready operation does to the registry.
@@ -115,8 +154,8 @@ fn follow(
     requires places { HasPlacesFor index.old book.old (change_in ready.now) }
     ensures counts { counts.new ≡ tally_in (held_after registry.now.held (change_in ready.now)) }
     ensures vips { vip.IsIndexOf index.new (held_after registry.now.held (change_in ready.now)) }
-    ensures swept { IsSweptAfter registry.now.held (change_in ready.now) index.new }
-    ensures leases { AreLeased registry.now.held book.old → AreLeased (held_after registry.now.held (change_in ready.now)) book.new }
+    ensures swept { IsSweptAfter registry.now.held (change_in ready.now) index.new book.new }
+    ensures leases { Moves (change_in ready.now) ready.now.key ready.now.step ready.now.moment book.old book.new }
 {
     let _version = registry.version();
     match ready.ready.change() {
@@ -156,12 +195,15 @@ impl Hub {
     }
 
     /// Makes every growth that an operation at a moment in milliseconds needs, and changes no
-    /// answer. Refused as the operation is, and as `OutOfMemory`.
+    /// answer. Refused as the operation is, and as `OutOfMemory`, and then no place of a vip or a
+    /// lease stays that was not there.
     pub fn ready(&mut self, op: Op, now: u64) -> Result<Ready, Fault>
         ensures same { IsSame self.old self.new }
         ensures ready { IfOk result (λ r. accepts self.old.registry (ask_of op) now ≡ Ok (change_in r) × IsReady self.new r) }
         ensures moment { IfOk result (λ r. moment_in r ≡ now) }
+        ensures asked { IfOk result (λ r. IsFor self.new r (ask_of op)) }
         ensures refused { IfErr result (Refuses self.old.registry (ask_of op) now) }
+        ensures given_back { OnErr result (AddsNoPlaces self.old.vips self.old.leases self.new.vips self.new.leases) }
     {
         same_vips_law();
         let step = step_of(&op);
@@ -184,13 +226,13 @@ impl Hub {
     }
 
     /// Does what is ready, which has to be of this hub as it is. Takes no memory, and gives back the
-    /// places of vips that the change leaves empty.
+    /// places of vips and of the lease that the change leaves empty.
     pub fn commit(&mut self, ready: Ready) -> Applied
         requires { IsReady self.old ready }
         ensures change { done_by result ≡ change_in ready }
         ensures takes { Takes self.old.registry (change_in ready) self.new.registry }
-        ensures swept { IsSweptAfter self.old.registry.held (change_in ready) self.new.vips }
-        ensures history { (p : Past) → StandsFor self.old p → StandsFor self.new (with_change self.old.queue.max p (moment_in ready) (done_by result)) }
+        ensures swept { IsSweptAfter self.old.registry.held (change_in ready) self.new.vips self.new.leases }
+        ensures history { (p : Past) (ask : Ask) → IsFor self.old ready ask → StandsFor self.old p → StandsFor self.new (with_done self.old.queue.max p (moment_in ready) ask (done_by result)) }
         ensures rules { rules_of self.new ≡ rules_of self.old }
     {
         let _version = self.registry.version();
@@ -205,12 +247,16 @@ impl Hub {
         self.registry.commit(ready.ready)
     }
 
-    /// Does one operation at a moment in milliseconds, as the registry does it.
+    /// Does one operation at a moment in milliseconds, as the registry does it. Places of vips and
+    /// leases that it leaves empty are given back, also where it is refused.
     pub fn write(&mut self, op: Op, now: u64) -> Result<Applied, Fault>
         ensures done { IfOk result (λ a. accepts self.old.registry (ask_of op) now ≡ Ok (done_by a)) }
         ensures refused { IfErr result (Refuses self.old.registry (ask_of op) now) }
         ensures rules { rules_of self.new ≡ rules_of self.old }
-        ensures history { (p : Past) → StandsFor self.old p → StandsFor self.new (with_change self.old.queue.max p now (outcome result)) }
+        ensures history { IfOk result (λ a. (p : Past) → StandsFor self.old p → StandsFor self.new (with_done self.old.queue.max p now (ask_of op) (done_by a))) }
+        ensures refused_history { OnErr result ((p : Past) → StandsFor self.old p → StandsFor self.new p) }
+        ensures swept { IfOk result (λ a. IsSweptAfter self.old.registry.held (done_by a) self.new.vips self.new.leases) }
+        ensures given_back { OnErr result (AddsNoPlaces self.old.vips self.old.leases self.new.vips self.new.leases) }
     {
         let ready = self.ready(op, now)?;
         Ok(self.commit(ready))

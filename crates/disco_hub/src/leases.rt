@@ -1,13 +1,9 @@
 //! How the leases follow a change, and an operation without one.
-ghost use Rattle.std.specs.Prelude.{◌≡◌, Some};
-ghost use Rattle.std.specs.FinMap.{FinMap, insert, remove};
-ghost use Rattle.disco_instance.specs.Key.{key_cmp};
-ghost use Rattle.disco_instance.specs.Row.{row};
-ghost use Rattle.disco_instance.specs.declared.action.Action.{Action};
-ghost use Rattle.disco_history.specs.Change.{Entry, key_of, seen};
-ghost use Rattle.disco_lease.specs.Leases.{HasPlace};
-ghost use Rattle.disco_registry.specs.Commit.{held_after};
-ghost use Rattle.disco_hub.specs.Tied.{AreLeased};
+ghost use Rattle.std.specs.Prelude.{◌≡◌, None, Some};
+ghost use Rattle.disco_history.specs.Change.{key_of, seen};
+ghost use Rattle.disco_lease.specs.Leases.{HasPlace, IsFilled, Sets, extended, lease_at, marked};
+ghost use Rattle.disco_registry.specs.Op.{ask_of};
+ghost use Rattle.disco_hub.specs.Moves.{Follows, GoesOn, step_for};
 
 use disco_history::Change;
 use disco_instance::{Action, Key, Record};
@@ -21,7 +17,9 @@ pub(crate) enum Step {
     Touched,
 }
 
-pub(crate) fn step_of(op: &Op) -> Step {
+pub(crate) fn step_of(op: &Op) -> Step
+    ensures { result ≡ step_for (ask_of op.now) }
+{
     match op {
         Op::Renew(_) => Step::Renewed,
         _ => Step::Touched,
@@ -31,7 +29,9 @@ pub(crate) fn step_of(op: &Op) -> Step {
 /// Starts the lease of an instance that registers.
 fn start(leases: &mut LeaseBook, rec: &Record, now: u64)
     requires { HasPlace leases.old rec.now.key }
-    ensures { (m : FinMap key_cmp Entry) (a : Action) → AreLeased m leases.old → AreLeased (insert m rec.now.key (row rec.now, a)) leases.new }
+    ensures lease { Sets rec.now.key (Some (marked rec.now.lease.duration_secs now)) leases.old leases.new }
+    ensures there { lease_at leases.new rec.now.key ≡ Some (marked rec.now.lease.duration_secs now) }
+    ensures renewals { leases.new.renewals ≡ leases.old.renewals }
 {
     leases.register(&rec.key, rec.lease.duration_secs, now);
 }
@@ -40,23 +40,29 @@ fn start(leases: &mut LeaseBook, rec: &Record, now: u64)
 /// then moved by its duration.
 fn keep_going(leases: &mut LeaseBook, rec: &Record, now: u64)
     requires { HasPlace leases.old rec.now.key }
-    ensures { (m : FinMap key_cmp Entry) (a : Action) → AreLeased m leases.old → AreLeased (insert m rec.now.key (row rec.now, a)) leases.new }
+    ensures lease { Sets rec.now.key (Some (extended now (marked rec.now.lease.duration_secs now))) leases.old leases.new }
+    ensures there { lease_at leases.new rec.now.key ≡ Some (extended now (marked rec.now.lease.duration_secs now)) }
+    ensures renewals { leases.new.renewals ≡ leases.old.renewals }
 {
     start(leases, rec, now);
     keep(leases, &rec.key, Step::Touched, now);
 }
 
-/// Ends the lease of an instance that goes.
+/// Ends the lease of an instance that goes, and gives back its place.
 fn end(leases: &mut LeaseBook, key: &Key)
-    ensures { (m : FinMap key_cmp Entry) → AreLeased m leases.old → AreLeased (remove m key.now) leases.new }
+    ensures lease { Sets key.now None leases.old leases.new }
+    ensures swept { IsFilled key.now leases.new }
+    ensures renewals { leases.new.renewals ≡ leases.old.renewals }
 {
     let _ = leases.cancel(key);
+    leases.sweep(key);
 }
 
 /// Moves the lease of the instance that a change is about.
 pub(crate) fn follow(leases: &mut LeaseBook, change: &Change, now: u64)
     requires { HasPlace leases.old (key_of (seen change.now)) }
-    ensures { (m : FinMap key_cmp Entry) → AreLeased m leases.old → AreLeased (held_after m (Some (seen change.now))) leases.new }
+    ensures lease { Follows (seen change.now) now leases.old leases.new }
+    ensures swept { IsFilled (key_of (seen change.now)) leases.new }
 {
     match change {
         Change::Put { action, rec } => match action {
@@ -70,7 +76,7 @@ pub(crate) fn follow(leases: &mut LeaseBook, change: &Change, now: u64)
 
 /// Moves the lease of an instance whose record stays as it is. The instance is held, so it has one.
 pub(crate) fn keep(leases: &mut LeaseBook, key: &Key, step: Step, now: u64)
-    ensures { (m : FinMap key_cmp Entry) → AreLeased m leases.old → AreLeased m leases.new }
+    ensures { GoesOn key.now step now leases.old leases.new }
 {
     let _ = match step {
         Step::Renewed => leases.renew(key, now),

@@ -6,7 +6,8 @@ ghost use Rattle.disco_history.specs.Change.{key_of, seen};
 ghost use Rattle.disco_history.specs.Registry.{put_of};
 ghost use Rattle.disco_index.specs.Vips.{IsIndexOf, IsSame, KeepsPlaces, TakesAny};
 ghost use Rattle.disco_registry.specs.Commit.{held_after};
-ghost use Rattle.disco_hub.specs.State.{AddsAny, HasVipPlaces, IsSwept, IsSweptAfter};
+ghost use Rattle.disco_hub.specs.Moves.{OthersStay};
+ghost use Rattle.disco_hub.specs.State.{AddsAny, HasVipPlaces, IsSwept};
 
 use disco_history::Change;
 use disco_index::VipIndex;
@@ -17,6 +18,7 @@ use disco_registry::Registry;
 /// Makes the places that a change needs. Refused only as `OutOfMemory`.
 pub(crate) fn open(vips: &mut VipIndex, change: &Change) -> Result<(), Fault>
     ensures same { IsSame vips.old vips.new }
+    ensures others { OthersStay (put_of (seen change.now)) vips.old vips.new }
     ensures places { OnOk result (HasVipPlaces vips.new (put_of (seen change.now))) }
     ensures memory { IfErr result (λ e. e ≡ OutOfMemory) }
 {
@@ -26,6 +28,21 @@ pub(crate) fn open(vips: &mut VipIndex, change: &Change) -> Result<(), Fault>
             rec,
         } => vips.ready(rec),
         _ => Ok(()),
+    }
+}
+
+/// Gives back the places of what a change puts that stand empty.
+pub(crate) fn close(vips: &mut VipIndex, change: &Change)
+    ensures same { IsSame vips.old vips.new }
+    ensures others { OthersStay (put_of (seen change.now)) vips.old vips.new }
+    ensures swept { IsSwept vips.new (put_of (seen change.now)) }
+{
+    match change {
+        Change::Put {
+            action: Action::Added | Action::Modified,
+            rec,
+        } => vips.sweep(rec),
+        _ => {}
     }
 }
 
@@ -71,7 +88,7 @@ pub(crate) fn follow(vips: &mut VipIndex, registry: &Registry, change: &Change)
     requires places { HasVipPlaces vips.old (put_of (seen change.now)) }
     requires index { IsIndexOf vips.old registry.now.held }
     ensures index { IsIndexOf vips.new (held_after registry.now.held (Some (seen change.now))) }
-    ensures swept { IsSweptAfter registry.now.held (Some (seen change.now)) vips.new }
+    ensures swept { IsSwept vips.new (get registry.now.held (key_of (seen change.now))) }
 {
     put_vips_law();
     gone_vips_law();

@@ -1,5 +1,5 @@
 -- Runs of events, one event on.
-use Rattle.std.proofs.Common.{◌≡◌, ◌≢◌, ℕ, zero, suc, ◌+◌, ◌<◌, ◌≤◌, Bool, true, false, cond, List, [], ◌∷◌, ◌++◌, length, get_or, Option, Some, None, Result, Ok, Err, IfOk, IfErr, slice_get, position, refl, sym, ap, subst, ◌∙◌, arith, length-append, add-one}
+use Rattle.std.proofs.Common.{◌≡◌, ◌≢◌, ℕ, zero, suc, ◌+◌, ◌<◌, ◌≤◌, Bool, true, false, cond, List, [], ◌∷◌, ◌++◌, length, get_or, Some, None, Result, Ok, Err, IfOk, IfErr, slice_get, position, refl, sym, ap, subst, ◌∙◌, arith, length-append, add-one}
 use Rattle.std.specs.List.{position_from}
 use Rattle.std.specs.declared.alloc.Global.{Global}
 use Rattle.std.specs.declared.sync.Arc.{Arc}
@@ -7,14 +7,13 @@ use Rattle.std.proofs.lemmas.Iterator.Adapters.{position_from-zero}
 use Rattle.std.proofs.lemmas.Option.{slice_get-get_or, same_Some}
 use Rattle.disco_cache.specs.declared.key.DocKey.{DocKey}
 use Rattle.disco_cache.specs.declared.payload.Payload.{Payload}
-use Rattle.disco_hub.specs.Refusals.{refusal_of, refusal_of_id}
 use Rattle.disco_instance.specs.declared.fault.Fault.{Fault}
 use Rattle.disco_instance.specs.declared.fault.Fault.TheVariants.{OutOfMemory}
 use Rattle.disco_instance.specs.declared.form.Form.{Form}
-use Rattle.disco_hub.specs.Past.{Past, history, with_change}
+use Rattle.disco_hub.specs.Past.{Past, history}
 use Rattle.disco_hub.specs.State.{Rules, State, StandsFor, rules_of}
 use Rattle.disco_world.specs.Answers.{AreAnswers, AreServed, IsAnswer, IsServed, reply_of, takes_memory}
-use Rattle.disco_world.specs.Events.{after, after_at, change_of, doc_after, done_after, past, past_after, query_asked, ran_out, refused_as}
+use Rattle.disco_world.specs.Events.{after, after_at, doc_after, done_after, past, past_after, ran_out}
 use Rattle.disco_world.specs.declared.event.Event.{Event}
 use Rattle.disco_world.specs.declared.event.Event.TheVariants.{Register, Cancel, Renew, SetStatus, DropStatus, Metadata, Load, LoadById, Clean}
 use Rattle.disco_world.specs.declared.event.Reply.{Reply}
@@ -127,23 +126,19 @@ module _ (rules : Rules) (es : List Event) (rs : List Reply) (i : ℕ) (e : Even
 
 -- ---- served documents
 
-no_change : (fault : Option Fault) → change_of (refused_as fault) ≡ None
-no_change None = refl
-no_change (Some e) = refl
-
 pub load_unchanged : (rules : Rules) (p : Past) (key : DocKey) (r : Reply) → after rules p (Load key) r ≡ p
 load_unchanged rules p key r = one (ran_out r)
   where
     one : (b : Bool) → cond b p (past_after rules p (Load key)) ≡ p
     one true = refl
-    one false = ap (with_change rules.queue p 0) (no_change (refusal_of rules.delta (query_asked key.query) (history p)))
+    one false = refl
 
 pub id_unchanged : (rules : Rules) (p : Past) (id : List ℕ) (form : Form) (r : Reply) → after rules p (LoadById id form) r ≡ p
 id_unchanged rules p id form r = one (ran_out r)
   where
     one : (b : Bool) → cond b p (past_after rules p (LoadById id form)) ≡ p
     one true = refl
-    one false = ap (with_change rules.queue p 0) (no_change (refusal_of_id id (history p)))
+    one false = refl
 
 -- an event that serves a document does nothing
 kept : (rules : Rules) (p : Past) (e : Event) (d : Arc Payload Global) → IsAnswer rules p e (Doc d) → after rules p e (Doc d) ≡ p

@@ -1,5 +1,5 @@
 -- What events answer.
-use Rattle.std.specs.Prelude.{◌≡◌, ◌≢◌, ℕ, ◌+◌, ◌≤◌, Bool, true, false, List, length, Option, Some, None, Result, Ok, Err, slice_get}
+use Rattle.std.specs.Prelude.{◌≡◌, ◌≢◌, ℕ, ◌+◌, ◌≤◌, Bool, true, false, List, length, Some, None, Result, Ok, Err, slice_get}
 use Rattle.std.specs.declared.alloc.Global.{Global}
 use Rattle.std.specs.declared.sync.Arc.{Arc}
 use Rattle.disco_instance.specs.Instance.{Gives}
@@ -8,13 +8,14 @@ use Rattle.disco_instance.specs.declared.fault.Fault.TheVariants.{OutOfMemory}
 use Rattle.disco_instance.specs.declared.form.Form.{Form}
 use Rattle.disco_instance.specs.declared.form.Form.TheVariants.{Full, Compact}
 use Rattle.disco_history.specs.Change.{Entry}
-use Rattle.disco_registry.specs.Commit.{done_by, outcome}
+use Rattle.disco_registry.specs.Commit.{done_by}
+use Rattle.disco_registry.specs.Op.{Ask}
 use Rattle.disco_registry.specs.declared.op.Applied.{Applied}
 use Rattle.disco_registry.specs.declared.op.Applied.TheVariants as applied
 use Rattle.disco_writer.specs.Documents.{is_delta}
-use Rattle.disco_hub.specs.Past.{Past, cleaned, history, with_change}
-use Rattle.disco_hub.specs.State.{Rules, State, StandsFor}
-use Rattle.disco_world.specs.Events.{cleans_at, doc_after, done_after, past}
+use Rattle.disco_hub.specs.Past.{Past, cleaned, history, with_done}
+use Rattle.disco_hub.specs.State.{Rules, State, StandsFor, rules_of}
+use Rattle.disco_world.specs.Events.{cleans_at, doc_after, done_after, done_by_ask, past}
 use Rattle.disco_world.specs.declared.event.Event.{Event}
 use Rattle.disco_world.specs.declared.event.Event.TheVariants.{Register, Cancel, Renew, SetStatus, DropStatus, Metadata, Load, LoadById, Clean}
 use Rattle.disco_cache.specs.Payloads.{IsTrue}
@@ -83,6 +84,12 @@ abbrev pub reply_of : Result (Arc Payload Global) Fault → Reply
 reply_of (Ok p) = Doc p
 reply_of (Err e) = Refused e
 
--- what a write at a moment did to a hub, and what it answered, follow what is done after what has happened
-abbrev pub Follows : State → State → ℕ → Result Applied Fault → (Past → Result (Option Entry) Fault) → Type 0
-Follows old new now result done = (p : Past) → StandsFor old p → Gives done_by result (done p) × StandsFor new (with_change old.queue.max p now (outcome result))
+-- what has happened after what was asked at a moment ended so
+abbrev pub past_by : ℕ → Past → ℕ → Result Ask Fault → Result Applied Fault → Past
+past_by most p now asked (Err e) = p
+past_by most p now (Err e) (Ok a) = p
+past_by most p now (Ok ask) (Ok a) = with_done most p now ask (done_by a)
+
+-- what was asked of a hub at a moment, and what it answered, follow what is done after what has happened
+abbrev pub Follows : State → State → ℕ → Result Ask Fault → Result Applied Fault → Type 0
+Follows old new now asked result = (p : Past) → StandsFor old p → Gives done_by result (done_by_ask (rules_of old).limits (history p) now asked) × StandsFor new (past_by old.queue.max p now asked result)

@@ -12,7 +12,7 @@ use Rattle.disco_registry.specs.Accept.{Limits, accept_after}
 use Rattle.disco_registry.specs.Op.{Ask, register, cancel, renew, set_status, drop_status, add_metadata}
 use Rattle.disco_wire.specs.Registration.{registration_of}
 use Rattle.disco_cache.specs.declared.key.DocKey.{DocKey}
-use Rattle.disco_hub.specs.Past.{Past, cleaned, history, nothing, with_change}
+use Rattle.disco_hub.specs.Past.{Past, cleaned, history, nothing, with_done}
 use Rattle.disco_hub.specs.Refusals.{doc_of_id, refusal_of, refusal_of_id}
 use Rattle.disco_hub.specs.State.{Rules}
 use Rattle.disco_writer.specs.declared.query.Query.{Query}
@@ -98,10 +98,22 @@ cleans_at (Load key) = None
 cleans_at (LoadById id form) = None
 cleans_at (Clean now) = Some now
 
-abbrev pub change_of : Option (Result (Option Entry) Fault) → Option Entry
-change_of None = None
-change_of (Some (Err e)) = None
-change_of (Some (Ok c)) = c
+-- what an event asks of the registry, if it asks something
+abbrev pub ask_in : Event → Option (Result Ask Fault)
+ask_in (Register now app json) = Some (registers app (registration_of json))
+ask_in (Cancel now app id) = Some (Ok (cancel (key_named app id)))
+ask_in (Renew now app id) = Some (Ok (renew (key_named app id)))
+ask_in (SetStatus now app id status) = Some (Ok (set_status (key_named app id) status))
+ask_in (DropStatus now app id status) = Some (Ok (drop_status (key_named app id) status))
+ask_in (Metadata now app id entries) = Some (Ok (add_metadata (key_named app id) entries))
+ask_in (Load key) = None
+ask_in (LoadById id form) = None
+ask_in (Clean now) = None
+
+-- what has happened after what was asked at a moment did that: nothing more where it was refused
+abbrev pub with_asked : ℕ → Past → ℕ → Option (Result Ask Fault) → Option (Result (Option Entry) Fault) → Past
+with_asked most p now (Some (Ok ask)) (Some (Ok c)) = with_done most p now ask c
+with_asked most p now _ _ = p
 
 -- the event found no memory
 abbrev pub ran_out : Reply → Bool
@@ -118,7 +130,7 @@ cleaned_at retention p (Some now) = cleaned retention p now
 
 -- what has happened after an event that did what it does
 abbrev pub past_after : Rules → Past → Event → Past
-past_after rules p event = cleaned_at rules.retention (with_change rules.queue p (moment_of event) (change_of (done_after rules p event))) (cleans_at event)
+past_after rules p event = cleaned_at rules.retention (with_asked rules.queue p (moment_of event) (ask_in event) (done_after rules p event)) (cleans_at event)
 
 -- what has happened after an event that answered so
 abbrev pub after : Rules → Past → Event → Reply → Past

@@ -1,7 +1,6 @@
 //! Runs of events.
-ghost use Rattle.std.specs.Prelude.{◌≡◌, ◌≢◌, ℕ, ◌+◌, List, length, false, IfOk, IfErr, OnOk, Some, None, position};
+ghost use Rattle.std.specs.Prelude.{◌≡◌, ◌≢◌, ℕ, ◌+◌, List, length, false, IfOk, IfErr, OnOk, Ok, Some, None, position};
 ghost use Rattle.disco_instance.specs.declared.fault.Fault.TheVariants.{OutOfMemory, BadEvent};
-ghost use Rattle.disco_registry.specs.Accept.{accept_after};
 ghost use Rattle.disco_registry.specs.Op as asking;
 ghost use Rattle.disco_wire.specs.Registration.{registration_of};
 ghost use Rattle.disco_instance.specs.declared.form.Form.TheVariants.{Full};
@@ -9,7 +8,7 @@ ghost use Rattle.disco_hub.specs.Refusals.{refusal_of};
 ghost use Rattle.disco_hub.specs.Past.{Past, history};
 ghost use Rattle.disco_hub.specs.State.{StandsFor, rules, rules_of};
 ghost use Rattle.disco_world.specs.Answers.{AreAnswers, AreServed, Follows, IsAnswer, IsServed, is_compact_load, reply_of, reply_to};
-ghost use Rattle.disco_world.specs.Events.{after, doc_asked, done_by_ask, key_named, query_asked, registers};
+ghost use Rattle.disco_world.specs.Events.{after, doc_asked, key_named, query_asked, registers};
 
 use crate::event::{Event, Reply};
 use disco_cache::{DocKey, Payload};
@@ -186,7 +185,7 @@ fn register(
     app: &Text,
     json: &Bytes,
 ) -> Result<Applied, Fault>
-    ensures follows { Follows hub.old hub.new now result (λ p. done_by_ask (rules_of hub.old).limits (history p) now (registers app.now (registration_of json.now))) }
+    ensures follows { Follows hub.old hub.new now (registers app.now (registration_of json.now)) result }
     ensures rules { rules_of hub.new ≡ rules_of hub.old }
 {
     let posted = read_registration(alloc, json.as_slice())?;
@@ -208,7 +207,7 @@ fn key_named(alloc: Global, app: &Text, id: &Text) -> Result<Key, Fault>
 }
 
 fn cancel(alloc: Global, hub: &mut Hub, now: u64, app: &Text, id: &Text) -> Result<Applied, Fault>
-    ensures follows { Follows hub.old hub.new now result (λ p. accept_after (rules_of hub.old).limits (history p) (asking.cancel (key_named app.now id.now)) now) }
+    ensures follows { Follows hub.old hub.new now (Ok (asking.cancel (key_named app.now id.now))) result }
     ensures rules { rules_of hub.new ≡ rules_of hub.old }
 {
     let key = key_named(alloc, app, id)?;
@@ -216,7 +215,7 @@ fn cancel(alloc: Global, hub: &mut Hub, now: u64, app: &Text, id: &Text) -> Resu
 }
 
 fn renew(alloc: Global, hub: &mut Hub, now: u64, app: &Text, id: &Text) -> Result<Applied, Fault>
-    ensures follows { Follows hub.old hub.new now result (λ p. accept_after (rules_of hub.old).limits (history p) (asking.renew (key_named app.now id.now)) now) }
+    ensures follows { Follows hub.old hub.new now (Ok (asking.renew (key_named app.now id.now))) result }
     ensures rules { rules_of hub.new ≡ rules_of hub.old }
 {
     let key = key_named(alloc, app, id)?;
@@ -231,7 +230,7 @@ fn set_status(
     id: &Text,
     status: &Text,
 ) -> Result<Applied, Fault>
-    ensures follows { Follows hub.old hub.new now result (λ p. accept_after (rules_of hub.old).limits (history p) (asking.set_status (key_named app.now id.now) status.now) now) }
+    ensures follows { Follows hub.old hub.new now (Ok (asking.set_status (key_named app.now id.now) status.now)) result }
     ensures rules { rules_of hub.new ≡ rules_of hub.old }
 {
     let key = key_named(alloc, app, id)?;
@@ -247,7 +246,7 @@ fn drop_status(
     id: &Text,
     status: &Option<Text>,
 ) -> Result<Applied, Fault>
-    ensures follows { Follows hub.old hub.new now result (λ p. accept_after (rules_of hub.old).limits (history p) (asking.drop_status (key_named app.now id.now) status.now) now) }
+    ensures follows { Follows hub.old hub.new now (Ok (asking.drop_status (key_named app.now id.now) status.now)) result }
     ensures rules { rules_of hub.new ≡ rules_of hub.old }
 {
     let key = key_named(alloc, app, id)?;
@@ -263,7 +262,7 @@ fn add_metadata(
     id: &Text,
     entries: &Entries,
 ) -> Result<Applied, Fault>
-    ensures follows { Follows hub.old hub.new now result (λ p. accept_after (rules_of hub.old).limits (history p) (asking.add_metadata (key_named app.now id.now) entries.now) now) }
+    ensures follows { Follows hub.old hub.new now (Ok (asking.add_metadata (key_named app.now id.now) entries.now)) result }
     ensures rules { rules_of hub.new ≡ rules_of hub.old }
 {
     let key = key_named(alloc, app, id)?;

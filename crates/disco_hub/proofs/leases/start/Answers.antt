@@ -1,7 +1,9 @@
-use Rattle.std.proofs.Common.{refl}
-use Rattle.disco_instance.specs.Row.{row}
-use Rattle.disco_hub.proofs.Ties.{started}
+use Rattle.std.proofs.Common.{Some}
+use Rattle.disco_lease.specs.Leases.{marked}
+use Rattle.disco_hub.proofs.Marks.{is_set}
 use Rattle.disco_hub.proofs.leases.start.Goals as goal
 
-pub returns : goal.returns
-returns c = λ m a leased. started c.args.rec.now.key c.args.rec.now.lease.duration_secs c.args.now c.args.leases.now c.register.new.self (row c.args.rec.now, a) refl c.register.ensures.leases m leased
+pub returns-clause-there : goal.returns-clause-there
+returns-clause-there c =
+    let rec = c.args.rec.now in
+    is_set rec.key (Some (marked rec.lease.duration_secs c.args.now)) c.args.leases.now c.register.new.self c.register.ensures.leases

@@ -1,4 +1,6 @@
-use Rattle.std.proofs.Common.{refl}
+use Rattle.std.proofs.Common.{refl, subst}
+use Rattle.disco_hub.specs.State.{AddsNoPlaces, State}
+use Rattle.disco_hub.proofs.Marks.{on_err}
 use Rattle.disco_hub.proofs.Ties.{same_from, tied_same}
 use Rattle.disco_hub.proofs.hub.Hub.ready.Goals as goal
 
@@ -31,3 +33,9 @@ returns-clause-same c = same_from _ _ _ c.self.view_is (record {
   retention = refl;
   delta = refl;
 })
+
+pub returns-in_err-open_places-clause-given_back :
+    goal.returns-in_err-open_places-clause-given_back
+returns-in_err-open_places-clause-given_back c =
+    on_err c.from_residual-in_err-open_places.result _
+    (subst (λ (s : State). AddsNoPlaces s.vips s.leases c.open_places.new.index c.open_places.new.book) c.self.view_is c.in_err-open_places.ensures.given_back)
