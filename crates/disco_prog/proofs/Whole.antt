@@ -1,11 +1,11 @@
 -- The events of an input.
-use Rattle.std.proofs.Common.{◌≡◌, ◌≢◌, ◌+◌, ◌⊎◌, inl, inr, ℕ, Bool, true, false, List, [], ◌∷◌, length, map, Option, Some, None, Result, Ok, Err, OnOk, IfSome, if◌then◌else◌, codes, unwrap_or, option_and_then, option_map, is_some, refl, ap, ◌∙◌, arith}
-use Rattle.std.specs.List.{position, position_or_len}
-use Rattle.std.specs.Str.{bytes_eq}
-use Rattle.std.proofs.lemmas.Bool.Decides.{nat_tests}
+use Rattle.std.proofs.Common.{◌≡◌, ◌≢◌, inl, inr, ℕ, List, [], ◌∷◌, length, map, Option, Some, Result, Ok, Err, OnOk, refl, ap, ◌∙◌, arith}
+use Rattle.std.specs.List.{position_or_len}
 use Rattle.disco_instance.specs.declared.fault.Fault.{Fault}
-use Rattle.disco_instance.specs.declared.fault.Fault.TheVariants.{BadEvent, OutOfMemory}
-use Rattle.disco_world.specs.Answers.{is_compact_load}
+use Rattle.disco_instance.specs.declared.fault.Fault.TheVariants.{OutOfMemory}
+use Rattle.disco_hub.specs.State.{rules}
+use Rattle.disco_hub.specs.declared.settings.Settings.{Settings}
+use Rattle.disco_world.specs.Answers.{IsFirstBadEvent}
 use Rattle.disco_world.specs.declared.event.Event.{Event}
 use Rattle.disco_lines.specs.Input.{AreRead}
 use Rattle.disco_lines.specs.Lines.{IsFirstBadLine, is_none, meanings}
@@ -24,11 +24,10 @@ none_bad known events read input bad e line =
     let same : read.0 ≡ input = rw e at read.1 in
     not_bad events input bad (read.2 ∙ ap meanings same) line
 
--- a run of events is refused for want of memory, or for the compact form
-pub run_fault : (known : Option (List ℕ)) (events : List Event) → AreRead known events → (e : Fault)
-    → (e ≢ OutOfMemory → (i : ℕ) × (position is_compact_load events ≡ Some i) × (e ≡ BadEvent (i + 1))) → IsRunFault known e
-run_fault known events read OutOfMemory refused = inl refl
-run_fault known events read other refused = let at_event = refused (λ bad. cc) in inr (inr (inr (inr (events, at_event.0, read, at_event.1, at_event.2))))
+-- a run of events is refused for want of memory, or for an event that can't be run
+pub run_fault : (settings : Settings) (known : Option (List ℕ)) (events : List Event) → AreRead known events → (e : Fault) → (e ≢ OutOfMemory → IsFirstBadEvent (rules settings) events e) → IsRunFault settings known e
+run_fault settings known events read OutOfMemory refused = inl refl
+run_fault settings known events read other refused = inr (inr (inr (inr (events, read, refused (λ bad. cc)))))
 
 pub then_ok : {A E : Type 0} (r : Result A E) (P Q : Type 0) → (P → Q) → OnOk r P → OnOk r Q
 then_ok (Ok a) P Q f p = f p

@@ -1,11 +1,11 @@
 -- What `replay` reads and writes.
-use Rattle.std.specs.Prelude.{◌≡◌, ◌⊎◌, ◌+◌, ℕ, List, length, Option, Some, position}
+use Rattle.std.specs.Prelude.{◌≡◌, ◌⊎◌, ℕ, List, length, Option}
 use Rattle.std.specs.Io.KnownBytes.{Appends}
 use Rattle.clap.specs.Words.{Text}
 use Rattle.disco_instance.specs.declared.fault.Fault.{Fault}
-use Rattle.disco_instance.specs.declared.fault.Fault.TheVariants.{BadEvent, OutOfMemory, ReadFailed, WriteFailed}
+use Rattle.disco_instance.specs.declared.fault.Fault.TheVariants.{OutOfMemory, ReadFailed, WriteFailed}
 use Rattle.disco_hub.specs.State.{rules}
-use Rattle.disco_world.specs.Answers.{AreAnswers, AreServed, is_compact_load}
+use Rattle.disco_world.specs.Answers.{AreAnswers, AreServed, IsFirstBadEvent}
 use Rattle.disco_world.specs.declared.event.Event.{Event}
 use Rattle.disco_world.specs.declared.event.Reply.{Reply}
 use Rattle.disco_hub.specs.declared.settings.Settings.{Settings}
@@ -13,13 +13,13 @@ use Rattle.disco_lines.specs.Answers.{answer_lines}
 use Rattle.disco_lines.specs.Input.{AreRead, NamesBadLine}
 use Rattle.disco_prog.specs.Options.{NamedBy}
 
--- the fault names the first event of the whole input that asks for the compact form, which isn't served yet
-abbrev pub NamesCompactLoad : Option (List ℕ) → Fault → Type 0
-NamesCompactLoad known fault = (events : List Event) × (i : ℕ) × AreRead known events × (position is_compact_load events ≡ Some i) × (fault ≡ BadEvent (i + 1))
+-- the fault names the first event of the whole input that can't be run
+abbrev pub NamesBadEvent : Settings → Option (List ℕ) → Fault → Type 0
+NamesBadEvent settings known fault = (events : List Event) × AreRead known events × IsFirstBadEvent (rules settings) events fault
 
 -- why events may get no answers, or not all
-abbrev pub IsRunFault : Option (List ℕ) → Fault → Type 0
-IsRunFault known fault = (fault ≡ OutOfMemory) ⊎ ((fault ≡ ReadFailed) ⊎ ((fault ≡ WriteFailed) ⊎ (NamesBadLine known fault ⊎ NamesCompactLoad known fault)))
+abbrev pub IsRunFault : Settings → Option (List ℕ) → Fault → Type 0
+IsRunFault settings known fault = (fault ≡ OutOfMemory) ⊎ ((fault ≡ ReadFailed) ⊎ ((fault ≡ WriteFailed) ⊎ (NamesBadLine known fault ⊎ NamesBadEvent settings known fault)))
 
 -- each event of the whole input is answered, and the answer lines are written
 pub record IsAnswered (settings : Settings) (known old new : Option (List ℕ)) : Type 0 where

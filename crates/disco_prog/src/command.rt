@@ -25,8 +25,7 @@ fn answer<R: Read, W: Write>(
     ensures answered { OnOk result (IsAnswered settings.now (R.remaining reader.old)
         (W.contents out.old) (W.contents out.new)) }
     ensures end { OnOk result (IsAtEnd (R.remaining reader.new)) }
-    ensures fault { IfErr result (IsRunFault (R.remaining reader.old)) }
-    ensures unwritten { IfErr result (λ e. e ≢ WriteFailed → e ≢ OutOfMemory → out.new ≡ out.old) }
+    ensures fault { IfErr result (IsRunFault settings.now (R.remaining reader.old)) }
     ensures bad_line { (input : List ℕ) (bad : Fault) → R.remaining reader.old ≡ Some input
         → IsFirstBadLine input bad → out.new ≡ out.old }
 {

@@ -4,7 +4,9 @@
 //! registry at the version of that moment.
 #![tactic(auto)]
 
+mod asks;
 mod event;
+mod loads;
 mod runs;
 
 pub use disco_cache::{DocKey, Payload};

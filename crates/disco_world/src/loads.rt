@@ -1,0 +1,61 @@
+//! Documents that are served, and those that aren't.
+ghost use Rattle.std.specs.Prelude.{◌≡◌, IfOk, IfErr};
+ghost use Rattle.disco_instance.specs.declared.fault.Fault.TheVariants.{OutOfMemory};
+ghost use Rattle.disco_instance.specs.declared.form.Form.TheVariants.{Full};
+ghost use Rattle.disco_world.specs.Events.{query_asked, deed};
+ghost use Rattle.disco_world.specs.Steps.{Does, reply_of};
+ghost use Rattle.disco_world.specs.declared.event.Event.TheVariants as event;
+ghost use Rattle.disco_hub.specs.Past.{history};
+ghost use Rattle.disco_hub.specs.State.{rules_of};
+
+use crate::asks::key_named;
+use crate::event::Reply;
+use disco_cache::{DocKey, Payload};
+use disco_hub::Hub;
+use disco_instance::{Fault, Form, Text, upper};
+use disco_writer::Query;
+use std::alloc::Global;
+use std::sync::Arc;
+
+fn query_asked(alloc: Global, query: &Query) -> Result<Query, Fault>
+    ensures query { IfOk result (λ q. q ≡ query_asked query.now) }
+    ensures memory { IfErr result (λ e. e ≡ OutOfMemory) }
+{
+    match query {
+        Query::App(name) => Ok(Query::App(upper(alloc, name.as_str())?)),
+        Query::Instance(key) => Ok(Query::Instance(key_named(alloc, &key.app, &key.id)?)),
+        other => Ok(other.clone()?),
+    }
+}
+
+/// The reply to a load.
+fn served(loaded: Result<Arc<Payload, Global>, Fault>) -> Reply
+    ensures { result ≡ reply_of loaded }
+{
+    match loaded {
+        Ok(payload) => Reply::Doc(payload),
+        Err(fault) => Reply::Refused(fault),
+    }
+}
+
+/// Answers a load, by a key whose app may be in any case.
+pub(crate) fn load(alloc: Global, hub: &Hub, key: &DocKey) -> Reply
+    requires { key.now.form ≡ Full }
+    ensures { Does hub.now hub.now (λ p. deed (rules_of hub.now) (history p) (event.Load key.now)) result }
+{
+    match query_asked(alloc, &key.query) {
+        Ok(query) => served(hub.load(&DocKey {
+            query,
+            form: key.form,
+        })),
+        Err(fault) => Reply::Refused(fault),
+    }
+}
+
+/// Answers a load of the instance of an id.
+pub(crate) fn load_by_id(hub: &Hub, id: &Text, form: Form) -> Reply
+    requires { form ≡ Full }
+    ensures { Does hub.now hub.now (λ p. deed (rules_of hub.now) (history p) (event.LoadById id.now form)) result }
+{
+    served(hub.by_id(id.as_str(), form))
+}
