@@ -1,5 +1,5 @@
 -- Answer lines (this project's own format).
-use Rattle.std.specs.Prelude.{ℕ, List, ◌++◌, codes, decimal}
+use Rattle.std.specs.Prelude.{ℕ, Bool, true, false, List, length, Option, Some, None, ◌++◌, codes, decimal}
 use Rattle.std.specs.List.{flat_map}
 use Rattle.std.specs.Arc.{arc_value}
 use Rattle.std.specs.declared.io.ErrorKind.{ErrorKind}
@@ -8,8 +8,10 @@ use Rattle.disco_instance.specs.Fault.{fault_number, field_name}
 use Rattle.disco_instance.specs.declared.fault.Fault.{Fault}
 use Rattle.disco_instance.specs.declared.fault.Fault.TheVariants.{MissingField, OutOfMemory, WriteFailed}
 use Rattle.disco_cache.specs.declared.payload.Payload.{Payload}
+use Rattle.disco_instance.specs.Status.{status_name}
+use Rattle.disco_world.specs.declared.holding.Holding.{Holding}
 use Rattle.disco_world.specs.declared.event.Reply.{Reply}
-use Rattle.disco_world.specs.declared.event.Reply.TheVariants.{Changed, Same, Doc, Cleaned, Refused}
+use Rattle.disco_world.specs.declared.event.Reply.TheVariants.{Changed, Same, Doc, Cleaned, Taken, Held, Refused}
 
 -- `doc BASE VERSION TEXT`
 abbrev pub document_line : Payload → List ℕ
@@ -20,14 +22,44 @@ abbrev pub refusal_line : Fault → List ℕ
 refusal_line (MissingField field) = codes "fault " ++ decimal 3 ++ codes " " ++ field_name field ++ codes "\n"
 refusal_line fault = codes "fault " ++ decimal (fault_number fault) ++ codes "\n"
 
+-- `yes` or `no`
+abbrev pub yes_or_no : Bool → List ℕ
+yes_or_no true = codes "yes"
+yes_or_no false = codes "no"
+
+-- the version, or `-` where there is none
+abbrev pub version_or_dash : Option ℕ → List ℕ
+version_or_dash None = codes "-"
+version_or_dash (Some version) = decimal version
+
+-- ` APP/ID=STATUS`, each as it is
+abbrev pub holding_text : Holding → List ℕ
+holding_text h = codes " " ++ h.key.app ++ codes "/" ++ h.key.id ++ codes "=" ++ status_name h.status
+
 abbrev pub answer_line : Reply → List ℕ
 answer_line (Changed version) = codes "ok " ++ decimal version ++ codes "\n"
 answer_line Same = codes "same\n"
 answer_line (Doc payload) = document_line (arc_value payload)
 answer_line (Cleaned base) = codes "base " ++ decimal base ++ codes "\n"
+answer_line (Taken equal version) = codes "copy " ++ yes_or_no equal ++ codes " " ++ version_or_dash version ++ codes "\n"
+answer_line (Held holdings) = codes "held " ++ decimal (length holdings) ++ flat_map holding_text holdings ++ codes "\n"
 answer_line (Refused fault) = refusal_line fault
 
 -- the answer lines of replies, one behind another
+-- `yes` or `no`
+abbrev pub yes_or_no : Bool → List ℕ
+yes_or_no true = codes "yes"
+yes_or_no false = codes "no"
+
+-- the version, or `-` where there is none
+abbrev pub version_or_dash : Option ℕ → List ℕ
+version_or_dash None = codes "-"
+version_or_dash (Some version) = decimal version
+
+-- ` APP/ID=STATUS`, each as it is
+abbrev pub holding_text : Holding → List ℕ
+holding_text h = codes " " ++ h.key.app ++ codes "/" ++ h.key.id ++ codes "=" ++ status_name h.status
+
 abbrev pub answer_lines : List Reply → List ℕ
 answer_lines replies = flat_map answer_line replies
 

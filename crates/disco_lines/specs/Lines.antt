@@ -5,10 +5,10 @@ use Rattle.std.specs.Str.{bytes_eq}
 use Rattle.disco_instance.specs.declared.fault.Fault.{Fault}
 use Rattle.disco_instance.specs.declared.fault.Fault.TheVariants.{BadEvent}
 use Rattle.disco_world.specs.declared.event.Event.{Event}
-use Rattle.disco_world.specs.declared.event.Event.TheVariants.{Register, Cancel, Renew, SetStatus, DropStatus, Metadata, Clean}
+use Rattle.disco_world.specs.declared.event.Event.TheVariants.{Register, Cancel, Renew, SetStatus, DropStatus, Metadata, Clean, Take, Show}
 use Rattle.disco_lines.specs.Loads.{last_word, load}
 use Rattle.disco_lines.specs.Query.{entries_of_query}
-use Rattle.disco_lines.specs.Words.{first_word, after_word, text_of_word, moment_of_word}
+use Rattle.disco_lines.specs.Words.{first_word, after_word, text_of_word, moment_of_word, client_of_word}
 
 -- `NOW APP JSON`: the JSON is the rest of the line as it stands
 abbrev pub registration : List ℕ → Option Event
@@ -64,6 +64,17 @@ metadata_change words = option_map (λ t. Metadata t.0 t.1 t.2 (entries_of_query
 abbrev pub cleaning : List ℕ → Option Event
 cleaning words = if is_some (after_word words) then None else option_map (λ now. Clean now) (moment_of_word (first_word words))
 
+-- `CLIENT EVENT`
+abbrev pub taking : List ℕ → Option Event
+taking words = option_and_then (λ rest. if is_some (after_word rest) then None else option_and_then (λ client. option_map (λ event. Take client event)
+    (moment_of_word (first_word rest)))
+    (client_of_word (first_word words)))
+    (after_word words)
+
+-- `CLIENT`
+abbrev pub showing : List ℕ → Option Event
+showing words = if is_some (after_word words) then None else option_map (λ client. Show client) (client_of_word (first_word words))
+
 -- what is meant by a keyword and the words behind it
 abbrev pub event_named : List ℕ → List ℕ → Option Event
 event_named keyword words =
@@ -74,7 +85,9 @@ event_named keyword words =
     else (if bytes_eq keyword (codes "unstatus") then override_removal words
     else (if bytes_eq keyword (codes "metadata") then metadata_change words
     else (if bytes_eq keyword (codes "clean") then cleaning words
-    else (if bytes_eq keyword (codes "load") then load words else None)))))))
+    else (if bytes_eq keyword (codes "load") then load words
+    else (if bytes_eq keyword (codes "take") then taking words
+    else (if bytes_eq keyword (codes "show") then showing words else None)))))))))
 
 abbrev pub event_of : List ℕ → Option Event
 event_of line =

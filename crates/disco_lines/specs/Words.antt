@@ -20,6 +20,10 @@ after_word line = if nat_lt (position_or_len is_space line) (length line) then S
 abbrev pub text_of_word : List ℕ → Option (List ℕ)
 text_of_word word = if is_utf8 (percent_decode word) then Some (percent_decode word) else None
 
--- the moment that a word names
+-- the moment that a word names, or the number of an event
 abbrev pub moment_of_word : List ℕ → Option ℕ
 moment_of_word word = option_and_then digits_number (text_of_word word)
+
+-- the client that a word names, by a number below 2^32
+abbrev pub client_of_word : List ℕ → Option ℕ
+client_of_word word = option_and_then (λ n. if nat_lt n 4294967296 then Some n else None) (moment_of_word word)

@@ -2,11 +2,12 @@
 ghost use Rattle.std.specs.Prelude.{◌≡◌, ◌⊎◌, [], IfErr, OnOk};
 ghost use Rattle.disco_instance.specs.declared.fault.Fault.TheVariants.{OutOfMemory, WriteFailed};
 ghost use Rattle.std.specs.Io.KnownBytes.{Appends, append_known};
-ghost use Rattle.std.specs.IoError.{error_kind};
-ghost use Rattle.disco_lines.specs.Answers.{answer_line, answer_lines, document_line, refusal_line, write_fault};
+ghost use Rattle.disco_lines.specs.Answers.{answer_line, answer_lines, document_line, holding_text, refusal_line, yes_or_no};
+ghost use Rattle.std.specs.List.{flat_map};
+ghost use Rattle.disco_world.specs.declared.event.Reply.TheVariants.{Taken, Held};
 
 use disco_instance::Fault;
-use disco_world::{Payload, Reply};
+use disco_world::{Holding, Payload, Reply};
 use std::alloc::Global;
 use std::io;
 use std::io::{ErrorKind, Write};
@@ -33,6 +34,48 @@ fn write_refusal<W: Write>(fault: &Fault, out: &mut W) -> io::Result<()>
     }
 }
 
+fn yes_or_no(yes: bool) -> &'static str
+    ensures { result.now ≡ yes_or_no yes }
+{
+    if yes { "yes" } else { "no" }
+}
+
+fn write_taken<W: Write>(equal: bool, version: Option<u64>, out: &mut W) -> io::Result<()>
+    ensures { OnOk result (Appends (W.contents out.old) (W.contents out.new) (answer_line (Taken equal version))) }
+{
+    let equal = yes_or_no(equal);
+    match version {
+        Some(version) => writeln!(out, "copy {equal} {version}"),
+        None => writeln!(out, "copy {equal} -"),
+    }
+}
+
+fn write_holding<W: Write>(holding: &Holding, out: &mut W) -> io::Result<()>
+    ensures { OnOk result (Appends (W.contents out.old) (W.contents out.new) (holding_text holding.now)) }
+{
+    let (app, id) = (holding.key.app.as_str(), holding.key.id.as_str());
+    let status = holding.status.name();
+    write!(out, " {app}/{id}={status}")
+}
+
+fn write_holdings<W: Write>(holdings: &[Holding], out: &mut W) -> io::Result<()>
+    ensures { OnOk result (Appends (W.contents out.old) (W.contents out.new) (flat_map holding_text holdings.now)) }
+{
+    for holding in holdings {
+        write_holding(holding, out)?;
+    }
+    Ok(())
+}
+
+fn write_held<W: Write>(holdings: &[Holding], out: &mut W) -> io::Result<()>
+    ensures { OnOk result (Appends (W.contents out.old) (W.contents out.new) (answer_line (Held holdings.now))) }
+{
+    let count = holdings.len();
+    write!(out, "held {count}")?;
+    write_holdings(holdings, out)?;
+    out.write_all(b"\n")
+}
+
 fn write_answer<W: Write>(reply: &Reply, out: &mut W) -> io::Result<()>
     ensures { OnOk result (Appends (W.contents out.old) (W.contents out.new) (answer_line reply.now)) }
 {
@@ -41,6 +84,11 @@ fn write_answer<W: Write>(reply: &Reply, out: &mut W) -> io::Result<()>
         Reply::Same => writeln!(out, "same"),
         Reply::Doc(payload) => write_document(payload, out),
         Reply::Cleaned(base) => writeln!(out, "base {base}"),
+        Reply::Taken {
+            hash_equal,
+            version,
+        } => write_taken(*hash_equal, *version, out),
+        Reply::Held(holdings) => write_held(holdings.as_slice(), out),
         Reply::Refused(fault) => write_refusal(fault, out),
     }
 }

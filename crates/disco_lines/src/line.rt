@@ -1,8 +1,8 @@
 //! The event that a line means. `None` stands for a line that can't be read.
 ghost use Rattle.std.specs.Prelude.{◌≡◌, IfOk, IfErr, option_map};
 ghost use Rattle.disco_instance.specs.declared.fault.Fault.TheVariants.{OutOfMemory};
-ghost use Rattle.disco_lines.specs.Lines.{behind_target, cancellation, cleaning, event_of, metadata_change, override_removal, registration, renewal, status_change, target};
-ghost use Rattle.disco_lines.specs.Words.{moment_of_word};
+ghost use Rattle.disco_lines.specs.Lines.{behind_target, cancellation, cleaning, event_of, metadata_change, override_removal, registration, renewal, showing, status_change, taking, target};
+ghost use Rattle.disco_lines.specs.Words.{client_of_word, moment_of_word};
 
 use crate::load::{last_text, load_of};
 use crate::query::entries_of_query;
@@ -23,7 +23,9 @@ use std::alloc::Global;
 ///   as it stands;
 /// - `clean NOW`;
 /// - `load FORM QUERY`, where the form is `full` or `compact`, and the query `apps`, `delta`,
-///   `app NAME`, `vip VIP`, `svip SVIP`, `one APP ID` or `id ID`.
+///   `app NAME`, `vip VIP`, `svip SVIP`, `one APP ID` or `id ID`;
+/// - `take CLIENT EVENT`, where the event is the number from 1 of the line that served a document;
+/// - `show CLIENT`.
 ///
 /// Refused only as `OutOfMemory`.
 pub(crate) fn event_of(alloc: Global, line: &[u8]) -> Result<Option<Event>, Fault>
@@ -45,6 +47,8 @@ pub(crate) fn event_of(alloc: Global, line: &[u8]) -> Result<Option<Event>, Faul
         "metadata" => metadata_of(alloc, rest),
         "clean" => clean_of(alloc, rest),
         "load" => load_of(alloc, rest),
+        "take" => take_of(alloc, rest),
+        "show" => show_of(alloc, rest),
         _ => Ok(None),
     }
 }
@@ -209,6 +213,49 @@ fn clean_of(alloc: Global, words: &[u8]) -> Result<Option<Event>, Fault>
     };
     match moment_of_word(alloc, now)? {
         Some(now) => Ok(Some(Event::Clean { now })),
+        None => Ok(None),
+    }
+}
+
+/// The number of a client.
+fn client_of_word(alloc: Global, word: &[u8]) -> Result<Option<u32>, Fault>
+    ensures value { IfOk result (λ found. found ≡ client_of_word word.now) }
+    ensures memory { IfErr result (λ e. e ≡ OutOfMemory) }
+{
+    match moment_of_word(alloc, word)? {
+        Some(number) if number < 4_294_967_296 => Ok(Some(number as u32)),
+        _ => Ok(None),
+    }
+}
+
+fn take_of(alloc: Global, words: &[u8]) -> Result<Option<Event>, Fault>
+    ensures value { IfOk result (λ found. found ≡ taking words.now) }
+    ensures memory { IfErr result (λ e. e ≡ OutOfMemory) }
+{
+    let (client, Some(rest)) = split_word(words) else {
+        return Ok(None);
+    };
+    let (event, None) = split_word(rest) else {
+        return Ok(None);
+    };
+    let Some(client) = client_of_word(alloc, client)? else {
+        return Ok(None);
+    };
+    match moment_of_word(alloc, event)? {
+        Some(event) => Ok(Some(Event::Take { client, event })),
+        None => Ok(None),
+    }
+}
+
+fn show_of(alloc: Global, words: &[u8]) -> Result<Option<Event>, Fault>
+    ensures value { IfOk result (λ found. found ≡ showing words.now) }
+    ensures memory { IfErr result (λ e. e ≡ OutOfMemory) }
+{
+    let (client, None) = split_word(words) else {
+        return Ok(None);
+    };
+    match client_of_word(alloc, client)? {
+        Some(client) => Ok(Some(Event::Show { client })),
         None => Ok(None),
     }
 }

@@ -1,2 +1,6 @@
+mod AllAlong
 mod Histories
+mod Known
+mod Shown
+mod Taking
 mod Writes

@@ -15,8 +15,13 @@ use Rattle.disco_registry.specs.declared.op.Applied.{Applied}
 use Rattle.disco_registry.specs.declared.op.Applied.TheVariants as applied
 use Rattle.disco_queue.specs.Timed.{Timed}
 use Rattle.disco_world.specs.Answers.{IsAnswer}
-use Rattle.disco_world.specs.Events.{writes, after, after_deed, after_write, done}
-use Rattle.disco_world.specs.Steps.{Does, reply_to}
+use Rattle.disco_world.specs.Events.{Deed, World, clients_after, clients_done, in_full, loads, past_after, past_done, ran_out, writes, after_write, done}
+use Rattle.disco_instance.specs.declared.form.Form.{Form}
+use Rattle.disco_instance.specs.declared.form.Form.TheVariants.{Full, Compact}
+use Rattle.disco_cache.specs.declared.key.DocKey.{DocKey}
+use Rattle.disco_world.specs.declared.clients.Client.{Client}
+use Rattle.disco_world.specs.declared.event.Reply.{Reply}
+use Rattle.disco_world.specs.Steps.{AreHeld, Does, reply_to}
 use Rattle.disco_world.specs.declared.event.Reply.TheVariants.{Refused}
 
 -- what a hub does is done after all that it stands for
@@ -34,37 +39,51 @@ one_longer most p now ask c =
     length-map (with_done most p now ask (Some c)).timed (λ (t : Timed). t.0) ∙ length-append p.timed ((c, now) ∷ []) ∙ ap (λ n. n + 1) (sym (length-map p.timed (λ (t : Timed). t.0)))
 
 -- a refused operation leaves what has happened
-stays : (rules : Rules) (p : Past) (now : ℕ) (asked : Result Ask Fault) (f : Fault) → (f ≢ OutOfMemory → done rules p now asked ≡ Err f) → after rules p (writes now asked) (Refused f) ≡ p
+stays : (rules : Rules) (p : Past) (now : ℕ) (asked : Result Ask Fault) (f : Fault) → (f ≢ OutOfMemory → done rules p now asked ≡ Err f) → past_after rules p (writes now asked) (Refused f) ≡ p
 stays rules p now asked f refused = one (fault_number f == 1) refl
   where
     same : (asked : Result Ask Fault) (result : Result (Option Entry) Fault) → result ≡ Err f → after_write rules.queue p now asked result ≡ p
     same (Ok ask) result e = ap (after_write rules.queue p now (Ok ask)) e
     same (Err g) result e = refl
 
-    one : (b : Bool) → (fault_number f == 1) ≡ b → cond b p (after_deed rules p (writes now asked)) ≡ p
+    one : (b : Bool) → (fault_number f == 1) ≡ b → cond b p (past_done rules p (writes now asked)) ≡ p
     one true memory = refl
     one false memory = same asked (done rules p now asked) (refused (λ same. let bad = sym memory ∙ ap (λ x. fault_number x == 1) same in cc))
 
-module _ (old new : State) (p : Past) (now : ℕ) (ask : Ask) where
-  answer_by : (r : Result Applied Fault) → Gives done_by r (done (rules_of old) p now (Ok ask)) → StandsFor new (with_change old.queue.max p now (outcome r)) → IsAnswer (rules_of old) p (writes now (Ok ask)) (reply_to r new.registry.version)
-  answer_by (Ok (applied.Changed c)) gives stands = (_, gives, stands.registry.version ∙ one_longer old.queue.max p now _)
+module _ (old new : State) (w : World) (now : ℕ) (ask : Ask) where
+  answer_by : (r : Result Applied Fault) → Gives done_by r (done (rules_of old) w.past now (Ok ask)) → StandsFor new (with_change old.queue.max w.past now (outcome r)) → IsAnswer (rules_of old) w (writes now (Ok ask)) (reply_to r new.registry.version)
+  answer_by (Ok (applied.Changed c)) gives stands = (_, gives, stands.registry.version ∙ one_longer old.queue.max w.past now _)
   answer_by (Ok applied.Same) gives stands = gives
   answer_by (Err f) gives stands = gives
 
-  after_is : (r : Result Applied Fault) (v : ℕ) → Gives done_by r (done (rules_of old) p now (Ok ask)) → after (rules_of old) p (writes now (Ok ask)) (reply_to r v) ≡ with_change old.queue.max p now (outcome r)
-  after_is (Ok (applied.Changed c)) v gives = ap (after_write old.queue.max p now (Ok ask)) gives
-  after_is (Ok applied.Same) v gives = ap (after_write old.queue.max p now (Ok ask)) gives
-  after_is (Err f) v gives = stays (rules_of old) p now (Ok ask) f gives
+  after_is : (r : Result Applied Fault) (v : ℕ) → Gives done_by r (done (rules_of old) w.past now (Ok ask)) → past_after (rules_of old) w.past (writes now (Ok ask)) (reply_to r v) ≡ with_change old.queue.max w.past now (outcome r)
+  after_is (Ok (applied.Changed c)) v gives = ap (after_write old.queue.max w.past now (Ok ask)) gives
+  after_is (Ok applied.Same) v gives = ap (after_write old.queue.max w.past now (Ok ask)) gives
+  after_is (Err f) v gives = stays (rules_of old) w.past now (Ok ask) f gives
 
 pub does : (old new : State) (ask : Ask) (asked : Result Ask Fault) (now : ℕ) (r : Result Applied Fault) → asked ≡ Ok ask → IfOk r (λ a. accepts old.registry ask now ≡ Ok (done_by a)) → IfErr r (Refuses old.registry ask now)
     → ((p : Past) → StandsFor old p → StandsFor new (with_change old.queue.max p now (outcome r))) → Does old new (λ _. writes now asked) (reply_to r new.registry.version)
-does old new ask asked now r is done refused history = λ p stands.
-    let gives = gives old p ask now r stands done refused in
-    let here : IsAnswer (rules_of old) p (writes now (Ok ask)) (reply_to r new.registry.version) × StandsFor new (after (rules_of old) p (writes now (Ok ask)) (reply_to r new.registry.version))
-    = (answer_by old new p now ask r gives (history p stands), subst (StandsFor new) (sym (after_is old new p now ask r new.registry.version gives)) (history p stands)) in
-    subst (λ a. IsAnswer (rules_of old) p (writes now a) (reply_to r new.registry.version) × StandsFor new (after (rules_of old) p (writes now a) (reply_to r new.registry.version))) (sym is) here
+does old new ask asked now r is done refused history = λ w stands.
+    let gives = gives old w.past ask now r stands done refused in
+    let here : IsAnswer (rules_of old) w (writes now (Ok ask)) (reply_to r new.registry.version) × StandsFor new (past_after (rules_of old) w.past (writes now (Ok ask)) (reply_to r new.registry.version))
+        = (answer_by old new w now ask r gives (history w.past stands), subst (StandsFor new) (sym (after_is old new w now ask r new.registry.version gives)) (history w.past stands)) in
+    subst (λ a. IsAnswer (rules_of old) w (writes now a) (reply_to r new.registry.version) × StandsFor new (past_after (rules_of old) w.past (writes now a) (reply_to r new.registry.version))) (sym is) here
 
 pub does_nothing : (s : State) (asked : Result Ask Fault) (now : ℕ) (f : Fault) → (f ≢ OutOfMemory → asked ≡ Err f) → Does s s (λ _. writes now asked) (Refused f)
-does_nothing s asked now f refused = λ p stands.
-    let why : f ≢ OutOfMemory → done (rules_of s) p now asked ≡ Err f = λ other. ap (done (rules_of s) p now) (refused other) in
-    (why, subst (StandsFor s) (sym (stays (rules_of s) p now asked f why)) stands)
+does_nothing s asked now f refused = λ w stands.
+    let why : f ≢ OutOfMemory → done (rules_of s) w.past now asked ≡ Err f = λ other. ap (done (rules_of s) w.past now) (refused other) in
+    (why, subst (StandsFor s) (sym (stays (rules_of s) w.past now asked f why)) stands)
+
+-- a deed of the hub leaves the clients
+pub clients_stay : (clients : ℕ → Option Client) (what : Deed) (r : Bool) → clients_done clients what ≡ clients → cond r clients (clients_done clients what) ≡ clients
+clients_stay clients what true same = refl
+clients_stay clients what false same = same
+
+pub in_full_stays : (clients : ℕ → Option Client) (f : Form) (k : Result DocKey Fault) → clients_done clients (in_full f (loads k)) ≡ clients
+in_full_stays clients Full k = refl
+in_full_stays clients Compact k = refl
+
+pub with_clients : (old new : State) (held : ℕ → Option Client) (w : World) (what : Deed) (r : Reply) → clients_done w.clients what ≡ w.clients → AreHeld held w
+    → IsAnswer (rules_of old) w what r × StandsFor new (past_after (rules_of old) w.past what r)
+    → IsAnswer (rules_of old) w what r × StandsFor new (past_after (rules_of old) w.past what r) × AreHeld held (record w { clients = clients_after w.clients what r })
+with_clients old new held w what r same are so = (so.0, so.1, λ q. are q ∙ sym (ap (λ (f : ℕ → Option Client). f q) (clients_stay w.clients what (ran_out r) same)))

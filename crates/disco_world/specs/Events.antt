@@ -1,5 +1,5 @@
 -- What events are for, and what has happened after them.
-use Rattle.std.specs.Prelude.{ℕ, zero, suc, ◌==◌, List, Bool, true, false, if◌then◌else◌, Option, Some, None, Result, Ok, Err, slice_get}
+use Rattle.std.specs.Prelude.{ℕ, zero, suc, ◌==◌, List, [], ◌∷◌, ◌++◌, Bool, true, false, if◌then◌else◌, Option, Some, None, Result, Ok, Err, slice_get}
 use Rattle.std.specs.Str.{bytes_eq}
 use Rattle.disco_instance.specs.Fault.{fault_number}
 use Rattle.disco_instance.specs.Row.{Row}
@@ -21,16 +21,27 @@ use Rattle.disco_hub.specs.Refusals.{doc_of_key, refusal_of}
 use Rattle.disco_hub.specs.State.{Rules}
 use Rattle.disco_writer.specs.declared.query.Query.{Query}
 use Rattle.disco_writer.specs.declared.query.Query.TheVariants as query
+use Rattle.disco_cache.specs.declared.payload.Payload.{Payload}
+use Rattle.disco_world.specs.Clients.{clients_with}
+use Rattle.disco_world.specs.declared.clients.Client.{Client}
 use Rattle.disco_world.specs.declared.event.Event.{Event}
-use Rattle.disco_world.specs.declared.event.Event.TheVariants.{Register, Cancel, Renew, SetStatus, DropStatus, Metadata, Load, LoadById, Clean}
+use Rattle.disco_world.specs.declared.event.Event.TheVariants.{Register, Cancel, Renew, SetStatus, DropStatus, Metadata, Load, LoadById, Clean, Take, Show}
 use Rattle.disco_world.specs.declared.event.Reply.{Reply}
-use Rattle.disco_world.specs.declared.event.Reply.TheVariants.{Refused}
+use Rattle.disco_world.specs.declared.event.Reply.TheVariants.{Doc, Refused}
 
--- what an event is for: an operation at a moment in milliseconds, or why it is none; a document, or why it isn't served; a cleaning at a moment; nothing that can be run
+-- what has happened: to the registry, what each event answered, and the clients that have a copy
+pub record World : Type 0 where
+  pub past : Past
+  pub replies : List Reply
+  pub clients : ℕ → Option Client
+
+-- what an event is for: an operation at a moment in milliseconds, or why it is none; a document, or why it isn't served; a cleaning at a moment; a document for a client; a look at a client's copy; nothing that can be run
 pub data Deed : Type 0 where
   writes : ℕ → Result Ask Fault → Deed
   loads : Result DocKey Fault → Deed
   cleans : ℕ → Deed
+  takes : ℕ → Payload → Deed
+  shows : ℕ → Deed
   bad : Deed
 
 -- what a registration under an app's name asks: a record of another app is refused
@@ -70,17 +81,40 @@ abbrev pub in_full : Form → Deed → Deed
 in_full Full d = d
 in_full Compact d = bad
 
--- the table of events: what each is for after a history
-abbrev pub deed : Rules → List Entry → Event → Deed
-deed rules h (Register now app json) = writes now (registers app (registration_of json))
-deed rules h (Cancel now app id) = writes now (Ok (cancel (key_named app id)))
-deed rules h (Renew now app id) = writes now (Ok (renew (key_named app id)))
-deed rules h (SetStatus now app id status) = writes now (Ok (set_status (key_named app id) status))
-deed rules h (DropStatus now app id status) = writes now (Ok (drop_status (key_named app id) status))
-deed rules h (Metadata now app id entries) = writes now (Ok (add_metadata (key_named app id) entries))
-deed rules h (Load key) = in_full key.form (loads (loaded rules.delta (record { query = query_asked key.query; form = key.form }) h))
-deed rules h (LoadById id form) = in_full form (loads (loaded_of (by_id (reg h) id) form h))
-deed rules h (Clean now) = cleans now
+-- a document of all apps, or a delta
+abbrev pub for_clients : Query → Bool
+for_clients query.Apps = true
+for_clients query.Delta = true
+for_clients _ = false
+
+-- the document of a reply that a client can take, if it is one
+abbrev pub doc_in : Option Reply → Option Payload
+doc_in (Some (Doc d)) = if for_clients d.value.key.query then Some d.value else None
+doc_in _ = None
+
+-- the document that the event of that number, from 1, answered
+abbrev pub doc_of_event : List Reply → ℕ → Option Payload
+doc_of_event replies zero = None
+doc_of_event replies (suc i) = doc_in (slice_get replies i)
+
+-- a client can take an earlier document alone
+abbrev pub takes_any : ℕ → Option Payload → Deed
+takes_any client None = bad
+takes_any client (Some d) = takes client d
+
+-- the table of events: what each is for after what has happened
+abbrev pub deed : Rules → World → Event → Deed
+deed rules w (Register now app json) = writes now (registers app (registration_of json))
+deed rules w (Cancel now app id) = writes now (Ok (cancel (key_named app id)))
+deed rules w (Renew now app id) = writes now (Ok (renew (key_named app id)))
+deed rules w (SetStatus now app id status) = writes now (Ok (set_status (key_named app id) status))
+deed rules w (DropStatus now app id status) = writes now (Ok (drop_status (key_named app id) status))
+deed rules w (Metadata now app id entries) = writes now (Ok (add_metadata (key_named app id) entries))
+deed rules w (Load key) = in_full key.form (loads (loaded rules.delta (record { query = query_asked key.query; form = key.form }) (history w.past)))
+deed rules w (LoadById id form) = in_full form (loads (loaded_of (by_id (reg (history w.past)) id) form (history w.past)))
+deed rules w (Clean now) = cleans now
+deed rules w (Take client event) = takes_any client (doc_of_event w.replies event)
+deed rules w (Show client) = shows client
 
 -- what an operation does at a moment after what has happened, where it is one: its change or none, or the first cause against it
 abbrev pub done : Rules → Past → ℕ → Result Ask Fault → Result (Option Entry) Fault
@@ -93,27 +127,45 @@ after_write most p now (Ok ask) (Ok change) = with_change most p now change
 after_write most p now (Ok ask) (Err e) = p
 after_write most p now (Err e) result = p
 
--- what has happened after a deed that found memory
-abbrev pub after_deed : Rules → Past → Deed → Past
-after_deed rules p (writes now ask) = after_write rules.queue p now ask (done rules p now ask)
-after_deed rules p (loads k) = p
-after_deed rules p (cleans now) = cleaned rules.retention p now
-after_deed rules p bad = p
+-- what has happened to the registry after a deed that found memory
+abbrev pub past_done : Rules → Past → Deed → Past
+past_done rules p (writes now ask) = after_write rules.queue p now ask (done rules p now ask)
+past_done rules p (cleans now) = cleaned rules.retention p now
+past_done rules p _ = p
+
+-- the clients' copies after a deed that found memory
+abbrev pub clients_done : (ℕ → Option Client) → Deed → ℕ → Option Client
+clients_done clients (takes client d) = clients_with clients client d
+clients_done clients _ = clients
 
 -- the event found no memory
 abbrev pub ran_out : Reply → Bool
 ran_out (Refused e) = fault_number e == 1
 ran_out _ = false
 
--- what has happened after a deed with that answer: nothing more where there was no memory
-abbrev pub after : Rules → Past → Deed → Reply → Past
-after rules p what reply = if ran_out reply then p else after_deed rules p what
+abbrev pub past_after : Rules → Past → Deed → Reply → Past
+past_after rules p what reply = if ran_out reply then p else past_done rules p what
 
-abbrev pub after_at : Rules → Past → Option Event → Option Reply → Past
-after_at rules p (Some event) (Some reply) = after rules p (deed rules (history p) event) reply
-after_at rules p _ _ = p
+abbrev pub clients_after : (ℕ → Option Client) → Deed → Reply → ℕ → Option Client
+clients_after clients what reply = if ran_out reply then clients else clients_done clients what
+
+-- what has happened after a deed with that answer: nothing but the answer where there was no memory
+abbrev pub after : Rules → World → Deed → Reply → World
+after rules w what reply = record {
+  past = past_after rules w.past what reply;
+  replies = w.replies ++ reply ∷ [];
+  clients = clients_after w.clients what reply;
+}
+
+-- nothing has happened yet
+abbrev pub new_world : World
+new_world = record { past = nothing; replies = []; clients = λ c. None }
+
+abbrev pub after_at : Rules → World → Option Event → Option Reply → World
+after_at rules w (Some event) (Some reply) = after rules w (deed rules w event) reply
+after_at rules w _ _ = w
 
 -- what has happened after the first i events, with these replies
-unfoldable pub past : Rules → List Event → List Reply → ℕ → Past
-past rules events replies zero = nothing
-past rules events replies (suc i) = after_at rules (past rules events replies i) (slice_get events i) (slice_get replies i)
+unfoldable pub world : Rules → List Event → List Reply → ℕ → World
+world rules events replies zero = new_world
+world rules events replies (suc i) = after_at rules (world rules events replies i) (slice_get events i) (slice_get replies i)

@@ -1,3 +1,4 @@
 pub mod Answers
+pub mod Clients
 pub mod Events
 pub mod Steps

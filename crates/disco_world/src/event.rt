@@ -1,4 +1,5 @@
 //! Events and their replies.
+use crate::holding::Holdings;
 use disco_cache::{DocKey, Payload};
 use disco_instance::{Bytes, Entries, Fault, Form, Text};
 use std::alloc::Global;
@@ -60,6 +61,16 @@ pub enum Event {
     Clean {
         now: u64,
     },
+    /// A client is given the document that an earlier event answered, by the number of that event
+    /// from 1: one of all apps, or a delta.
+    Take {
+        client: u32,
+        event: u64,
+    },
+    /// A look at a client's copy.
+    Show {
+        client: u32,
+    },
 }
 
 /// What an event answers.
@@ -72,5 +83,13 @@ pub enum Reply {
     Doc(Arc<Payload, Global>),
     /// The queue was cleaned: the version from which deltas start now.
     Cleaned(u64),
+    /// A client took a document: whether the copy's hash code is now the document's, and the
+    /// version at which the copy is known, if it is known at one.
+    Taken {
+        hash_equal: bool,
+        version: Option<u64>,
+    },
+    /// The instances of a client's copy, by key.
+    Held(Holdings),
     Refused(Fault),
 }

@@ -5,7 +5,9 @@
 #![tactic(auto)]
 
 mod asks;
+mod clients;
 mod event;
+mod holding;
 mod loads;
 mod runs;
 
@@ -13,4 +15,5 @@ pub use disco_cache::{DocKey, Payload};
 pub use disco_hub::Settings;
 pub use disco_writer::Query;
 pub use event::{Event, Reply};
+pub use holding::{Holding, Holdings};
 pub use runs::run;

@@ -1,11 +1,10 @@
 //! Documents that are served, and those that aren't.
-ghost use Rattle.std.specs.Prelude.{◌≡◌, IfOk, IfErr};
+ghost use Rattle.std.specs.Prelude.{◌≡◌, IfOk, IfErr, IfNone, IfSome};
 ghost use Rattle.disco_instance.specs.declared.fault.Fault.TheVariants.{OutOfMemory};
 ghost use Rattle.disco_instance.specs.declared.form.Form.TheVariants.{Full};
-ghost use Rattle.disco_world.specs.Events.{query_asked, deed};
+ghost use Rattle.disco_world.specs.Events.{World, bad, deed, query_asked};
 ghost use Rattle.disco_world.specs.Steps.{Does, reply_of};
 ghost use Rattle.disco_world.specs.declared.event.Event.TheVariants as event;
-ghost use Rattle.disco_hub.specs.Past.{history};
 ghost use Rattle.disco_hub.specs.State.{rules_of};
 
 use crate::asks::key_named;
@@ -38,10 +37,9 @@ fn served(loaded: Result<Arc<Payload, Global>, Fault>) -> Reply
     }
 }
 
-/// Answers a load, by a key whose app may be in any case.
-pub(crate) fn load(alloc: Global, hub: &Hub, key: &DocKey) -> Reply
+fn load_full(alloc: Global, hub: &Hub, key: &DocKey) -> Reply
     requires { key.now.form ≡ Full }
-    ensures { Does hub.now hub.now (λ p. deed (rules_of hub.now) (history p) (event.Load key.now)) result }
+    ensures { Does hub.now hub.now (λ w. deed (rules_of hub.now) w (event.Load key.now)) result }
 {
     match query_asked(alloc, &key.query) {
         Ok(query) => served(hub.load(&DocKey {
@@ -52,10 +50,24 @@ pub(crate) fn load(alloc: Global, hub: &Hub, key: &DocKey) -> Reply
     }
 }
 
-/// Answers a load of the instance of an id.
-pub(crate) fn load_by_id(hub: &Hub, id: &Text, form: Form) -> Reply
-    requires { form ≡ Full }
-    ensures { Does hub.now hub.now (λ p. deed (rules_of hub.now) (history p) (event.LoadById id.now form)) result }
+/// Answers a load, by a key whose app may be in any case; none in the compact form.
+pub(crate) fn load(alloc: Global, hub: &Hub, key: &DocKey) -> Option<Reply>
+    ensures is_bad { IfNone result ((w : World) → deed (rules_of hub.now) w (event.Load key.now) ≡ bad) }
+    ensures does { IfSome result (Does hub.now hub.now (λ w. deed (rules_of hub.now) w (event.Load key.now))) }
 {
-    served(hub.by_id(id.as_str(), form))
+    match key.form {
+        Form::Full => Some(load_full(alloc, hub, key)),
+        Form::Compact => None,
+    }
+}
+
+/// Answers a load of the instance of an id; none in the compact form.
+pub(crate) fn load_by_id(hub: &Hub, id: &Text, form: Form) -> Option<Reply>
+    ensures is_bad { IfNone result ((w : World) → deed (rules_of hub.now) w (event.LoadById id.now form) ≡ bad) }
+    ensures does { IfSome result (Does hub.now hub.now (λ w. deed (rules_of hub.now) w (event.LoadById id.now form))) }
+{
+    match form {
+        Form::Full => Some(served(hub.by_id(id.as_str(), form))),
+        Form::Compact => None,
+    }
 }

@@ -1,96 +1,147 @@
 //! Runs of events.
-ghost use Rattle.std.specs.Prelude.{◌≡◌, ◌≢◌, false, length, IfOk, IfErr};
+ghost use Rattle.std.specs.Prelude.{◌≡◌, ◌≢◌, length, IfOk, IfErr, IfSome, IfNone, None, Result, Some, option_map};
+ghost use Rattle.std.specs.BTreeMap as tree;
+ghost use Rattle.std.specs.Ordering.{nat_cmp};
 ghost use Rattle.disco_instance.specs.Instance.{Gives};
 ghost use Rattle.disco_instance.specs.declared.fault.Fault.{Fault};
 ghost use Rattle.disco_instance.specs.declared.fault.Fault.TheVariants.{OutOfMemory};
 ghost use Rattle.disco_registry.specs.Op.{Ask, ask_of};
-ghost use Rattle.std.specs.Prelude.{Result};
-ghost use Rattle.disco_hub.specs.Past.{history};
-ghost use Rattle.disco_hub.specs.State.{rules, rules_of};
-ghost use Rattle.disco_world.specs.Answers.{AreAnswers, AreServed, IsFirstBadEvent};
-ghost use Rattle.disco_world.specs.Events.{deed, writes};
-ghost use Rattle.disco_world.specs.Steps.{Does, is_compact_load, reply_to};
+ghost use Rattle.disco_hub.specs.State.{StandsFor, rules, rules_of};
+ghost use Rattle.disco_world.specs.Answers.{AreAnswers, AreKnown, AreServed, IsAnswer, IsFirstBadEvent};
+ghost use Rattle.disco_world.specs.Events.{World, bad, deed, doc_in, doc_of_event, for_clients, past_after, clients_after, writes};
+ghost use Rattle.disco_world.specs.Steps.{AreHeld, AreReadable, Does, reply_to, reply_to_show, reply_to_take};
 
 use crate::asks::{add_metadata, cancel, drop_status, register, renew, set_status};
+use crate::clients::{Clients, Told, show, take};
 use crate::event::{Event, Reply};
+use crate::holding::Holdings;
 use crate::loads::{load, load_by_id};
-use disco_cache::DocKey;
+use disco_cache::Payload;
 use disco_hub::{Hub, Settings};
-use disco_instance::{Fault, Form};
+use disco_instance::Fault;
 use disco_registry::{Applied, Op};
+use disco_writer::Query;
 use std::alloc::Global;
+use std::collections::BTreeMap;
 
 /// Runs the events in order from an empty registry, and answers each. Refused as `BadEvent`, with
 /// the number of the first such event counted from 1, where a document is asked for in another form
-/// than the full one; and as `OutOfMemory` where no room for the replies is found. An event that
-/// finds no memory is answered so and changes nothing.
+/// than the full one, or a client is to take what is no earlier served document of all apps and no
+/// delta; and as `OutOfMemory` where no room for the replies is found. An event that finds no
+/// memory is answered so and changes nothing.
 pub fn run(alloc: Global, settings: &Settings, events: &[Event]) -> Result<Vec<Reply>, Fault>
     ensures each { IfOk result (λ replies. length replies.items ≡ length events.now) }
     ensures answers { IfOk result (λ replies. AreAnswers (rules settings.now) events.now replies.items) }
     ensures served { IfOk result (λ replies. AreServed (rules settings.now) events.now replies.items) }
+    ensures known { IfOk result (λ replies. AreKnown (rules settings.now) events.now replies.items) }
     ensures refused { IfErr result (λ e. e ≢ OutOfMemory → IsFirstBadEvent (rules settings.now) events.now e) }
 {
     let mut hub = Hub::new(alloc, settings);
+    let mut clients = BTreeMap::new(alloc);
     let mut replies = Vec::new(alloc);
     for event in events {
-        if is_compact_load(event) {
+        let Some(reply) = answer(alloc, &mut hub, &mut clients, replies.as_slice(), event) else {
             return Err(Fault::BadEvent(replies.len() as u64 + 1));
-        }
-        let reply = answer(alloc, &mut hub, event);
+        };
         replies.push(reply)?;
     }
     Ok(replies)
 }
 
-/// Whether the event asks for a document in the compact form.
-fn is_compact_load(event: &Event) -> bool
-    ensures { result ≡ is_compact_load event.now }
-{
-    matches!(
-        event,
-        Event::Load {
-            key: DocKey {
-                query: _,
-                form: Form::Compact
-            }
-        } | Event::LoadById {
-            id: _,
-            form: Form::Compact
-        }
-    )
-}
-
-/// Answers one event.
-fn answer(alloc: Global, hub: &mut Hub, event: &Event) -> Reply
-    requires { is_compact_load event.now ≡ false }
-    ensures does { Does hub.old hub.new (λ p. deed (rules_of hub.old) (history p) event.now) result }
+/// Answers one event, of which the earlier ones were answered so. Nothing is answered to what can't
+/// be run.
+fn answer(
+    alloc: Global,
+    hub: &mut Hub,
+    clients: &mut Clients,
+    replies: &[Reply],
+    event: &Event,
+) -> Option<Reply>
+    requires readable { AreReadable replies.now }
+    ensures is_bad { IfNone result ((w : World) → w.replies ≡ replies.now → deed (rules_of hub.old) w event.now ≡ bad) }
+    ensures does { IfSome result (λ r. (w : World) → w.replies ≡ replies.now → AreHeld (tree.get nat_cmp clients.old) w → StandsFor hub.old w.past
+        → let what = deed (rules_of hub.old) w event.now in IsAnswer (rules_of hub.old) w what r × StandsFor hub.new (past_after (rules_of hub.old) w.past what r)
+        × AreHeld (tree.get nat_cmp clients.new) (record w { clients = clients_after w.clients what r })) }
     ensures rules { rules_of hub.new ≡ rules_of hub.old }
 {
     match event {
-        Event::Register { now, app, json } => write(hub, *now, register(alloc, app, json)),
-        Event::Cancel { now, app, id } => write(hub, *now, cancel(alloc, app, id)),
-        Event::Renew { now, app, id } => write(hub, *now, renew(alloc, app, id)),
+        Event::Register { now, app, json } => Some(write(hub, *now, register(alloc, app, json))),
+        Event::Cancel { now, app, id } => Some(write(hub, *now, cancel(alloc, app, id))),
+        Event::Renew { now, app, id } => Some(write(hub, *now, renew(alloc, app, id))),
         Event::SetStatus {
             now,
             app,
             id,
             status,
-        } => write(hub, *now, set_status(alloc, app, id, status)),
+        } => Some(write(hub, *now, set_status(alloc, app, id, status))),
         Event::DropStatus {
             now,
             app,
             id,
             status,
-        } => write(hub, *now, drop_status(alloc, app, id, status)),
+        } => Some(write(hub, *now, drop_status(alloc, app, id, status))),
         Event::Metadata {
             now,
             app,
             id,
             entries,
-        } => write(hub, *now, add_metadata(alloc, app, id, entries)),
+        } => Some(write(hub, *now, add_metadata(alloc, app, id, entries))),
         Event::Load { key } => load(alloc, hub, key),
         Event::LoadById { id, form } => load_by_id(hub, id, *form),
-        Event::Clean { now } => Reply::Cleaned(hub.clean(*now)),
+        Event::Clean { now } => Some(Reply::Cleaned(hub.clean(*now))),
+        Event::Take { client, event } => match document(replies, *event) {
+            Some(payload) => Some(took(take(alloc, clients, *client, payload))),
+            None => None,
+        },
+        Event::Show { client } => Some(showed(show(alloc, clients, *client))),
+    }
+}
+
+fn for_clients(query: &Query) -> bool
+    ensures { result ≡ for_clients query.now }
+{
+    matches!(query, Query::Apps | Query::Delta)
+}
+
+fn document_in(reply: &Reply) -> Option<&Payload>
+    ensures { option_map (λ d. d.now) result ≡ doc_in (Some reply.now) }
+{
+    match reply {
+        Reply::Doc(payload) if for_clients(&payload.key.query) => Some(&**payload),
+        _ => None,
+    }
+}
+
+/// The document that the event of that number, from 1, answered, where a client can take it.
+fn document(replies: &[Reply], event: u64) -> Option<&Payload>
+    ensures { option_map (λ d. d.now) result ≡ doc_of_event replies.now event }
+{
+    if event == 0 || event > replies.len() as u64 {
+        return None;
+    }
+    document_in(&replies[event as usize - 1])
+}
+
+/// The reply to a take.
+fn took(told: Result<Told, Fault>) -> Reply
+    ensures { result ≡ reply_to_take told }
+{
+    match told {
+        Ok((hash_equal, version)) => Reply::Taken {
+            hash_equal,
+            version,
+        },
+        Err(fault) => Reply::Refused(fault),
+    }
+}
+
+/// The reply to a show.
+fn showed(shown: Result<Holdings, Fault>) -> Reply
+    ensures { result ≡ reply_to_show shown }
+{
+    match shown {
+        Ok(holdings) => Reply::Held(holdings),
+        Err(fault) => Reply::Refused(fault),
     }
 }
 

@@ -1,25 +1,57 @@
-use Rattle.std.proofs.Common.{refl}
+use Rattle.std.proofs.Common.{◌≡◌, List, refl, sym, ap, subst, ◌∙◌, Option, Some, None, IfNone, arith}
+use Rattle.std.specs.BTreeMap as tree
+use Rattle.std.specs.Ordering.{nat_cmp}
 use Rattle.disco_hub.specs.State.{rules}
-use Rattle.disco_world.specs.Events.{past}
-use Rattle.disco_world.proofs.Histories.{at_index, no_answers, run_more, served}
+use Rattle.disco_world.specs.Events.{world}
+use Rattle.disco_world.specs.Steps.{AreReadable}
+use Rattle.disco_world.specs.declared.event.Reply.{Reply}
+use Rattle.disco_world.proofs.Histories.{at_index, first_bad, no_answers, run_more, served}
+use Rattle.disco_world.proofs.AllAlong.{all_readable, holds_at, known}
 use Rattle.disco_world.proofs.runs.run.Goals as goal
 
+none_by : (o : Option Reply) (P : Type 0) → ((x : Reply) → o ≡ Some x → ⊥) → IfNone o P → P
+none_by None P not is = is
+none_by (Some x) P not is = absurd (not x refl)
+
 pub loop-event-init : goal.loop-event-init
-unfolding past
+unfolding world
 loop-event-init c = record {
   count = rw c.new-replies.ensures.items refl;
   stands = c.new-hub.ensures.empty;
+  held = λ q. search (c.new-clients.ensures.empty);
+  replies = sym c.new-replies.ensures.items;
   rules_are = c.new-hub.ensures.rules;
   answers = no_answers (rules c.args.settings.now) c.args.events.now c.new-replies.result.items c.new-replies.ensures.items;
 }
+
+pub answer-requires : goal.answer-requires
+answer-requires c =
+    let run = c.loop-event.invariant in
+    let readable : AreReadable c.loop-event.replies.items = subst AreReadable run.replies (all_readable _ (holds_at (rules c.args.settings.now) c.args.events.now c.loop-event.replies.items run.answers c.loop-event.event-index)) in
+    record { readable = subst AreReadable (sym c.as_slice.ensures.value) readable }
+
+pub returns-in_default-clause-refused : goal.returns-in_default-clause-refused
+returns-in_default-clause-refused c = λ other.
+    let run = c.loop-event.invariant in
+    let es = c.args.events.now in
+    let i = c.loop-event.event-index in
+    let e = c.event-item.result in
+    first_bad (rules c.args.settings.now) es c.loop-event.replies.items i e c.len.result c.loop-event.hub (tree.get nat_cmp c.loop-event.clients) run
+    (at_index es i e c.loop-event-test.true c.event-item.is) (omega (arith, c.len.ensures, c.loop-event.replies.ok.0))
+    (λ w replies. none_by c.answer.result _ c.in_default.not-Some c.answer.ensures.is_bad w (replies ∙ sym c.as_slice.ensures.value))
 
 pub loop-event-preserved : goal.loop-event-preserved
 loop-event-preserved c =
     let es = c.args.events.now in
     let i = c.loop-event.event-index in
     let e = c.event-item.result in
-    rw c.in_ok-push.ensures.items (run_more (rules c.args.settings.now) es c.loop-event.replies.items i e c.answer-reply.result c.loop-event.invariant.count (at_index es i e c.loop-event-test.true c.event-item.is)
-    c.loop-event.hub c.answer-reply.new.hub c.loop-event.invariant c.answer-reply.ensures.does c.answer-reply.ensures.rules)
+    let run = c.loop-event.invariant in
+    rw c.in_ok-push.ensures.items (run_more (rules c.args.settings.now) es c.loop-event.replies.items i e c.in-Some.reply run.count (at_index es i e c.loop-event-test.true c.event-item.is)
+    c.loop-event.hub c.answer.new.hub (tree.get nat_cmp c.loop-event.clients) (tree.get nat_cmp c.answer.new.clients) run
+    (λ w replies held stands. c.in-Some.ensures.does w (replies ∙ sym c.as_slice.ensures.value) held stands) c.answer.ensures.rules)
 
 pub returns-clause-served : goal.returns-clause-served
 returns-clause-served c = served (rules c.args.settings.now) c.args.events.now c.loop-event.replies.items c.loop-event.invariant.answers
+
+pub returns-clause-known : goal.returns-clause-known
+returns-clause-known c = known (rules c.args.settings.now) c.args.events.now c.loop-event.replies.items c.loop-event.invariant.answers

@@ -1,0 +1,172 @@
+-- After each event of a run, what clients can take is true of a version, and each copy means the version at which it is known.
+use Rattle.std.proofs.Common.{◌≡◌, ℕ, zero, suc, ◌+◌, ◌<◌, ◌≤◌, Bool, true, false, cond, eqb, List, [], ◌∷◌, ◌++◌, length, map, Option, Some, None, Result, Ok, Err, slice_get, refl, sym, ap, subst, ◌∙◌, arith}
+use Rattle.std.specs.declared.alloc.Global.{Global}
+use Rattle.std.specs.declared.sync.Arc.{Arc}
+use Rattle.std.proofs.lemmas.Option.{same_Some}
+use Rattle.disco_instance.specs.declared.fault.Fault.{Fault}
+use Rattle.disco_instance.specs.declared.form.Form.{Form}
+use Rattle.disco_instance.specs.declared.form.Form.TheVariants.{Full, Compact}
+use Rattle.disco_history.specs.Change.{Entry}
+use Rattle.disco_registry.specs.Op.{Ask}
+use Rattle.disco_queue.specs.Timed.{Timed, changes}
+use Rattle.disco_writer.specs.Documents.{is_delta}
+use Rattle.disco_cache.specs.declared.key.DocKey.{DocKey}
+use Rattle.disco_cache.specs.declared.payload.Payload.{Payload}
+use Rattle.disco_hub.specs.Past.{Past, history}
+use Rattle.disco_hub.specs.State.{Rules}
+use Rattle.disco_world.specs.Answers.{AreAnswers, AreKnown, IsAnswer}
+use Rattle.disco_world.specs.Clients.{MeansVersion, clients_with, taken}
+use Rattle.disco_world.specs.Events.{Deed, World, writes, loads, cleans, takes, shows, bad, after, after_at, after_write, clients_after, clients_done, deed, doc_in, doc_of_event, done, for_clients, in_full, past_after, past_done, ran_out, takes_any, world}
+use Rattle.disco_world.specs.Steps.{AreReadable}
+use Rattle.disco_world.specs.declared.clients.Client.{Client}
+use Rattle.disco_world.specs.declared.event.Event.{Event}
+use Rattle.disco_world.specs.declared.event.Event.TheVariants.{Register, Cancel, Renew, SetStatus, DropStatus, Metadata, Load, LoadById, Clean, Take, Show}
+use Rattle.disco_world.specs.declared.event.Reply.{Reply}
+use Rattle.disco_world.specs.declared.event.Reply.TheVariants.{Changed, Same, Doc, Cleaned, Taken, Held, Refused}
+use Rattle.disco_world.proofs.Histories.{Place, below, at, beyond, get_front, get_last, get_past, place_of}
+use Rattle.disco_world.proofs.Known.{Extends, IsOf, delta_means, extends_more, extends_same, full_means, means_on, of_now, of_on, readable}
+
+-- ---- a history only grows
+
+map_more : (ts : List Timed) (t : Timed) → changes (ts ++ t ∷ []) ≡ changes ts ++ t.0 ∷ []
+map_more [] t = refl
+map_more (s ∷ ts) t = ap (λ cs. s.0 ∷ cs) (map_more ts t)
+
+write_extends : (most : ℕ) (p : Past) (now : ℕ) (asked : Result Ask Fault) (result : Result (Option Entry) Fault) → Extends (history p) (history (after_write most p now asked result))
+write_extends most p now (Ok ask) (Ok (Some c)) = subst (Extends (history p)) (sym (map_more p.timed (c, now))) (extends_more (history p) c)
+write_extends most p now (Ok ask) (Ok None) = extends_same (history p)
+write_extends most p now (Ok ask) (Err e) = extends_same (history p)
+write_extends most p now (Err e) result = extends_same (history p)
+
+done_extends : (rules : Rules) (p : Past) (what : Deed) → Extends (history p) (history (past_done rules p what))
+done_extends rules p (writes now asked) = write_extends rules.queue p now asked (done rules p now asked)
+done_extends rules p (loads k) = extends_same (history p)
+done_extends rules p (cleans now) = extends_same (history p)
+done_extends rules p (takes client d) = extends_same (history p)
+done_extends rules p (shows client) = extends_same (history p)
+done_extends rules p bad = extends_same (history p)
+
+past_extends : (rules : Rules) (p : Past) (what : Deed) (r : Bool) → Extends (history p) (history (cond r p (past_done rules p what)))
+past_extends rules p what true = extends_same (history p)
+past_extends rules p what false = done_extends rules p what
+
+-- ---- what is true after each event
+
+pub record Holds (w : World) : Type 0 where
+  pub docs : (k : ℕ) (d : Payload) → doc_of_event w.replies k ≡ Some d → IsOf (history w.past) d
+  pub copies : (q : ℕ) (c : Client) → w.clients q ≡ Some c → MeansVersion (history w.past) c
+
+pub all_readable : (w : World) → Holds w → AreReadable w.replies
+all_readable w holds = λ k d is. readable (history w.past) d (holds.docs k d is)
+
+-- the document of a deed that gives a client one is true of a version
+abbrev IsGood : List Entry → Deed → Type 0
+IsGood h (takes client d) = IsOf h d
+IsGood h _ = Unit {0}
+
+full_good : (h : List Entry) (f : Form) (k : Result DocKey Fault) → IsGood h (in_full f (loads k))
+full_good h Full k = tt
+full_good h Compact k = tt
+
+take_good : (h : List Entry) (client : ℕ) (o : Option Payload) → ((d : Payload) → o ≡ Some d → IsOf h d) → IsGood h (takes_any client o)
+take_good h client None is = tt
+take_good h client (Some d) is = is d refl
+
+good : (rules : Rules) (w : World) (e : Event) → Holds w → IsGood (history w.past) (deed rules w e)
+good rules w (Register now app json) holds = tt
+good rules w (Cancel now app id) holds = tt
+good rules w (Renew now app id) holds = tt
+good rules w (SetStatus now app id status) holds = tt
+good rules w (DropStatus now app id status) holds = tt
+good rules w (Metadata now app id entries) holds = tt
+good rules w (Load key) holds = full_good (history w.past) key.form _
+good rules w (LoadById id form) holds = full_good (history w.past) form _
+good rules w (Clean now) holds = tt
+good rules w (Take client event) holds = take_good (history w.past) client (doc_of_event w.replies event) (holds.docs event)
+good rules w (Show client) holds = tt
+
+-- ---- documents
+
+kind_of : (d : Arc Payload Global) (e : Payload) (b : Bool) → for_clients d.value.key.query ≡ b → cond b (Some d.value) None ≡ Some e → (for_clients d.value.key.query ≡ true) × (d.value ≡ e)
+kind_of d e true kind is = (kind, same_Some _ _ is)
+kind_of d e false kind is = absurd (cc)
+
+served_is : (rules : Rules) (w : World) (what : Deed) (r : Reply) (d : Payload) → IsAnswer rules w what r → doc_in (Some r) ≡ Some d → IsOf (history w.past) d
+served_is rules w (loads k) (Doc p) d answer is =
+    let kind = kind_of p d (for_clients p.value.key.query) refl is in
+    subst (IsOf (history w.past)) kind.1 (of_now (history w.past) p.value answer.0.true_now answer.1 kind.0)
+served_is rules w (writes now asked) (Doc p) d answer is = absurd answer
+served_is rules w (cleans now) (Doc p) d answer is = absurd answer
+served_is rules w (takes client other) (Doc p) d answer is = absurd answer
+served_is rules w (shows client) (Doc p) d answer is = absurd answer
+served_is rules w bad (Doc p) d answer is = absurd answer
+served_is rules w what (Changed v) d answer is = absurd (cc)
+served_is rules w what Same d answer is = absurd (cc)
+served_is rules w what (Cleaned b) d answer is = absurd (cc)
+served_is rules w what (Taken equal version) d answer is = absurd (cc)
+served_is rules w what (Held holdings) d answer is = absurd (cc)
+served_is rules w what (Refused e) d answer is = absurd (cc)
+
+docs_after : (rules : Rules) (w : World) (what : Deed) (r : Reply) → Holds w → IsAnswer rules w what r → (k : ℕ) (d : Payload) → doc_of_event (w.replies ++ r ∷ []) k ≡ Some d → IsOf (history w.past) d
+docs_after rules w what r holds answer zero d is = absurd (cc)
+docs_after rules w what r holds answer (suc i) d is = by (place_of i (length w.replies))
+  where
+    by : Place i (length w.replies) → IsOf (history w.past) d
+    by (below lt) = holds.docs (suc i) d (ap doc_in (sym (get_front w.replies r i lt)) ∙ is)
+    by (at e) = served_is rules w what r d answer (ap doc_in (sym (get_last w.replies r) ∙ ap (slice_get (w.replies ++ r ∷ [])) (sym e)) ∙ is)
+    by (beyond lt) = absurd (let bad = ap doc_in (sym (get_past w.replies r i lt)) ∙ is in cc)
+
+-- ---- copies
+
+took : (h : List Entry) (d : Payload) (held : Option Client) (c : Client) → IsOf h d → ((o : Client) → held ≡ Some o → MeansVersion h o) → taken d held ≡ Some c → MeansVersion h c
+took h d held c is means gets = by (is_delta d.key.query) refl
+  where
+    by : (b : Bool) → is_delta d.key.query ≡ b → MeansVersion h c
+    by true delta = delta_means h d held c is delta means gets
+    by false full = full_means h d held c is full gets
+
+one_of : (h : List Entry) (clients : ℕ → Option Client) (client q : ℕ) (d : Payload) (c : Client) (b : Bool) → IsOf h d → ((q : ℕ) (o : Client) → clients q ≡ Some o → MeansVersion h o)
+    → cond b (taken d (clients client)) (clients q) ≡ Some c → MeansVersion h c
+one_of h clients client q d c true is means e = took h d (clients client) c is (means client) e
+one_of h clients client q d c false is means e = means q c e
+
+copies_done : (h : List Entry) (clients : ℕ → Option Client) (what : Deed) (q : ℕ) (c : Client) → IsGood h what → ((q : ℕ) (o : Client) → clients q ≡ Some o → MeansVersion h o) → clients_done clients what q ≡ Some c → MeansVersion h c
+copies_done h clients (takes client d) q c is means e = one_of h clients client q d c (eqb q client) is means e
+copies_done h clients (writes now asked) q c is means e = means q c e
+copies_done h clients (loads k) q c is means e = means q c e
+copies_done h clients (cleans now) q c is means e = means q c e
+copies_done h clients (shows client) q c is means e = means q c e
+copies_done h clients bad q c is means e = means q c e
+
+copies_after : (h : List Entry) (clients : ℕ → Option Client) (what : Deed) (r : Bool) (q : ℕ) (c : Client) → IsGood h what → ((q : ℕ) (o : Client) → clients q ≡ Some o → MeansVersion h o)
+    → cond r clients (clients_done clients what) q ≡ Some c → MeansVersion h c
+copies_after h clients what true q c is means e = means q c e
+copies_after h clients what false q c is means e = copies_done h clients what q c is means e
+
+-- ---- one event on, and all
+
+holds_after : (rules : Rules) (w : World) (e : Event) (r : Reply) → Holds w → IsAnswer rules w (deed rules w e) r → Holds (after rules w (deed rules w e) r)
+holds_after rules w e r holds answer =
+    let what = deed rules w e in
+    let ext = past_extends rules w.past what (ran_out r) in
+    record {
+      docs = λ k d is. of_on (history w.past) (history (past_after rules w.past what r)) d ext (docs_after rules w what r holds answer k d is);
+      copies = λ q c is. means_on (history w.past) (history (past_after rules w.past what r)) c ext (copies_after (history w.past) w.clients what (ran_out r) q c (good rules w e holds) holds.copies is);
+    }
+
+no_docs : (k : ℕ) (d : Payload) → doc_of_event [] k ≡ Some d → ⊥
+no_docs zero d is = cc
+no_docs (suc i) d is = cc
+
+one_on : (rules : Rules) (es : List Event) (rs : List Reply) → AreAnswers rules es rs → (i : ℕ) → Holds (world rules es rs i) → (e : Option Event) → slice_get es i ≡ e → (r : Option Reply) → slice_get rs i ≡ r → Holds (after_at rules (world rules es rs i) e r)
+one_on rules es rs answers i holds (Some e) event (Some r) reply = holds_after rules (world rules es rs i) e r holds (answers i e r event reply)
+one_on rules es rs answers i holds None event r reply = holds
+one_on rules es rs answers i holds (Some e) event None reply = holds
+
+pub holds_at : (rules : Rules) (es : List Event) (rs : List Reply) → AreAnswers rules es rs → (i : ℕ) → Holds (world rules es rs i)
+unfolding world
+holds_at rules es rs answers zero = record { docs = λ k d is. absurd (no_docs k d is); copies = λ q c is. absurd (cc) }
+holds_at rules es rs answers (suc i) = one_on rules es rs answers i (holds_at rules es rs answers i) (slice_get es i) refl (slice_get rs i) refl
+
+pub known : (rules : Rules) (es : List Event) (rs : List Reply) → AreAnswers rules es rs → AreKnown rules es rs
+known rules es rs answers = λ i client c is. (holds_at rules es rs answers i).copies client c is

@@ -1,0 +1,242 @@
+-- Copies that are known at a version, and documents that are true of a version.
+use Rattle.std.proofs.Common.{◌≡◌, ◌≢◌, ℕ, zero, suc, ◌+◌, ◌<◌, ◌≤◌, ◌&&◌, nat_le, nat_eq, Bool, true, false, cond, List, [], ◌∷◌, ◌++◌, length, map, take, Option, Some, None, option_map, option_and_then, Result, Ok, Err, slice_get, refl, sym, ap, subst, ◌∙◌, arith}
+use Rattle.std.proofs.lemmas.Option.{same_Some}
+use Rattle.std.proofs.lemmas.Bool.Decides.{nat_tests}
+use Rattle.std.specs.declared.alloc.Global.{Global}
+use Rattle.std.specs.declared.sync.Arc.{Arc}
+use Rattle.std.specs.FinMap.{FinMap, get, keys, values, same_map}
+use Rattle.disco_instance.specs.Key.{key_cmp}
+use Rattle.disco_instance.specs.Row.{Row}
+use Rattle.disco_instance.specs.declared.action.Action.{Action}
+use Rattle.disco_instance.specs.declared.action.Action.TheVariants.{Added, Modified, Deleted}
+use Rattle.disco_instance.specs.declared.form.Form.{Form}
+use Rattle.disco_instance.specs.declared.form.Form.TheVariants.{Full, Compact}
+use Rattle.disco_instance.specs.declared.key.Key.{Key}
+use Rattle.disco_history.specs.Change.{Entry, front, key_of, last}
+use Rattle.disco_history.specs.Forms.{formed}
+use Rattle.disco_history.specs.Laws.{CopyLaw, OverlayLaw}
+use Rattle.disco_history.specs.Mentions.{Mention, copied, delta, known, mention_of, overlaid_by, overlay}
+use Rattle.disco_history.specs.Registry.{put_of, reg}
+use Rattle.disco_history.proofs.Keys.{keys_total, exact_keys, get-chosen}
+use Rattle.disco_history.proofs.Lasts.{last_mapped}
+use Rattle.disco_history.proofs.Overlays.{copy_law, known_all, overlay_law}
+use Rattle.disco_history.proofs.Sets.{first_of, get-overlay, get-reg, not_there}
+use Rattle.std.proofs.lemmas.List.{length-append, take-append-le, take-take, take_all}
+use Rattle.disco_history.specs.Query.{all}
+use Rattle.disco_history.proofs.Restrictions.{values-said_all}
+use Rattle.disco_wire.specs.Documents.{document_of}
+use Rattle.disco_wire.specs.Meaning.{Meaning}
+use Rattle.disco_writer.specs.Documents.{IsTrueDelta, IsTrueFor, asked_by, delta_meaning, is_delta, meaning_for, mentioned}
+use Rattle.disco_writer.specs.declared.query.Query.{Query}
+use Rattle.disco_writer.specs.declared.query.Query.TheVariants as query
+use Rattle.disco_cache.specs.Payloads.{IsTrue, IsTrueBy}
+use Rattle.disco_cache.specs.declared.payload.Payload.{Payload}
+use Rattle.disco_world.specs.Clients.{MeansVersion, in_form, moved, same_form, taken, taken_by, taken_from}
+use Rattle.disco_world.specs.Events.{for_clients}
+use Rattle.disco_world.specs.Steps.{IsReadable}
+use Rattle.disco_world.specs.declared.clients.Client.{Client}
+use Rattle.disco_world.specs.declared.clients.Known.{Known}
+
+-- ---- the form goes through copies and overlays
+
+abbrev pub in_form_mention : Form → Entry → Mention
+in_form_mention f e = (formed f e.0, Some e.1)
+
+abbrev formed_entry : Form → Entry → Entry
+formed_entry f e = (formed f e.0, e.1)
+
+abbrev formed_at : Form → Option Row → Option Row
+formed_at f o = option_map (formed f) o
+
+same_keys : (f : Form) (e : Entry) → key_of (formed_entry f e) ≡ key_of e
+same_keys Full e = refl
+same_keys Compact e = refl
+
+get-in_form : (f : Form) (s : FinMap key_cmp Row) (q : Key) → get (in_form f s) q ≡ formed_at f (get s q)
+get-in_form f s q = get-chosen (λ k. formed_at f (get s k)) q (keys s) (λ e. ap (formed_at f) (not_there s q e))
+
+known_formed : (f : Form) (es : List Entry) → known (map (in_form_mention f) es) ≡ map (formed_entry f) es
+known_formed f [] = refl
+known_formed f (e ∷ es) = ap (λ r. formed_entry f e ∷ r) (known_formed f es)
+
+kept_formed : (f : Form) (r : Row) (a : Action) (x : Option Row) → overlaid_by (formed_at f x) (Some (formed f r, a)) ≡ formed_at f (overlaid_by x (Some (r, a)))
+kept_formed f r Added x = refl
+kept_formed f r Modified x = refl
+kept_formed f r Deleted x = refl
+
+overlaid_formed : (f : Form) (x : Option Row) (o : Option Entry) → overlaid_by (formed_at f x) (option_map (formed_entry f) o) ≡ formed_at f (overlaid_by x o)
+overlaid_formed f x None = refl
+overlaid_formed f x (Some (r, a)) = kept_formed f r a x
+
+pub overlay_formed : (f : Form) (s : FinMap key_cmp Row) (es : List Entry) → overlay (in_form f s) (map (in_form_mention f) es) ≡ in_form f (overlay s (map mention_of es))
+overlay_formed f s es = same_map keys_total exact_keys _ _ (λ q.
+    get-overlay (in_form f s) (map (in_form_mention f) es) q
+    ∙ ap (λ xs. overlaid_by (get (in_form f s) q) (last xs q)) (known_formed f es)
+    ∙ ap (overlaid_by (get (in_form f s) q)) (last_mapped (formed_entry f) (same_keys f) es q)
+    ∙ ap (λ x. overlaid_by x (option_map (formed_entry f) (last es q))) (get-in_form f s q)
+    ∙ overlaid_formed f (get s q) (last es q)
+    ∙ ap (λ xs. formed_at f (overlaid_by (get s q) (last xs q))) (sym (known_all es))
+    ∙ ap (formed_at f) (sym (get-overlay s (map mention_of es) q))
+    ∙ sym (get-in_form f (overlay s (map mention_of es)) q))
+
+abbrev added : Entry → Entry
+added e = (e.0, Added)
+
+added_formed : (f : Form) (es : List Entry) → map (λ (m : Mention). (m.0, Added)) (map (in_form_mention f) es) ≡ map (formed_entry f) (map (λ (m : Mention). (m.0, Added)) (map mention_of es))
+added_formed f [] = refl
+added_formed f (e ∷ es) = ap (λ r. formed_entry f (added e) ∷ r) (added_formed f es)
+
+put_formed : (f : Form) (r : Row) (a : Action) → first_of (option_and_then put_of (Some (formed f r, a))) ≡ formed_at f (first_of (option_and_then put_of (Some (r, a))))
+put_formed f r Added = refl
+put_formed f r Modified = refl
+put_formed f r Deleted = refl
+
+puts_formed : (f : Form) (o : Option Entry) → first_of (option_and_then put_of (option_map (formed_entry f) o)) ≡ formed_at f (first_of (option_and_then put_of o))
+puts_formed f None = refl
+puts_formed f (Some (r, a)) = put_formed f r a
+
+pub copied_formed : (f : Form) (es : List Entry) → copied (map (in_form_mention f) es) ≡ in_form f (copied (map mention_of es))
+copied_formed f es = same_map keys_total exact_keys _ _ (λ q.
+    let plain = map (λ (m : Mention). (m.0, Added)) (map mention_of es) in
+    get-reg (map (λ (m : Mention). (m.0, Added)) (map (in_form_mention f) es)) q
+    ∙ ap (λ xs. first_of (option_and_then put_of (last xs q))) (added_formed f es)
+    ∙ ap (λ o. first_of (option_and_then put_of o)) (last_mapped (formed_entry f) (same_keys f) plain q)
+    ∙ puts_formed f (last plain q)
+    ∙ ap (formed_at f) (sym (get-reg plain q))
+    ∙ sym (get-in_form f (copied (map mention_of es)) q))
+
+-- ---- versions of a history that goes on
+
+pub record Extends (h g : List Entry) : Type 0 where
+  pub longer : length h ≤ length g
+  pub begins : take (length h) g ≡ h
+
+pub extends_same : (h : List Entry) → Extends h h
+extends_same h = record { longer = omega arith; begins = take_all (length h) h (omega arith) }
+
+pub extends_more : (h : List Entry) (c : Entry) → Extends h (h ++ c ∷ [])
+extends_more h c = record { longer = omega (arith, length-append h (c ∷ [])); begins = take-append-le (length h) h (c ∷ []) (omega arith) ∙ take_all (length h) h (omega arith) }
+
+same_version : (h g : List Entry) (v : ℕ) → Extends h g → v ≤ length h → front g v ≡ front h v
+same_version h g v ext le = sym (take-take v (length h) g le) ∙ ap (take v) ext.begins
+
+pub means_on : (h g : List Entry) (c : Client) → Extends h g → MeansVersion h c → MeansVersion g c
+means_on h g c ext means = λ at is.
+    let so = means at is in
+    (omega (arith, so.0, ext.longer), so.1 ∙ ap (λ x. in_form at.form (reg x)) (sym (same_version h g at.version ext so.0)))
+
+-- a document that a client can take, true of a version of the history
+pub record IsOf (h : List Entry) (d : Payload) : Type 0 where
+  pub inside : d.version ≤ length h
+  pub true_then : IsTrue d (front h d.version)
+  pub kind : for_clients d.key.query ≡ true
+
+pub of_on : (h g : List Entry) (d : Payload) → Extends h g → IsOf h d → IsOf g d
+of_on h g d ext is = record {
+  inside = omega (arith, is.inside, ext.longer);
+  true_then = subst (IsTrue d) (sym (same_version h g d.version ext is.inside)) is.true_then;
+  kind = is.kind;
+}
+
+pub of_now : (h : List Entry) (d : Payload) → IsTrue d h → d.version ≡ length h → for_clients d.key.query ≡ true → IsOf h d
+of_now h d is version kind = record {
+  inside = omega (arith, version);
+  true_then = subst (IsTrue d) (sym (ap (λ n. take n h) version ∙ take_all (length h) h (omega arith))) is;
+  kind = kind;
+}
+
+-- ---- what such a document means
+
+all_asked : (q : Query) → for_clients q ≡ true → asked_by q ≡ all
+all_asked query.Apps e = refl
+all_asked query.Delta e = refl
+all_asked (query.App name) e = absurd (cc)
+all_asked (query.Vip vip) e = absurd (cc)
+all_asked (query.Svip svip) e = absurd (cc)
+all_asked (query.Instance key) e = absurd (cc)
+
+true_full : (h : List Entry) (d : Payload) → IsOf h d → is_delta d.key.query ≡ false → IsTrueFor all d.text d.base d.version d.key.form (front h d.version)
+true_full h d is full =
+    let for_query : IsTrueFor (asked_by d.key.query) d.text d.base d.version d.key.form (front h d.version) = subst (λ b. IsTrueBy b d (front h d.version)) full is.true_then in
+    subst (λ a. IsTrueFor a d.text d.base d.version d.key.form (front h d.version)) (all_asked d.key.query is.kind) for_query
+
+true_delta : (h : List Entry) (d : Payload) → IsOf h d → is_delta d.key.query ≡ true → IsTrueDelta d.text d.base d.version d.key.form (front h d.version)
+true_delta h d is kind = subst (λ b. IsTrueBy b d (front h d.version)) kind is.true_then
+
+pub readable : (h : List Entry) (d : Payload) → IsOf h d → IsReadable d
+readable h d is = by (is_delta d.key.query) refl
+  where
+    by : (b : Bool) → is_delta d.key.query ≡ b → IsReadable d
+    by true e = (_, ((true_delta h d is e).meaning, refl))
+    by false e = (_, ((true_full h d is e).meaning, refl))
+
+pub taken_is : (d : Payload) (held : Option Client) (b : Bool) (m : Meaning) → is_delta d.key.query ≡ b → document_of d.text ≡ Ok m → taken d held ≡ taken_by b d m held
+taken_is d held b m kind means = ap (λ x. taken_from d x held) means ∙ ap (λ b. taken_by b d m held) kind
+
+same_known : (c : Client) (s : FinMap key_cmp Row) (at now : Known) → c ≡ record { copy = s; known = Some now } → c.known ≡ Some at → now ≡ at
+same_known c s at now e is = same_Some now at (sym (ap (λ (c : Client). c.known) e) ∙ is)
+
+pub full_means : (h : List Entry) (d : Payload) (held : Option Client) (c : Client) → IsOf h d → is_delta d.key.query ≡ false → taken d held ≡ Some c → MeansVersion h c
+full_means h d held c is full takes = λ at known.
+    let f = d.key.form in
+    let v = d.version in
+    let g = front h v in
+    let m = meaning_for all f g v in
+    let t = true_full h d is full in
+    let now : Known = record { form = f; version = v } in
+    let e : c ≡ record { copy = copied m.mentions; known = Some now } = same_Some _ _ (sym takes ∙ taken_is d held false m full t.meaning) in
+    let so : now ≡ at = same_known c (copied m.mentions) at now e known in
+    let copy : c.copy ≡ in_form f (reg g) =
+        ap (λ (c : Client). c.copy) e ∙ copied_formed f (mentioned all g) ∙ ap (λ es. in_form f (copied (map mention_of es))) (values-said_all g) ∙ ap (in_form f) (copy_law g) in
+    (subst (λ (k : Known). k.version ≤ length h) so is.inside, copy ∙ ap (λ (k : Known). in_form k.form (reg (front h k.version))) so)
+
+-- ---- deltas
+
+pub record Moves (k : Known) (f : Form) (o b : ℕ) (at : Known) : Type 0 where
+  pub form : k.form ≡ f
+  pub above : o ≤ k.version
+  pub below : k.version ≤ b
+  pub now : record { form = f; version = b } ≡ at
+
+form_is : (f g : Form) → same_form f g ≡ true → f ≡ g
+form_is Full Full e = refl
+form_is Compact Compact e = refl
+form_is Full Compact e = absurd (cc)
+form_is Compact Full e = absurd (cc)
+
+moves : (k : Known) (f : Form) (o b : ℕ) (at : Known) → moved (Some k) f o b ≡ Some at → Moves k f o b at
+moves k f o b at = by (same_form k.form f) refl (nat_le o k.version) refl (nat_le k.version b) refl
+  where
+    by : (x : Bool) → same_form k.form f ≡ x → (y : Bool) → nat_le o k.version ≡ y → (z : Bool) → nat_le k.version b ≡ z
+        → cond (x && (y && z)) (Some (record { form = f; version = b })) None ≡ Some at → Moves k f o b at
+    by true form true above true below is = record { form = form_is k.form f form; above = grind (arith, nat_tests, above); below = grind (arith, nat_tests, below); now = same_Some _ _ is }
+    by false form y above z below is = absurd (cc)
+    by true form false above z below is = absurd (cc)
+    by true form true above false below is = absurd (cc)
+
+overlay_means : (h : List Entry) (d : Payload) (old : Client) (c : Client) (k at : Known) → IsOf h d → is_delta d.key.query ≡ true → MeansVersion h old → old.known ≡ Some k
+    → c ≡ record { copy = overlay old.copy (delta_meaning d.key.form (front h d.version) d.base).mentions; known = moved old.known d.key.form d.base d.version } → Moves k d.key.form d.base d.version at
+    → (at.version ≤ length h) × (c.copy ≡ in_form at.form (reg (front h at.version)))
+overlay_means h d old c k at is kind means known e m =
+    let f = d.key.form in
+    let g = front h d.version in
+    let t = true_delta h d is kind in
+    let es = values (delta g d.base) in
+    let there : old.copy ≡ in_form f (reg (front g k.version)) =
+        (means k known).1 ∙ ap (λ f. in_form f (reg (front h k.version))) m.form ∙ ap (λ x. in_form f (reg x)) (sym (take-take k.version d.version h m.below)) in
+    let within : k.version ≤ length g = omega (arith, m.below, t.now) in
+    let copy : c.copy ≡ in_form f (reg g) =
+        ap (λ (c : Client). c.copy) e ∙ ap (λ s. overlay s (map (in_form_mention f) es)) there ∙ overlay_formed f (reg (front g k.version)) es ∙ ap (in_form f) (overlay_law g d.base k.version m.above within) in
+    (subst (λ (k : Known). k.version ≤ length h) m.now is.inside, copy ∙ ap (λ (k : Known). in_form k.form (reg (front h k.version))) m.now)
+
+pub delta_means : (h : List Entry) (d : Payload) (held : Option Client) (c : Client) → IsOf h d → is_delta d.key.query ≡ true → ((o : Client) → held ≡ Some o → MeansVersion h o) → taken d held ≡ Some c → MeansVersion h c
+delta_means h d None c is kind means takes = absurd (let bad = sym takes ∙ taken_is d None true (delta_meaning d.key.form (front h d.version) d.base) kind (true_delta h d is kind).meaning in cc)
+delta_means h d (Some old) c is kind means takes = λ at known.
+    let m = delta_meaning d.key.form (front h d.version) d.base in
+    let e : c ≡ record { copy = overlay old.copy m.mentions; known = moved old.known d.key.form d.base d.version } = same_Some _ _ (sym takes ∙ taken_is d (Some old) true m kind (true_delta h d is kind).meaning) in
+    by at e old.known refl (sym (ap (λ (c : Client). c.known) e) ∙ known)
+  where
+    by : (at : Known) → c ≡ record { copy = overlay old.copy (delta_meaning d.key.form (front h d.version) d.base).mentions; known = moved old.known d.key.form d.base d.version }
+        → (o : Option Known) → old.known ≡ o → moved old.known d.key.form d.base d.version ≡ Some at → (at.version ≤ length h) × (c.copy ≡ in_form at.form (reg (front h at.version)))
+    by at e None none goes = absurd (let bad = ap (λ o. moved o d.key.form d.base d.version) (sym none) ∙ goes in cc)
+    by at e (Some k) some goes = overlay_means h d old c k at is kind (means old refl) some e (moves k d.key.form d.base d.version at (ap (λ o. moved o d.key.form d.base d.version) (sym some) ∙ goes))

@@ -1,0 +1,71 @@
+-- Clients' copies, and the versions at which they are known.
+use Rattle.std.specs.Prelude.{◌≡◌, ◌≤◌, ℕ, ◌==◌, ◌&&◌, nat_le, Bool, true, false, List, [], length, map, if◌then◌else◌, Option, Some, None, option_map, Result, Ok, Err}
+use Rattle.std.specs.FinMap.{FinMap, get, keys, values}
+use Rattle.disco_instance.specs.Key.{key_cmp}
+use Rattle.disco_instance.specs.Row.{Row}
+use Rattle.disco_instance.specs.declared.fault.Fault.{Fault}
+use Rattle.disco_instance.specs.declared.form.Form.{Form}
+use Rattle.disco_instance.specs.declared.form.Form.TheVariants.{Full, Compact}
+use Rattle.disco_history.specs.Change.{Entry, front}
+use Rattle.disco_history.specs.Chosen.{chosen}
+use Rattle.disco_history.specs.Forms.{formed}
+use Rattle.disco_history.specs.Mentions.{copied, overlay}
+use Rattle.disco_history.specs.Registry.{reg}
+use Rattle.disco_wire.specs.Documents.{document_of}
+use Rattle.disco_wire.specs.Meaning.{Meaning}
+use Rattle.disco_writer.specs.Documents.{is_delta}
+use Rattle.disco_cache.specs.declared.payload.Payload.{Payload}
+use Rattle.disco_client.specs.Copies.{hash_equal}
+use Rattle.disco_world.specs.declared.clients.Client.{Client}
+use Rattle.disco_world.specs.declared.clients.Known.{Known}
+use Rattle.disco_world.specs.declared.holding.Holding.{Holding}
+
+abbrev pub same_form : Form → Form → Bool
+same_form Full Full = true
+same_form Compact Compact = true
+same_form _ _ = false
+
+-- where a copy is known after a delta of a form from base o to version b: at b, where it was known in that form at a version from o to b
+abbrev pub moved : Option Known → Form → ℕ → ℕ → Option Known
+moved None f o b = None
+moved (Some at) f o b = if same_form at.form f && (nat_le o at.version && nat_le at.version b) then Some (record { form = f; version = b }) else None
+
+-- a document of all apps replaces the copy; a delta is overlaid on the copy that is there
+abbrev pub taken_by : Bool → Payload → Meaning → Option Client → Option Client
+taken_by false d m held = Some (record { copy = copied m.mentions; known = Some (record { form = d.key.form; version = d.version }) })
+taken_by true d m None = None
+taken_by true d m (Some c) = Some (record { copy = overlay c.copy m.mentions; known = moved c.known d.key.form d.base d.version })
+
+abbrev pub taken_from : Payload → Result Meaning Fault → Option Client → Option Client
+taken_from d (Ok m) held = taken_by (is_delta d.key.query) d m held
+taken_from d (Err e) held = held
+
+-- a client after it took a document
+abbrev pub taken : Payload → Option Client → Option Client
+taken d held = taken_from d (document_of d.text) held
+
+-- all clients after one of them took a document
+abbrev pub clients_with : (ℕ → Option Client) → ℕ → Payload → ℕ → Option Client
+clients_with clients c d q = if q == c then taken d (clients c) else clients q
+
+-- what is told of a client that took a document: whether the hash codes are equal, and the version at which the copy is known
+pub record IsTold (d : Payload) (now : Option Client) (equal : Bool) (version : Option ℕ) : Type 0 where
+  pub meaning : Meaning
+  pub client : Client
+  pub means : document_of d.text ≡ Ok meaning
+  pub has_copy : now ≡ Some client
+  pub equal_is : equal ≡ hash_equal meaning.hash client.copy
+  pub version_is : version ≡ option_map (λ at. at.version) client.known
+
+-- what is shown of a copy: each instance's key and status, by key
+abbrev pub shown : Option Client → List Holding
+shown None = []
+shown (Some c) = map (λ r. record { key = r.key; status = r.status }) (values c.copy)
+
+-- the records in a form
+abbrev pub in_form : Form → FinMap key_cmp Row → FinMap key_cmp Row
+in_form f s = chosen (λ k. option_map (formed f) (get s k)) (keys s)
+
+-- a copy that is known at a version is exactly that version of a history, in its form
+abbrev pub MeansVersion : List Entry → Client → Type 0
+MeansVersion h c = (at : Known) → c.known ≡ Some at → (at.version ≤ length h) × (c.copy ≡ in_form at.form (reg (front h at.version)))
