@@ -46,20 +46,6 @@ answer_line (Held holdings) = codes "held " ++ decimal (length holdings) ++ flat
 answer_line (Refused fault) = refusal_line fault
 
 -- the answer lines of replies, one behind another
--- `yes` or `no`
-abbrev pub yes_or_no : Bool → List ℕ
-yes_or_no true = codes "yes"
-yes_or_no false = codes "no"
-
--- the version, or `-` where there is none
-abbrev pub version_or_dash : Option ℕ → List ℕ
-version_or_dash None = codes "-"
-version_or_dash (Some version) = decimal version
-
--- ` APP/ID=STATUS`, each as it is
-abbrev pub holding_text : Holding → List ℕ
-holding_text h = codes " " ++ h.key.app ++ codes "/" ++ h.key.id ++ codes "=" ++ status_name h.status
-
 abbrev pub answer_lines : List Reply → List ℕ
 answer_lines replies = flat_map answer_line replies
 

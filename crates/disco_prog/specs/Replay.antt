@@ -5,7 +5,7 @@ use Rattle.clap.specs.Words.{Text}
 use Rattle.disco_instance.specs.declared.fault.Fault.{Fault}
 use Rattle.disco_instance.specs.declared.fault.Fault.TheVariants.{OutOfMemory, ReadFailed, WriteFailed}
 use Rattle.disco_hub.specs.State.{rules}
-use Rattle.disco_world.specs.Answers.{AreAnswers, AreServed, IsFirstBadEvent}
+use Rattle.disco_world.specs.Answers.{AreAnswers, AreKnown, AreServed, IsFirstBadEvent}
 use Rattle.disco_world.specs.declared.event.Event.{Event}
 use Rattle.disco_world.specs.declared.event.Reply.{Reply}
 use Rattle.disco_hub.specs.declared.settings.Settings.{Settings}
@@ -29,6 +29,7 @@ pub record IsAnswered (settings : Settings) (known old new : Option (List ℕ)) 
   pub each : length replies ≡ length events
   pub answers : AreAnswers (rules settings) events replies
   pub served : AreServed (rules settings) events replies
+  pub copies : AreKnown (rules settings) events replies
   pub written : Appends old new (answer_lines replies)
 
 -- the words are `replay` and options, and the input is answered with the settings that these name

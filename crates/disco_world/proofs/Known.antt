@@ -187,7 +187,7 @@ full_means h d held c is full takes = λ at known.
     let e : c ≡ record { copy = copied m.mentions; known = Some now } = same_Some _ _ (sym takes ∙ taken_is d held false m full t.meaning) in
     let so : now ≡ at = same_known c (copied m.mentions) at now e known in
     let copy : c.copy ≡ in_form f (reg g) =
-        ap (λ (c : Client). c.copy) e ∙ copied_formed f (mentioned all g) ∙ ap (λ es. in_form f (copied (map mention_of es))) (values-said_all g) ∙ ap (in_form f) (copy_law g) in
+    ap (λ (c : Client). c.copy) e ∙ copied_formed f (mentioned all g) ∙ ap (λ es. in_form f (copied (map mention_of es))) (values-said_all g) ∙ ap (in_form f) (copy_law g) in
     (subst (λ (k : Known). k.version ≤ length h) so is.inside, copy ∙ ap (λ (k : Known). in_form k.form (reg (front h k.version))) so)
 
 -- ---- deltas
@@ -223,10 +223,10 @@ overlay_means h d old c k at is kind means known e m =
     let t = true_delta h d is kind in
     let es = values (delta g d.base) in
     let there : old.copy ≡ in_form f (reg (front g k.version)) =
-        (means k known).1 ∙ ap (λ f. in_form f (reg (front h k.version))) m.form ∙ ap (λ x. in_form f (reg x)) (sym (take-take k.version d.version h m.below)) in
+    (means k known).1 ∙ ap (λ f. in_form f (reg (front h k.version))) m.form ∙ ap (λ x. in_form f (reg x)) (sym (take-take k.version d.version h m.below)) in
     let within : k.version ≤ length g = omega (arith, m.below, t.now) in
     let copy : c.copy ≡ in_form f (reg g) =
-        ap (λ (c : Client). c.copy) e ∙ ap (λ s. overlay s (map (in_form_mention f) es)) there ∙ overlay_formed f (reg (front g k.version)) es ∙ ap (in_form f) (overlay_law g d.base k.version m.above within) in
+    ap (λ (c : Client). c.copy) e ∙ ap (λ s. overlay s (map (in_form_mention f) es)) there ∙ overlay_formed f (reg (front g k.version)) es ∙ ap (in_form f) (overlay_law g d.base k.version m.above within) in
     (subst (λ (k : Known). k.version ≤ length h) m.now is.inside, copy ∙ ap (λ (k : Known). in_form k.form (reg (front h k.version))) m.now)
 
 pub delta_means : (h : List Entry) (d : Payload) (held : Option Client) (c : Client) → IsOf h d → is_delta d.key.query ≡ true → ((o : Client) → held ≡ Some o → MeansVersion h o) → taken d held ≡ Some c → MeansVersion h c

@@ -66,7 +66,7 @@ pub does : (old new : State) (ask : Ask) (asked : Result Ask Fault) (now : ℕ) 
 does old new ask asked now r is done refused history = λ w stands.
     let gives = gives old w.past ask now r stands done refused in
     let here : IsAnswer (rules_of old) w (writes now (Ok ask)) (reply_to r new.registry.version) × StandsFor new (past_after (rules_of old) w.past (writes now (Ok ask)) (reply_to r new.registry.version))
-        = (answer_by old new w now ask r gives (history w.past stands), subst (StandsFor new) (sym (after_is old new w now ask r new.registry.version gives)) (history w.past stands)) in
+    = (answer_by old new w now ask r gives (history w.past stands), subst (StandsFor new) (sym (after_is old new w now ask r new.registry.version gives)) (history w.past stands)) in
     subst (λ a. IsAnswer (rules_of old) w (writes now a) (reply_to r new.registry.version) × StandsFor new (past_after (rules_of old) w.past (writes now a) (reply_to r new.registry.version))) (sym is) here
 
 pub does_nothing : (s : State) (asked : Result Ask Fault) (now : ℕ) (f : Fault) → (f ≢ OutOfMemory → asked ≡ Err f) → Does s s (λ _. writes now asked) (Refused f)

@@ -119,12 +119,7 @@ fn replace(
 }
 
 /// A delta is overlaid on a client's copy.
-fn overlay(
-    clients: &mut Clients,
-    client: u32,
-    payload: &Payload,
-    wire: Wire,
-) -> Result<Told, Fault>
+fn overlay(clients: &mut Clients, client: u32, payload: &Payload, wire: Wire) -> Result<Told, Fault>
     requires meant { IsMeant payload.now (seen wire) }
     requires delta { is_delta payload.now.key.query ≡ true }
     ensures { Takes (tree.get nat_cmp clients.old) (tree.get nat_cmp clients.new) client payload.now result }
@@ -133,12 +128,7 @@ fn overlay(
         return Err(Fault::NotFetched);
     };
     let overlaid = held.copy.overlay(wire)?;
-    held.known = moved(
-        held.known,
-        payload.key.form,
-        payload.base,
-        payload.version,
-    );
+    held.known = moved(held.known, payload.key.form, payload.base, payload.version);
     Ok((overlaid.hash_equal, version_of(held.known)))
 }
 

@@ -18,5 +18,6 @@ returns-clause-answered g c = then_ok c.write_answers.result _ _ (λ written. re
   each = rw c.as_slice.ensures.value at c.in_ok-replies.ensures.each;
   answers = rw c.as_slice.ensures.value at c.in_ok-replies.ensures.answers;
   served = rw c.as_slice.ensures.value at c.in_ok-replies.ensures.served;
+  copies = rw c.as_slice.ensures.value at c.in_ok-replies.ensures.known;
   written = rw c.as_slice-2.ensures.value at written;
 }) c.write_answers.ensures.written

@@ -18,6 +18,7 @@ returns c =
     let now : Client = record { copy = c.overlay.new.self; known = c.moved-held.result } in
     let has = sym c.in-Some.ensures.value in
     let x = c.get_mut.follows.holds now in
-    let e : now ≡ record { copy = overlay held.copy m.mentions; known = moved held.known d.key.form d.base d.version } = λ i. record { copy = c.in_ok-overlaid.ensures.overlaid i; known = c.moved-held.ensures i } in
-    (told_delta d m (old c.args.client) held now c.in_ok-overlaid.overlaid.hash_equal c.version_of.result c.requires.meant c.requires.delta has e c.in_ok-overlaid.ensures.hash_equal c.version_of.ensures,
-     with_taken old (tree.get nat_cmp (c.get_mut.follows.lender now)) c.args.client d now (took_delta d m (old c.args.client) held now c.requires.meant c.requires.delta has e) (x.3 (is_some_by _ held c.in-Some.ensures.value)).0)
+    let e : now ≡ record { copy = overlay held.copy m.mentions; known = moved held.known d.key.form d.base d.version } = λ i. record { copy = c.in_ok-overlaid.ensures.overlaid i; known = c.moved-held.ensures i } in (
+      told_delta d m (old c.args.client) held now c.in_ok-overlaid.overlaid.hash_equal c.version_of.result c.requires.meant c.requires.delta has e c.in_ok-overlaid.ensures.hash_equal c.version_of.ensures,
+      with_taken old (tree.get nat_cmp (c.get_mut.follows.lender now)) c.args.client d now (took_delta d m (old c.args.client) held now c.requires.meant c.requires.delta has e) (x.3 (is_some_by _ held c.in-Some.ensures.value)).0,
+    )

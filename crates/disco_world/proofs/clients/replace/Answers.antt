@@ -15,6 +15,7 @@ returns c =
     let old = tree.get nat_cmp c.args.clients.now in
     let at : Known = record { form = d.key.form; version = d.version } in
     let now : Client = record { copy = c.full.new.self; known = Some at } in
-    let e : now ≡ record { copy = copied m.mentions; known = Some at } = λ i. record { copy = c.in_ok-full.ensures.copied i; known = Some at } in
-    (told_full d m (old c.args.client) now c.has_hash-equal.result c.requires.meant c.requires.full e c.has_hash-equal.ensures,
-     with_taken old (tree.get nat_cmp c.insert.new.self) c.args.client d now (took_full d m (old c.args.client) now c.requires.meant c.requires.full e) c.in_ok-insert.ensures.updates.0)
+    let e : now ≡ record { copy = copied m.mentions; known = Some at } = λ i. record { copy = c.in_ok-full.ensures.copied i; known = Some at } in (
+      told_full d m (old c.args.client) now c.has_hash-equal.result c.requires.meant c.requires.full e c.has_hash-equal.ensures,
+      with_taken old (tree.get nat_cmp c.insert.new.self) c.args.client d now (took_full d m (old c.args.client) now c.requires.meant c.requires.full e) c.in_ok-insert.ensures.updates.0,
+    )
