@@ -1,15 +1,15 @@
 -- What a hub answers to a write, and what it stands for then.
-use Rattle.std.proofs.Common.{◌≡◌, ◌≢◌, ℕ, ◌+◌, ◌==◌, Bool, true, false, cond, [], ◌∷◌, length, Option, Some, Result, Ok, Err, IfOk, IfErr, refl, sym, ap, subst, ◌∙◌}
+use Rattle.std.proofs.Common.{◌≡◌, ◌≢◌, ℕ, ◌+◌, ◌==◌, Bool, true, false, cond, [], ◌∷◌, length, Option, Some, Result, Ok, Err, IfOk, IfErr, OnErr, refl, sym, ap, subst, ◌∙◌}
 use Rattle.std.proofs.lemmas.List.{length-append, length-map}
 use Rattle.disco_instance.specs.Fault.{fault_number}
 use Rattle.disco_instance.specs.Instance.{Gives}
 use Rattle.disco_instance.specs.declared.fault.Fault.{Fault}
 use Rattle.disco_instance.specs.declared.fault.Fault.TheVariants.{OutOfMemory}
 use Rattle.disco_history.specs.Change.{Entry}
-use Rattle.disco_hub.specs.Past.{Past, history, with_change}
+use Rattle.disco_hub.specs.Past.{Past, history, with_done}
 use Rattle.disco_hub.specs.State.{Rules, State, StandsFor, rules_of}
 use Rattle.disco_registry.specs.Accept.{Refuses, accept, accept_after, accepts}
-use Rattle.disco_registry.specs.Commit.{done_by, outcome}
+use Rattle.disco_registry.specs.Commit.{done_by}
 use Rattle.disco_registry.specs.Op.{Ask}
 use Rattle.disco_registry.specs.declared.op.Applied.{Applied}
 use Rattle.disco_registry.specs.declared.op.Applied.TheVariants as applied
@@ -38,6 +38,16 @@ one_longer : (most : ℕ) (p : Past) (now : ℕ) (ask : Ask) (c : Entry) → len
 one_longer most p now ask c =
     length-map (with_done most p now ask (Some c)).timed (λ (t : Timed). t.0) ∙ length-append p.timed ((c, now) ∷ []) ∙ ap (λ n. n + 1) (sym (length-map p.timed (λ (t : Timed). t.0)))
 
+-- what has happened after an operation with that result
+abbrev with_result : ℕ → Past → ℕ → Ask → Result Applied Fault → Past
+with_result most p now ask (Ok a) = with_done most p now ask (done_by a)
+with_result most p now ask (Err e) = p
+
+stands_after : (old new : State) (ask : Ask) (now : ℕ) (r : Result Applied Fault) → IfOk r (λ a. (p : Past) → StandsFor old p → StandsFor new (with_done old.queue.max p now ask (done_by a)))
+    → OnErr r ((p : Past) → StandsFor old p → StandsFor new p) → (p : Past) → StandsFor old p → StandsFor new (with_result old.queue.max p now ask r)
+stands_after old new ask now (Ok a) after stays p stands = after p stands
+stands_after old new ask now (Err e) after stays p stands = stays p stands
+
 -- a refused operation leaves what has happened
 stays : (rules : Rules) (p : Past) (now : ℕ) (asked : Result Ask Fault) (f : Fault) → (f ≢ OutOfMemory → done rules p now asked ≡ Err f) → past_after rules p (writes now asked) (Refused f) ≡ p
 stays rules p now asked f refused = one (fault_number f == 1) refl
@@ -51,22 +61,24 @@ stays rules p now asked f refused = one (fault_number f == 1) refl
     one false memory = same asked (done rules p now asked) (refused (λ same. let bad = sym memory ∙ ap (λ x. fault_number x == 1) same in cc))
 
 module _ (old new : State) (w : World) (now : ℕ) (ask : Ask) where
-  answer_by : (r : Result Applied Fault) → Gives done_by r (done (rules_of old) w.past now (Ok ask)) → StandsFor new (with_change old.queue.max w.past now (outcome r)) → IsAnswer (rules_of old) w (writes now (Ok ask)) (reply_to r new.registry.version)
-  answer_by (Ok (applied.Changed c)) gives stands = (_, gives, stands.registry.version ∙ one_longer old.queue.max w.past now _)
+  answer_by : (r : Result Applied Fault) → Gives done_by r (done (rules_of old) w.past now (Ok ask)) → StandsFor new (with_result old.queue.max w.past now ask r) → IsAnswer (rules_of old) w (writes now (Ok ask)) (reply_to r new.registry.version)
+  answer_by (Ok (applied.Changed c)) gives stands = (_, gives, stands.registry.version ∙ one_longer old.queue.max w.past now ask _)
   answer_by (Ok applied.Same) gives stands = gives
   answer_by (Err f) gives stands = gives
 
-  after_is : (r : Result Applied Fault) (v : ℕ) → Gives done_by r (done (rules_of old) w.past now (Ok ask)) → past_after (rules_of old) w.past (writes now (Ok ask)) (reply_to r v) ≡ with_change old.queue.max w.past now (outcome r)
+  after_is : (r : Result Applied Fault) (v : ℕ) → Gives done_by r (done (rules_of old) w.past now (Ok ask)) → past_after (rules_of old) w.past (writes now (Ok ask)) (reply_to r v) ≡ with_result old.queue.max w.past now ask r
   after_is (Ok (applied.Changed c)) v gives = ap (after_write old.queue.max w.past now (Ok ask)) gives
   after_is (Ok applied.Same) v gives = ap (after_write old.queue.max w.past now (Ok ask)) gives
   after_is (Err f) v gives = stays (rules_of old) w.past now (Ok ask) f gives
 
 pub does : (old new : State) (ask : Ask) (asked : Result Ask Fault) (now : ℕ) (r : Result Applied Fault) → asked ≡ Ok ask → IfOk r (λ a. accepts old.registry ask now ≡ Ok (done_by a)) → IfErr r (Refuses old.registry ask now)
-    → ((p : Past) → StandsFor old p → StandsFor new (with_change old.queue.max p now (outcome r))) → Does old new (λ _. writes now asked) (reply_to r new.registry.version)
-does old new ask asked now r is done refused history = λ w stands.
+    → IfOk r (λ a. (p : Past) → StandsFor old p → StandsFor new (with_done old.queue.max p now ask (done_by a))) → OnErr r ((p : Past) → StandsFor old p → StandsFor new p)
+    → Does old new (λ _. writes now asked) (reply_to r new.registry.version)
+does old new ask asked now r is done refused after refused_after = λ w stands.
     let gives = gives old w.past ask now r stands done refused in
+    let stands_now = stands_after old new ask now r after refused_after w.past stands in
     let here : IsAnswer (rules_of old) w (writes now (Ok ask)) (reply_to r new.registry.version) × StandsFor new (past_after (rules_of old) w.past (writes now (Ok ask)) (reply_to r new.registry.version))
-    = (answer_by old new w now ask r gives (history w.past stands), subst (StandsFor new) (sym (after_is old new w now ask r new.registry.version gives)) (history w.past stands)) in
+    = (answer_by old new w now ask r gives stands_now, subst (StandsFor new) (sym (after_is old new w now ask r new.registry.version gives)) stands_now) in
     subst (λ a. IsAnswer (rules_of old) w (writes now a) (reply_to r new.registry.version) × StandsFor new (past_after (rules_of old) w.past (writes now a) (reply_to r new.registry.version))) (sym is) here
 
 pub does_nothing : (s : State) (asked : Result Ask Fault) (now : ℕ) (f : Fault) → (f ≢ OutOfMemory → asked ≡ Err f) → Does s s (λ _. writes now asked) (Refused f)

@@ -16,7 +16,7 @@ use Rattle.disco_registry.specs.Accept.{accept_after}
 use Rattle.disco_registry.specs.Op.{Ask, register, cancel, renew, set_status, drop_status, add_metadata}
 use Rattle.disco_wire.specs.Registration.{registration_of}
 use Rattle.disco_cache.specs.declared.key.DocKey.{DocKey}
-use Rattle.disco_hub.specs.Past.{Past, cleaned, history, nothing, with_change}
+use Rattle.disco_hub.specs.Past.{Past, cleaned, history, nothing, with_done}
 use Rattle.disco_hub.specs.Refusals.{doc_of_key, refusal_of}
 use Rattle.disco_hub.specs.State.{Rules}
 use Rattle.disco_writer.specs.declared.query.Query.{Query}
@@ -123,7 +123,7 @@ done rules p now (Ok ask) = accept_after rules.limits (history p) ask now
 
 -- what has happened after an operation that was accepted, with its change if it made one, or that was refused
 abbrev pub after_write : ℕ → Past → ℕ → Result Ask Fault → Result (Option Entry) Fault → Past
-after_write most p now (Ok ask) (Ok change) = with_change most p now change
+after_write most p now (Ok ask) (Ok change) = with_done most p now ask change
 after_write most p now (Ok ask) (Err e) = p
 after_write most p now (Err e) result = p
 
