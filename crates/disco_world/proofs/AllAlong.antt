@@ -1,5 +1,5 @@
 -- After each event of a run, what clients can take is true of a version, and each copy means the version at which it is known.
-use Rattle.std.proofs.Common.{◌≡◌, ℕ, zero, suc, ◌+◌, ◌<◌, ◌≤◌, Bool, true, false, cond, eqb, List, [], ◌∷◌, ◌++◌, length, map, Option, Some, None, Result, Ok, Err, slice_get, refl, sym, ap, subst, ◌∙◌, arith}
+use Rattle.std.proofs.Common.{◌≡◌, ℕ, zero, suc, Bool, true, false, cond, eqb, List, [], ◌∷◌, ◌++◌, length, Option, Some, None, Result, Ok, Err, slice_get, refl, sym, ap, subst, ◌∙◌}
 use Rattle.std.specs.declared.alloc.Global.{Global}
 use Rattle.std.specs.declared.sync.Arc.{Arc}
 use Rattle.std.proofs.lemmas.Option.{same_Some}
@@ -15,8 +15,8 @@ use Rattle.disco_cache.specs.declared.payload.Payload.{Payload}
 use Rattle.disco_hub.specs.Past.{Past, history}
 use Rattle.disco_hub.specs.State.{Rules}
 use Rattle.disco_world.specs.Answers.{AreAnswers, AreKnown, IsAnswer}
-use Rattle.disco_world.specs.Clients.{MeansVersion, clients_with, taken}
-use Rattle.disco_world.specs.Events.{Deed, World, writes, loads, cleans, takes, shows, bad, after, after_at, after_write, clients_after, clients_done, deed, doc_in, doc_of_event, done, for_clients, in_full, past_after, past_done, ran_out, takes_any, world}
+use Rattle.disco_world.specs.Clients.{MeansVersion, taken}
+use Rattle.disco_world.specs.Events.{Deed, World, writes, loads, cleans, takes, shows, bad, after, after_at, after_write, clients_done, deed, doc_in, doc_of_event, done, for_clients, in_full, past_after, past_done, ran_out, takes_any, world}
 use Rattle.disco_world.specs.Steps.{AreReadable}
 use Rattle.disco_world.specs.declared.clients.Client.{Client}
 use Rattle.disco_world.specs.declared.event.Event.{Event}

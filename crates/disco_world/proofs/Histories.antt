@@ -4,7 +4,6 @@ use Rattle.std.specs.declared.alloc.Global.{Global}
 use Rattle.std.specs.declared.sync.Arc.{Arc}
 use Rattle.std.proofs.lemmas.Option.{slice_get-get_or, same_Some}
 use Rattle.disco_cache.specs.declared.payload.Payload.{Payload}
-use Rattle.disco_hub.specs.Past.{history}
 use Rattle.disco_hub.specs.State.{Rules, State, StandsFor, rules_of}
 use Rattle.disco_world.specs.Answers.{AreAnswers, AreServed, IsAnswer, IsFirstBadEvent, IsServed}
 use Rattle.disco_instance.specs.declared.fault.Fault.TheVariants.{BadEvent}

@@ -1,9 +1,7 @@
 -- Copies that are known at a version, and documents that are true of a version.
-use Rattle.std.proofs.Common.{◌≡◌, ◌≢◌, ℕ, zero, suc, ◌+◌, ◌<◌, ◌≤◌, ◌&&◌, nat_le, nat_eq, Bool, true, false, cond, List, [], ◌∷◌, ◌++◌, length, map, take, Option, Some, None, option_map, option_and_then, Result, Ok, Err, slice_get, refl, sym, ap, subst, ◌∙◌, arith}
+use Rattle.std.proofs.Common.{◌≡◌, ℕ, ◌≤◌, ◌&&◌, nat_le, Bool, true, false, cond, List, [], ◌∷◌, ◌++◌, length, map, take, Option, Some, None, option_map, option_and_then, Ok, refl, sym, ap, subst, ◌∙◌, arith}
 use Rattle.std.proofs.lemmas.Option.{same_Some}
 use Rattle.std.proofs.lemmas.Bool.Decides.{nat_tests}
-use Rattle.std.specs.declared.alloc.Global.{Global}
-use Rattle.std.specs.declared.sync.Arc.{Arc}
 use Rattle.std.specs.FinMap.{FinMap, get, keys, values, same_map}
 use Rattle.disco_instance.specs.Key.{key_cmp}
 use Rattle.disco_instance.specs.Row.{Row}
@@ -14,7 +12,6 @@ use Rattle.disco_instance.specs.declared.form.Form.TheVariants.{Full, Compact}
 use Rattle.disco_instance.specs.declared.key.Key.{Key}
 use Rattle.disco_history.specs.Change.{Entry, front, key_of, last}
 use Rattle.disco_history.specs.Forms.{formed}
-use Rattle.disco_history.specs.Laws.{CopyLaw, OverlayLaw}
 use Rattle.disco_history.specs.Mentions.{Mention, copied, delta, known, mention_of, overlaid_by, overlay}
 use Rattle.disco_history.specs.Registry.{put_of, reg}
 use Rattle.disco_history.proofs.Keys.{keys_total, exact_keys, get-chosen}

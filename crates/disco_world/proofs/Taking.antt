@@ -1,5 +1,5 @@
 -- Clients that take documents.
-use Rattle.std.proofs.Common.{◌≡◌, ℕ, Bool, true, false, cond, eqb, List, map, Option, Some, None, option_map, Result, Ok, Err, IsSome, refl, sym, ap, subst, ◌∙◌, arith}
+use Rattle.std.proofs.Common.{◌≡◌, ℕ, Bool, true, false, cond, eqb, Option, Some, option_map, IsSome, refl, sym, ap, subst, ◌∙◌, arith}
 use Rattle.std.specs.BTreeMap.{is_at}
 use Rattle.std.specs.Ordering.{nat_cmp}
 use Rattle.std.proofs.lemmas.Bool.Decides.{nat_tests}
@@ -11,7 +11,6 @@ use Rattle.disco_cache.specs.declared.payload.Payload.{Payload}
 use Rattle.disco_world.specs.Clients.{IsTold, clients_with, moved, taken, taken_by}
 use Rattle.disco_world.specs.Steps.{IsMeant}
 use Rattle.disco_world.specs.declared.clients.Client.{Client}
-use Rattle.disco_world.specs.declared.clients.Known.{Known}
 use Rattle.disco_world.proofs.Known.{taken_is}
 
 is_at_number : (c q : ℕ) → is_at (nat_cmp c) q ≡ eqb q c

@@ -5,7 +5,6 @@ use Rattle.disco_history.specs.Mentions.{overlay}
 use Rattle.disco_wire.specs.Wire.{seen}
 use Rattle.disco_world.specs.Clients.{moved}
 use Rattle.disco_world.specs.declared.clients.Client.{Client}
-use Rattle.disco_world.specs.declared.clients.Known.{Known}
 use Rattle.disco_world.proofs.Taking.{is_some_by, told_delta, took_delta, with_taken}
 use Rattle.disco_world.proofs.clients.overlay.Goals as goal
 

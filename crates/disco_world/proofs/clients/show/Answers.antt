@@ -1,6 +1,4 @@
-use Rattle.std.proofs.Common.{◌∙◌, ap, map, refl, sym}
-use Rattle.std.specs.BTreeMap as tree
-use Rattle.std.specs.Ordering.{nat_cmp}
+use Rattle.std.proofs.Common.{◌∙◌, ap}
 use Rattle.disco_world.proofs.Shown.{shown_of}
 use Rattle.disco_world.specs.Clients.{shown}
 use Rattle.disco_world.proofs.clients.show.Goals as goal
