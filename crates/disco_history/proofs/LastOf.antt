@@ -1,11 +1,12 @@
 -- The place of the last change of a key, one change on.
-use Rattle.std.proofs.Common.{◌≡◌, ℕ, ◌+◌, ◌<◌, Bool, true, false, ◌&&◌, cond, List, [], ◌∷◌, ◌++◌, map, take, length, Option, Some, None, option_map, MatchOption, slice_get, get_or, sym, ap, ◌∙◌, arith}
+use Rattle.std.proofs.Common.{◌≡◌, ℕ, ◌+◌, ◌<◌, Bool, true, false, ◌&&◌, cond, List, [], ◌∷◌, ◌++◌, map, drop, take, length, Option, Some, None, option_map, MatchOption, slice_get, get_or, sym, ap, ◌∙◌, arith}
 use Rattle.disco_instance.specs.Key.{same_key}
 use Rattle.disco_instance.specs.declared.key.Key.{Key}
 use Rattle.disco_history.specs.declared.change.Change.{Change}
 use Rattle.disco_history.specs.Change.{key_of, last, seen}
 use Rattle.std.specs.Str.{bytes_eq}
-use Rattle.std.proofs.lemmas.List.{take_more, map-append}
+use Rattle.std.proofs.Math.ListN.{drop_of_length-le}
+use Rattle.std.proofs.lemmas.List.{drop-append-le, length-take-le, take_more, map-append}
 use Rattle.std.proofs.lemmas.Option.{slice_get-get_or}
 use Rattle.disco_history.proofs.Keys.{same_key-parts, same_key-sym}
 use Rattle.disco_history.proofs.Lasts.{last_more}
@@ -14,7 +15,7 @@ use Rattle.disco_history.proofs.Lasts.{last_more}
 abbrev pub IsLastOf : List Change → Key → ℕ → Option ℕ → Type 0
 IsLastOf cs k i o = MatchOption o
     (last (map seen (take i cs)) k ≡ None)
-    (λ j. (j < i) × (last (map seen (take i cs)) k ≡ option_map seen (slice_get cs j)))
+    (λ j. (j < i) × (last (map seen (take i cs)) k ≡ option_map seen (slice_get cs j)) × (last (map seen (drop (j + 1) (take i cs))) k ≡ None))
 
 module _ (cs : List Change) (k : Key) (i : ℕ) (c : Change) (inside : i < length cs) (is : c ≡ get_or cs i c) where
   one_more : map seen (take (i + 1) cs) ≡ map seen (take i cs) ++ seen c ∷ []
@@ -30,12 +31,30 @@ module _ (cs : List Change) (k : Key) (i : ℕ) (c : Change) (inside : i < lengt
   there : slice_get cs i ≡ Some c
   there = slice_get-get_or cs i c inside ∙ ap (λ x. Some x) (sym is)
 
-  pub found : (b : Bool) → b ≡ (bytes_eq (key_of (seen c)).app k.app && bytes_eq (key_of (seen c)).id k.id) → b ≡ true → IsLastOf cs k (i + 1) (Some i)
-  found b e hit = (omega arith, last_at ∙ ap (λ t. cond t (Some (seen c)) (last (map seen (take i cs)) k)) (tested b e ∙ hit) ∙ ap (option_map seen) (sym there))
+  -- nothing comes after the last of them
+  after_it : drop (i + 1) (take (i + 1) cs) ≡ []
+  after_it = drop_of_length-le (take (i + 1) cs) (omega (arith, length-take-le (i + 1) cs (omega (arith, inside))))
 
-  miss : (o : Option ℕ) → last (map seen (take (i + 1) cs)) k ≡ last (map seen (take i cs)) k → IsLastOf cs k i o → IsLastOf cs k (i + 1) o
-  miss None same so_far = same ∙ so_far
-  miss (Some j) same so_far = (omega (arith, so_far.0), same ∙ so_far.1)
+  -- behind one of the first, this one comes last
+  after_one : (j : ℕ) → j < i → drop (j + 1) (take (i + 1) cs) ≡ drop (j + 1) (take i cs) ++ c ∷ []
+  after_one j less =
+      ap (drop (j + 1)) (take_more cs i c inside ∙ ap (λ x. take i cs ++ x ∷ []) (sym is))
+      ∙ drop-append-le (j + 1) (take i cs) (c ∷ []) (omega (arith, less, length-take-le i cs (omega (arith, inside))))
+
+  still_none : (j : ℕ) → j < i → same_key k (key_of (seen c)) ≡ false → last (map seen (drop (j + 1) (take i cs))) k ≡ None → last (map seen (drop (j + 1) (take (i + 1) cs))) k ≡ None
+  still_none j less other none =
+      ap (λ h. last (map seen h) k) (after_one j less)
+      ∙ ap (λ h. last h k) (map-append seen (drop (j + 1) (take i cs)) (c ∷ []))
+      ∙ last_more (map seen (drop (j + 1) (take i cs))) (seen c) k
+      ∙ ap (λ t. cond t (Some (seen c)) (last (map seen (drop (j + 1) (take i cs))) k)) other
+      ∙ none
+
+  pub found : (b : Bool) → b ≡ (bytes_eq (key_of (seen c)).app k.app && bytes_eq (key_of (seen c)).id k.id) → b ≡ true → IsLastOf cs k (i + 1) (Some i)
+  found b e hit = (omega arith, last_at ∙ ap (λ t. cond t (Some (seen c)) (last (map seen (take i cs)) k)) (tested b e ∙ hit) ∙ ap (option_map seen) (sym there), ap (λ h. last (map seen h) k) after_it)
+
+  miss : (o : Option ℕ) → same_key k (key_of (seen c)) ≡ false → last (map seen (take (i + 1) cs)) k ≡ last (map seen (take i cs)) k → IsLastOf cs k i o → IsLastOf cs k (i + 1) o
+  miss None other same so_far = same ∙ so_far
+  miss (Some j) other same so_far = (omega (arith, so_far.0), same ∙ so_far.1, still_none j so_far.0 other so_far.2)
 
   pub passed : (b : Bool) (o : Option ℕ) → b ≡ (bytes_eq (key_of (seen c)).app k.app && bytes_eq (key_of (seen c)).id k.id) → b ≡ false → IsLastOf cs k i o → IsLastOf cs k (i + 1) o
-  passed b o e other so_far = miss o (last_at ∙ ap (λ t. cond t (Some (seen c)) (last (map seen (take i cs)) k)) (tested b e ∙ other)) so_far
+  passed b o e other so_far = miss o (tested b e ∙ other) (last_at ∙ ap (λ t. cond t (Some (seen c)) (last (map seen (take i cs)) k)) (tested b e ∙ other)) so_far

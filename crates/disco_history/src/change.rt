@@ -1,5 +1,5 @@
 //! Changes of a registry.
-ghost use Rattle.std.specs.Prelude.{◌≡◌, ◌<◌, None, IfOk, MatchOption, length, map, slice_get, option_map};
+ghost use Rattle.std.specs.Prelude.{◌≡◌, ◌+◌, ◌<◌, None, IfOk, IfSome, MatchOption, drop, length, map, slice_get, option_map};
 ghost use Rattle.disco_history.specs.Change.{key_of, last, seen};
 
 use disco_instance::{Action, Key, Record};
@@ -49,9 +49,10 @@ impl Change {
 
 /// The index of the last change of a key.
 pub fn last_of(changes: &[Change], key: &Key) -> Option<usize>
-    ensures { MatchOption result
+    ensures found { MatchOption result
         (last (map seen changes.now) key.now ≡ None)
         (λ i. (i < length changes.now) × (last (map seen changes.now) key.now ≡ option_map seen (slice_get changes.now i))) }
+    ensures is_last { IfSome result (λ i. last (map seen (drop (i + 1) changes.now)) key.now ≡ None) }
 {
     let mut last = None;
     for (i, change) in changes.iter().enumerate() {
