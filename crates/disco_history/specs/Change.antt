@@ -1,5 +1,5 @@
 -- Changes of a registry as plain data, and the last one of each key.
-use Rattle.std.specs.Prelude.{List, [], ◌∷◌, if◌then◌else◌, Option, Some, None, take}
+use Rattle.std.specs.Prelude.{ℕ, Bool, true, false, List, [], ◌∷◌, if◌then◌else◌, Option, Some, None, take}
 use Rattle.std.specs.Option.{option_or}
 use Rattle.disco_instance.specs.Key.{same_key}
 use Rattle.disco_instance.specs.Row.{Row, row}
@@ -8,7 +8,6 @@ use Rattle.disco_instance.specs.declared.action.Action.TheVariants.{Deleted}
 use Rattle.disco_instance.specs.declared.key.Key.{Key}
 use Rattle.disco_history.specs.declared.change.Change.{Change}
 use Rattle.disco_history.specs.declared.change.Change.TheVariants.{Put, Gone}
-use Rattle.std.specs.Prelude.{ℕ}
 
 -- a change: its record, and what it did to it; DELETED is that the record went
 abbrev pub Entry : Type 0
@@ -17,6 +16,11 @@ Entry = Row × Action
 abbrev pub seen : Change → Entry
 seen (Put action rec) = (row rec.value, action)
 seen (Gone rec) = (row rec.value, Deleted)
+
+-- a put isn't DELETED: a record that went is told as gone
+abbrev pub is_proper : Change → Bool
+is_proper (Put Deleted rec) = false
+is_proper _ = true
 
 abbrev pub key_of : Entry → Key
 key_of e = e.0.key

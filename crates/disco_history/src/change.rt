@@ -1,6 +1,6 @@
 //! Changes of a registry.
 ghost use Rattle.std.specs.Prelude.{◌≡◌, ◌+◌, ◌<◌, None, IfOk, IfSome, MatchOption, drop, length, map, slice_get, option_map};
-ghost use Rattle.disco_history.specs.Change.{key_of, last, seen};
+ghost use Rattle.disco_history.specs.Change.{is_proper, key_of, last, seen};
 
 use disco_instance::{Action, Key, Record};
 use std::alloc::{AllocError, Global};
@@ -33,7 +33,8 @@ impl Change {
 
     /// The same once more. The record is shared, not copied.
     pub fn share(&self) -> Result<Change, AllocError>
-        ensures { IfOk result (λ c. seen c ≡ seen self.now) }
+        ensures same { IfOk result (λ c. seen c ≡ seen self.now) }
+        ensures proper { IfOk result (λ c. is_proper c ≡ is_proper self.now) }
     {
         match self {
             Change::Put { action, rec } => Ok(Change::Put {

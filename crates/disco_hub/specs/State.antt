@@ -1,10 +1,10 @@
 -- What a hub is, and what its commits need.
-use Rattle.std.specs.Prelude.{◌≡◌, ℕ, Bool, Option, Some, None, Ok, option_map, refl}
+use Rattle.std.specs.Prelude.{◌≡◌, ℕ, Bool, true, Option, Some, None, Ok, IfSome, option_map, refl}
 use Rattle.std.specs.Coded.{Coded, code_by, coded×, coded_ℕ, coded_bool}
 use Rattle.std.specs.FinMap.{FinMap, get}
 use Rattle.disco_instance.specs.Key.{key_cmp}
 use Rattle.disco_instance.specs.declared.key.Key.{Key}
-use Rattle.disco_history.specs.Change.{Entry, key_of, seen}
+use Rattle.disco_history.specs.Change.{Entry, is_proper, key_of, seen}
 use Rattle.disco_history.specs.Registry.{put_of, reg}
 use Rattle.disco_index.specs.Vips as vips
 use Rattle.disco_index.specs.Vips.{Adds, HasNoneEmpty, HasPlaces, VipKeys, coded_vip_keys}
@@ -114,7 +114,7 @@ AddsNoPlaces v l w m = vips.KeepsPlaces w v × leases.KeepsPlaces m l
 
 -- the change that is ready, if there is one
 abbrev pub change_in : Ready → Option Entry
-change_in r = commit.change_in r.ready
+change_in r = r.ready
 
 -- the moment at which it was made ready
 abbrev pub moment_in : Ready → ℕ
@@ -122,7 +122,7 @@ moment_in r = r.moment
 
 -- the hub can commit it without memory
 abbrev pub IsReady : State → Ready → Type 0
-IsReady s r = commit.IsReady s.registry r.ready × HasPlacesFor s.vips s.leases (change_in r) × HasRoomFor s.queue (change_in r) × (option_map seen r.kept ≡ change_in r)
+IsReady s r = commit.IsReady s.registry r.ready × HasPlacesFor s.vips s.leases (change_in r) × HasRoomFor s.queue (change_in r) × (option_map seen r.kept ≡ change_in r) × IfSome r.kept (λ c. is_proper c ≡ true)
 
 -- what is ready is what was asked of the hub, which accepts it
 pub record IsFor (s : State) (r : Ready) (ask : Ask) : Type 0 where

@@ -1,5 +1,5 @@
 -- The last change of each key, one change on.
-use Rattle.std.proofs.Common.{◌≡◌, ℕ, drop, List, [], ◌∷◌, ◌++◌, map, append_assoc, cond, Some, refl, sym, ap, ◌∙◌}
+use Rattle.std.proofs.Common.{◌≡◌, ℕ, drop, List, [], ◌∷◌, ◌++◌, map, append_assoc, cond, Some, true, refl, sym, ap, subst, ◌∙◌}
 use Rattle.std.specs.Borrow.{Bor}
 use Rattle.std.specs.BTreeMap.{insert_entry}
 use Rattle.std.specs.declared.cmp.Ordering.{Ordering}
@@ -8,9 +8,13 @@ use Rattle.std.specs.Ordering.{match_ordering}
 use Rattle.std.specs.FinMap.{entries, insert, same_map, from_sorted, entries-from_sorted, get-from_sorted, entries-insert, get-insert}
 use Rattle.std.specs.FinMap.Entries.{put, by_order}
 use Rattle.std.proofs.lemmas.List.{drop-map, map-append}
+use Rattle.std.specs.List.{All}
+use Rattle.std.specs.Map.{values_of}
+use Rattle.std.proofs.lemmas.List.Elements.{All-nil}
+use Rattle.std.proofs.lemmas.Map.Views.{All-values-insert_entry}
 use Rattle.disco_instance.specs.Key.{key_cmp, same_key}
 use Rattle.disco_instance.specs.declared.key.Key.{Key}
-use Rattle.disco_history.specs.Change.{Entry, key_of, seen}
+use Rattle.disco_history.specs.Change.{Entry, is_proper, key_of, seen}
 use Rattle.disco_history.specs.Mentions.{delta}
 use Rattle.disco_history.specs.declared.change.Change.{Change}
 use Rattle.disco_history.proofs.Keys.{keys_total, exact_keys}
@@ -51,12 +55,14 @@ pub record IsLatest (kept rest : List Kept) (found : Pairs) : Type 0 where
   pub done : List Kept
   pub all : done ++ rest ≡ kept
   pub last : map pair_of found ≡ entries (delta (map change_of done) 0)
+  pub proper : All (λ r. is_proper r.now ≡ true) (values_of found)
 
 pub none_done : (kept rest : List Kept) (found : Pairs) → rest ≡ kept → found ≡ [] → IsLatest kept rest found
 none_done kept rest found all nothing = record {
   done = [];
   all = all;
   last = ap (map pair_of) nothing ∙ sym (entries-from_sorted key_cmp [] tt) ∙ ap entries (sym delta_nil);
+  proper = subst (λ es. All (λ r. is_proper r.now ≡ true) (values_of es)) (sym nothing) (All-nil (λ r. is_proper r.now ≡ true));
 }
 
 pub one_done : (kept before rest : List Kept) (x : Kept) (found : Pairs) (r : Bor Key) (c : Bor Change) (more : Pairs)
@@ -75,6 +81,9 @@ one_done kept before rest x found r c more front key change into so_far =
           ∙ sym (entries-insert keys_total (delta h 0) (key_of (change_of x)) (change_of x))
           ∙ ap entries (sym (delta_more h (change_of x)))
           ∙ ap (λ (es : List Entry). entries (delta es 0)) (sym (map-append change_of so_far.done (x ∷ [])));
+      proper =
+          let here : is_proper c.now ≡ true = ap is_proper change ∙ x.proper in
+          subst (λ es. All (λ r. is_proper r.now ≡ true) (values_of es)) (sym into) (All-values-insert_entry by_key r c (λ y. is_proper y.now ≡ true) found so_far.proper here);
     }
 
 -- the changes of the pairs

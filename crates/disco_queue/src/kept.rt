@@ -1,4 +1,7 @@
 //! A kept change.
+ghost use Rattle.std.specs.Prelude.{◌≡◌, true};
+ghost use Rattle.disco_history.specs.Change.{is_proper};
+
 use disco_history::Change;
 
 /// A change with the moment at which it came, in milliseconds.
@@ -6,4 +9,5 @@ use disco_history::Change;
 pub(crate) struct Kept {
     pub(crate) change: Change,
     pub(crate) moment: u64,
+    ghost proper: { is_proper change ≡ true },
 }

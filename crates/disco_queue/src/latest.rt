@@ -1,8 +1,9 @@
 //! The last change of each key.
-ghost use Rattle.std.specs.Prelude.{◌≡◌, IfOk, map};
+ghost use Rattle.std.specs.Prelude.{◌≡◌, IfOk, map, true};
 ghost use Rattle.std.specs.BTreeMap as tree;
 ghost use Rattle.std.specs.FinMap.{entries, values};
-ghost use Rattle.disco_history.specs.Change.{seen};
+ghost use Rattle.std.specs.List.{All};
+ghost use Rattle.disco_history.specs.Change.{is_proper, seen};
 ghost use Rattle.disco_history.specs.Mentions.{delta};
 ghost use Rattle.disco_queue.specs.Seen.{change_of, pair_of};
 
@@ -13,7 +14,8 @@ use std::alloc::{AllocError, Global};
 use std::collections::{BTreeMap, VecDeque};
 
 fn by_key(changes: &VecDeque<Kept>, alloc: Global) -> Result<BTreeMap<&Key, &Change>, AllocError>
-    ensures { IfOk result (λ found. map pair_of found.entries ≡ entries (delta (map change_of changes.now.items) 0)) }
+    ensures last { IfOk result (λ found. map pair_of found.entries ≡ entries (delta (map change_of changes.now.items) 0)) }
+    ensures proper { IfOk result (λ found. All (λ c. is_proper c.now ≡ true) (tree.values found)) }
 {
     let mut latest = BTreeMap::new(alloc);
     for kept in changes {
@@ -36,7 +38,8 @@ pub(crate) fn last_of_each(
     changes: &VecDeque<Kept>,
     alloc: Global,
 ) -> Result<Vec<&Change>, AllocError>
-    ensures { IfOk result (λ found. map (λ c. seen c.now) found.items ≡ values (delta (map change_of changes.now.items) 0)) }
+    ensures last { IfOk result (λ found. map (λ c. seen c.now) found.items ≡ values (delta (map change_of changes.now.items) 0)) }
+    ensures proper { IfOk result (λ found. All (λ c. is_proper c.now ≡ true) found.items) }
 {
     in_order(by_key(changes, alloc)?, alloc)
 }

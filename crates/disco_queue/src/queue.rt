@@ -1,8 +1,9 @@
 //! The recently changed queue.
-ghost use Rattle.std.specs.Prelude.{◌≡◌, ℕ, ◌+◌, ◌-◌, ◌^◌, ◌<◌, ◌≤◌, List, [], ◌∷◌, ◌++◌, IfErr, IfOk, OnErr, OnOk, drop, length, map, nat_le, nat_lt};
+ghost use Rattle.std.specs.Prelude.{◌≡◌, ℕ, ◌+◌, ◌-◌, ◌^◌, ◌<◌, ◌≤◌, List, [], ◌∷◌, ◌++◌, IfErr, IfOk, OnErr, OnOk, drop, length, map, true, nat_le, nat_lt};
 ghost use Rattle.std.specs.FinMap.{values};
+ghost use Rattle.std.specs.List.{All};
 ghost use Rattle.disco_instance.specs.declared.fault.Fault.TheVariants.{OutOfMemory};
-ghost use Rattle.disco_history.specs.Change.{seen};
+ghost use Rattle.disco_history.specs.Change.{is_proper, seen};
 ghost use Rattle.disco_history.specs.Mentions.{delta};
 ghost use Rattle.disco_queue.specs.Base.{base_after_change, base_after_cleaning, first_before, leaving};
 ghost use Rattle.disco_queue.specs.Queue.{HasRoom, IsSame, Keeps, newest, version};
@@ -99,6 +100,7 @@ impl ChangedQueue {
     pub fn push(&mut self, change: Change, now: u64)
         requires room { HasRoom self.old }
         requires version { version self.old < 2 ^ 64 - 1 }
+        requires proper { is_proper change ≡ true }
         ensures max { self.new.max ≡ self.old.max }
         ensures base { self.new.base ≡ base_after_change self.old.max self.old.base (version self.old + 1) }
         ensures kept { self.new.kept ≡ newest self.old.max (self.old.kept ++ (seen change, now) ∷ []) }
@@ -139,6 +141,7 @@ impl ChangedQueue {
     pub fn last_changes(&self, alloc: Global) -> Result<Vec<&Change>, Fault>
         ensures kept { IfOk result (λ found. map (λ c. seen c.now) found.items ≡ values (delta (changes self.now.kept) 0)) }
         ensures history { (h : List Timed) → Keeps self.now h → IfOk result (λ found. map (λ c. seen c.now) found.items ≡ values (delta (changes h) self.now.base)) }
+        ensures proper { IfOk result (λ found. All (λ c. is_proper c.now ≡ true) found.items) }
         ensures memory { IfErr result (λ e. e ≡ OutOfMemory) }
     {
         Ok(last_of_each(&self.kept, alloc)?)

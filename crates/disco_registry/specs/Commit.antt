@@ -1,36 +1,33 @@
 -- What commits a change.
-use Rattle.std.specs.Prelude.{◌≡◌, ℕ, ◌<◌, ◌+◌, List, [], ◌∷◌, ◌++◌, Option, Some, None, option_map, Result, Ok, Err}
+use Rattle.std.specs.Prelude.{◌≡◌, ℕ, ◌<◌, ◌+◌, List, [], ◌∷◌, ◌++◌, Option, Bool, true, Some, None, Result, Ok, Err}
 use Rattle.std.specs.FinMap.{FinMap, get, insert, remove}
 use Rattle.disco_instance.specs.Key.{key_cmp}
 use Rattle.disco_instance.specs.Row.{row}
 use Rattle.disco_instance.specs.declared.fault.Fault.{Fault}
 use Rattle.disco_instance.specs.declared.key.Key.{Key}
-use Rattle.disco_history.specs.Change.{Entry, key_of, seen}
+use Rattle.disco_history.specs.Change.{Entry, is_proper, key_of, seen}
 use Rattle.disco_history.specs.Registry.{put_of}
 use Rattle.disco_history.specs.declared.change.Change.{Change}
 use Rattle.disco_history.specs.declared.change.Change.TheVariants.{Put, Gone}
-use Rattle.disco_history.specs.Held.{entry_of}
 use Rattle.disco_registry.specs.State.{State}
 use Rattle.disco_registry.specs.declared.op.Applied.{Applied}
 use Rattle.disco_registry.specs.declared.op.Applied.TheVariants.{Changed, Same}
-use Rattle.disco_registry.specs.declared.registry.Ready.{Ready}
 
--- the record of a put is kept, and there is room for it
-abbrev pub HasRoomFor : State → Change → Option Entry → Type 0
-HasRoomFor s (Put action rec) kept = let e : Entry = (row rec.value, action) in (put_of e ≡ Some e) × (kept ≡ Some e) × (get s.held rec.value.key ≡ None → 0 < s.room)
-HasRoomFor s (Gone rec) kept = Unit {0}
+-- there is room for the record that is put, if there is one
+abbrev pub HasRoomFor : State → Option Entry → Type 0
+HasRoomFor s None = Unit {0}
+HasRoomFor s (Some e) = get s.held (key_of e) ≡ None → 0 < s.room
 
-abbrev pub IsReadyFor : State → Option Change → Option Entry → Type 0
-IsReadyFor s None kept = Unit {0}
-IsReadyFor s (Some change) kept = (s.version < s.versions) × HasRoomFor s change kept
+-- the registry can make the change that is ready, if there is one, without memory
+abbrev pub IsReady : State → Option Entry → Type 0
+IsReady s None = Unit {0}
+IsReady s (Some c) = (s.version < s.versions) × HasRoomFor s (put_of c)
 
--- the change that is ready, if there is one
-abbrev pub change_in : Ready → Option Entry
-change_in r = option_map seen r.change
-
--- the registry can commit it without memory
-abbrev pub IsReady : State → Ready → Type 0
-IsReady s r = IsReadyFor s r.change (option_map entry_of r.kept)
+-- beside a change that is ready stands what is kept of it: the record, where it is put
+abbrev pub IsPrepared : Option Change → Option Entry → Type 0
+IsPrepared None kept = Unit {0}
+IsPrepared (Some (Put action rec)) kept = let e : Entry = (row rec.value, action) in (put_of e ≡ Some e) × (kept ≡ Some e)
+IsPrepared (Some (Gone rec)) kept = Unit {0}
 
 abbrev put_at : FinMap key_cmp Entry → Key → Option Entry → FinMap key_cmp Entry
 put_at m k None = remove m k
@@ -56,6 +53,11 @@ pub record Takes (old : State) (c : Option Entry) (new : State) : Type 0 where
 abbrev pub done_by : Applied → Option Entry
 done_by (Changed c) = Some (seen c)
 done_by Same = None
+
+-- that change is no put marked DELETED
+abbrev pub changes_properly : Applied → Bool
+changes_properly (Changed c) = is_proper c
+changes_properly Same = true
 
 abbrev pub outcome : Result Applied Fault → Option Entry
 outcome (Ok a) = done_by a

@@ -1,15 +1,15 @@
 //! The registry.
-ghost use Rattle.std.specs.Prelude.{◌≡◌, ◌<◌, ◌^◌, ◌&&◌, not, nat_lt, List, [], map, IfOk, IfErr, IfSome, None, Some, Ok, filter, option_map};
+ghost use Rattle.std.specs.Prelude.{◌≡◌, ◌<◌, ◌^◌, ◌&&◌, not, nat_lt, List, [], map, IfOk, IfErr, IfSome, None, Some, Ok, filter, option_map, true};
 ghost use Rattle.std.specs.FinMap.{get, len, values};
 ghost use Rattle.disco_instance.specs.Moments.{modified_at};
 ghost use Rattle.disco_instance.specs.Row.{row};
 ghost use Rattle.disco_instance.specs.declared.action.Action.TheVariants.{Added, Modified, Deleted};
 ghost use Rattle.disco_instance.specs.declared.fault.Fault.TheVariants.{OutOfMemory};
-ghost use Rattle.disco_history.specs.Change.{Entry, seen};
+ghost use Rattle.disco_history.specs.Change.{Entry, is_proper, seen};
 ghost use Rattle.disco_history.specs.Registry.{put_of};
 ghost use Rattle.disco_registry.specs.Accept.{Refuses, accepts, is_new, limits_of, status_given};
 ghost use Rattle.disco_history.specs.Apps.{first_of_id, is_of_app};
-ghost use Rattle.disco_registry.specs.Commit.{change_in, IsReady, IsReadyFor, Takes, done_by, extended, outcome};
+ghost use Rattle.disco_registry.specs.Commit.{IsPrepared, IsReady, Takes, changes_properly, done_by, extended, outcome};
 ghost use Rattle.disco_history.specs.Held.{entry_of, record_at, seen_record};
 ghost use Rattle.disco_registry.specs.Op.{ask_of, register, cancel, renew, set_status, drop_status, add_metadata};
 ghost use Rattle.disco_registry.specs.State.{IsSame, StandsFor, State};
@@ -50,13 +50,24 @@ pub struct Ready {
     kept: Option<Held>,
 }
 
-impl Ready {
-    ghost use Rattle.disco_history.specs.Change.{seen};
-    ghost use Rattle.disco_registry.specs.Commit.{change_in};
+impl Model for Ready {
+    ghost use Rattle.std.specs.Prelude.{Option, option_map};
+    ghost use Rattle.disco_history.specs.Change.{Entry, seen};
+    ghost use Rattle.disco_history.specs.Held.{entry_of};
+    ghost use Rattle.disco_registry.specs.Commit.{IsPrepared};
 
+    ghost Value = { Option Entry };
+
+    ghost view = { λ r. option_map seen r.change };
+
+    ghost invariant = { λ r. IsPrepared r.change (option_map entry_of r.kept) };
+}
+
+impl Ready {
     /// The change that a commit makes, where there is one.
     pub fn change(&self) -> Option<&Change>
-        ensures { option_map (λ c. seen c.now) result ≡ change_in self.now }
+        ensures change { option_map (λ c. seen c.now) result ≡ self.now }
+        ensures proper { IfSome result (λ c. is_proper c.now ≡ true) }
     {
         self.change.as_ref()
     }
@@ -64,7 +75,7 @@ impl Ready {
 
 /// There is nothing to change.
 fn same_ready() -> Ready
-    ensures { result ≡ record { change = None; kept = None } }
+    ensures { result ≡ None }
 {
     Ready {
         change: None,
@@ -73,10 +84,9 @@ fn same_ready() -> Ready
 }
 
 fn put_ready(alloc: Global, record_in: Record, action: Action) -> Result<Ready, Fault>
+    requires { put_of (row record_in, action) ≡ Some (row record_in, action) }
     ensures memory { IfErr result (λ e. e ≡ OutOfMemory) }
-    ensures change { IfOk result (λ r. change_in r ≡ Some (row record_in, action)) }
-    ensures room { IfOk result (λ r. (s : State) → s.version < s.versions → put_of (row record_in, action) ≡ Some (row record_in, action)
-        → (get s.held record_in.key ≡ None → 0 < s.room) → IsReady s r) }
+    ensures change { IfOk result (λ r. r ≡ Some (row record_in, action)) }
 {
     let rec = Arc::new(alloc, record_in)?;
     let shared = Arc::try_clone(&rec)?;
@@ -91,8 +101,7 @@ fn put_ready(alloc: Global, record_in: Record, action: Action) -> Result<Ready, 
 
 fn gone_ready(alloc: Global, record_out: Record) -> Result<Ready, Fault>
     ensures memory { IfErr result (λ e. e ≡ OutOfMemory) }
-    ensures change { IfOk result (λ r. change_in r ≡ Some (row record_out, Deleted)) }
-    ensures room { IfOk result (λ r. (s : State) → s.version < s.versions → IsReady s r) }
+    ensures change { IfOk result (λ r. r ≡ Some (row record_out, Deleted)) }
 {
     Ok(Ready {
         change: Some(Change::Gone {
@@ -111,8 +120,7 @@ fn modified_ready(
     now: u64,
 ) -> Result<Ready, Fault>
     ensures memory { IfErr result (λ e. e ≡ OutOfMemory) }
-    ensures change { IfOk result (λ r. change_in r ≡ Some (modified_at (row held.now) status overridden_status now, Modified)) }
-    ensures room { IfOk result (λ r. (s : State) → s.version < s.versions → (get s.held held.now.key ≡ None → 0 < s.room) → IsReady s r) }
+    ensures change { IfOk result (λ r. r ≡ Some (modified_at (row held.now) status overridden_status now, Modified)) }
 {
     let new = held.copy()?.modified(status, overridden_status, now);
     let ready = put_ready(alloc, new, Action::Modified)?;
@@ -211,7 +219,7 @@ impl Registry {
     /// is, and as `OutOfMemory`.
     pub fn ready(&mut self, op: Op, now: u64) -> Result<Ready, Fault>
         ensures same { IsSame self.old self.new }
-        ensures ready { IfOk result (λ r. accepts self.old (ask_of op) now ≡ Ok (change_in r) × IsReady self.new r) }
+        ensures ready { IfOk result (λ r. accepts self.old (ask_of op) now ≡ Ok r × IsReady self.new r) }
         ensures refused { IfErr result (Refuses self.old (ask_of op) now) }
     {
         match op {
@@ -232,7 +240,7 @@ impl Registry {
 
     fn ready_register(&mut self, posted: Record, now: u64) -> Result<Ready, Fault>
         ensures same { IsSame self.old self.new }
-        ensures ready { IfOk result (λ r. accepts self.old (register (row posted)) now ≡ Ok (change_in r) × IsReady self.new r) }
+        ensures ready { IfOk result (λ r. accepts self.old (register (row posted)) now ≡ Ok r × IsReady self.new r) }
         ensures refused { IfErr result (Refuses self.old (register (row posted)) now) }
     {
         let held = self.records.get(&posted.key);
@@ -249,7 +257,7 @@ impl Registry {
     }
 
     fn ready_cancel(&self, key: &Key, now: u64) -> Result<Ready, Fault>
-        ensures ready { IfOk result (λ r. accepts self.now (cancel key.now) now ≡ Ok (change_in r) × IsReady self.now r) }
+        ensures ready { IfOk result (λ r. accepts self.now (cancel key.now) now ≡ Ok r × IsReady self.now r) }
         ensures refused { IfErr result (Refuses self.now (cancel key.now) now) }
     {
         let Some(held) = self.records.get(key) else {
@@ -264,7 +272,7 @@ impl Registry {
     }
 
     fn ready_renew(&self, key: &Key, now: u64) -> Result<Ready, Fault>
-        ensures ready { IfOk result (λ r. accepts self.now (renew key.now) now ≡ Ok (change_in r) × IsReady self.now r) }
+        ensures ready { IfOk result (λ r. accepts self.now (renew key.now) now ≡ Ok r × IsReady self.now r) }
         ensures refused { IfErr result (Refuses self.now (renew key.now) now) }
     {
         let _ = now;
@@ -278,7 +286,7 @@ impl Registry {
     }
 
     fn ready_set_status(&self, key: &Key, text: &Text, now: u64) -> Result<Ready, Fault>
-        ensures ready { IfOk result (λ r. accepts self.now (set_status key.now text.now) now ≡ Ok (change_in r) × IsReady self.now r) }
+        ensures ready { IfOk result (λ r. accepts self.now (set_status key.now text.now) now ≡ Ok r × IsReady self.now r) }
         ensures refused { IfErr result (Refuses self.now (set_status key.now text.now) now) }
     {
         let Some(status) = status_of(text.as_str()) else {
@@ -298,7 +306,7 @@ impl Registry {
     }
 
     fn ready_drop_status(&self, key: &Key, text: &Option<Text>, now: u64) -> Result<Ready, Fault>
-        ensures ready { IfOk result (λ r. accepts self.now (drop_status key.now text.now) now ≡ Ok (change_in r) × IsReady self.now r) }
+        ensures ready { IfOk result (λ r. accepts self.now (drop_status key.now text.now) now ≡ Ok r × IsReady self.now r) }
         ensures refused { IfErr result (Refuses self.now (drop_status key.now text.now) now) }
     {
         let Some(status) = status_given(text) else {
@@ -318,7 +326,7 @@ impl Registry {
     }
 
     fn ready_metadata(&self, key: &Key, entries: &Entries, now: u64) -> Result<Ready, Fault>
-        ensures ready { IfOk result (λ r. accepts self.now (add_metadata key.now entries.now) now ≡ Ok (change_in r) × IsReady self.now r) }
+        ensures ready { IfOk result (λ r. accepts self.now (add_metadata key.now entries.now) now ≡ Ok r × IsReady self.now r) }
         ensures refused { IfErr result (Refuses self.now (add_metadata key.now entries.now) now) }
     {
         let Some(held) = self.records.get(key) else {
@@ -336,9 +344,10 @@ impl Registry {
     /// Makes the change that is ready, where there is one. Takes no memory.
     pub fn commit(&mut self, ready: Ready) -> Applied
         requires { IsReady self.old ready }
-        ensures change { done_by result ≡ change_in ready }
-        ensures takes { Takes self.old (change_in ready) self.new }
-        ensures history { (h : List Entry) → StandsFor self.old h → StandsFor self.new (extended h (change_in ready)) }
+        ensures change { done_by result ≡ ready }
+        ensures proper { changes_properly result ≡ true }
+        ensures takes { Takes self.old ready self.new }
+        ensures history { (h : List Entry) → StandsFor self.old h → StandsFor self.new (extended h ready) }
     {
         let Ready { change, kept } = ready;
         match change {
@@ -351,7 +360,8 @@ impl Registry {
     }
 
     fn take(&mut self, change: &Change, kept: Option<Held>)
-        requires { IsReadyFor self.old (Some change.now) (option_map entry_of kept) }
+        requires ready { IsReady self.old (Some (seen change.now)) }
+        requires prepared { IsPrepared (Some change.now) (option_map entry_of kept) }
         ensures { Takes self.old (Some (seen change.now)) self.new }
     {
         prove!(self.version < self.versions);
@@ -372,7 +382,8 @@ impl Registry {
     pub fn apply(&mut self, op: Op, now: u64) -> Result<Applied, Fault>
         ensures done { IfOk result (λ a. accepts self.old (ask_of op) now ≡ Ok (done_by a)) }
         ensures refused { IfErr result (Refuses self.old (ask_of op) now) }
-        ensures limits { limits_of self.new ≡ limits_of self.old }
+        ensures proper { IfOk result (λ a. changes_properly a ≡ true) }
+        ensures takes { Takes self.old (outcome result) self.new }
         ensures history { (h : List Entry) → StandsFor self.old h → StandsFor self.new (extended h (outcome result)) }
     {
         let ready = self.ready(op, now)?;

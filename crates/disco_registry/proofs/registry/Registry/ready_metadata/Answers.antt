@@ -1,4 +1,4 @@
-use Rattle.std.proofs.Common.{◌<◌, refl, sym, ap, ◌∙◌, Some, Option, Ok, arith}
+use Rattle.std.proofs.Common.{◌<◌, refl, sym, ap, subst, ◌∙◌, Some, Option, Ok, arith}
 use Rattle.disco_instance.specs.Entries.{with_entries}
 use Rattle.disco_instance.specs.Row.{Row, row}
 use Rattle.disco_instance.specs.declared.action.Action.TheVariants.{Added}
@@ -7,6 +7,7 @@ use Rattle.disco_registry.specs.Accept.{asked, limits_of}
 use Rattle.disco_history.specs.Held.{record_at}
 use Rattle.disco_registry.specs.Op.{add_metadata}
 use Rattle.disco_registry.specs.Settle.{settle}
+use Rattle.disco_registry.specs.Commit.{IsReady}
 use Rattle.disco_registry.specs.State.{State}
 use Rattle.disco_registry.proofs.Readies.{left_version, metadata_asked, needs_none, settle-key}
 use Rattle.disco_registry.proofs.registry.Registry.ready_metadata.Goals as goal
@@ -29,5 +30,5 @@ returns-clause-ready c =
       left_version (limits_of s) s.version (settle (Some r) (record r { metadata = with_entries r.metadata es }) now, Added) (asked (limits_of s) s.held (add_metadata k es) now)
           (metadata_asked (record_at s.held k) r es now there) left
           ∙ ap (λ (x : Row). Ok (Some (x, Added))) (sym new) ∙ ap (λ (o : Option Entry). Ok o) (sym c.in_ok-ready.ensures.change),
-      c.in_ok-ready.ensures.room s left refl (needs_none s.held k c.in_ok-new.new.key r s.room there key),
+      subst (IsReady s) (sym c.in_ok-ready.ensures.change) (left, needs_none s.held k c.in_ok-new.new.key r s.room there key),
     )

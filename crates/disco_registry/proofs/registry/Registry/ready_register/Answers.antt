@@ -1,4 +1,4 @@
-use Rattle.std.proofs.Common.{◌≡◌, ◌<◌, ◌&&◌, not, nat_lt, refl, sym, ap, ◌∙◌, Some, Option, Ok, arith}
+use Rattle.std.proofs.Common.{◌≡◌, ◌<◌, ◌&&◌, not, nat_lt, sym, ap, subst, ◌∙◌, Some, Option, Ok, arith}
 use Rattle.std.specs.FinMap as map
 use Rattle.disco_history.specs.Change.{Entry}
 use Rattle.disco_instance.specs.Row.{Row, row}
@@ -6,6 +6,7 @@ use Rattle.disco_instance.specs.declared.action.Action.TheVariants.{Added}
 use Rattle.disco_registry.specs.Accept.{is_new}
 use Rattle.disco_history.specs.Held.{record_at, seen_record}
 use Rattle.disco_registry.specs.Settle.{settle}
+use Rattle.disco_registry.specs.Commit.{IsReady}
 use Rattle.disco_registry.specs.State.{State}
 use Rattle.disco_registry.proofs.Readies.{accepted_new}
 use Rattle.disco_registry.proofs.registry.Registry.ready_register.Goals as goal
@@ -28,5 +29,5 @@ returns-clause-ready c =
       room = c.reserve.new.self.room;
     } in (
       accepted_new s p c.args.now place left ∙ ap (λ (r : Row). Ok (Some (r, Added))) (sym new) ∙ ap (λ (o : Option Entry). Ok o) (sym c.in_ok-ready.ensures.change),
-      c.in_ok-ready.ensures.room after (omega arith) refl (λ _. c.in_ok-reserve.ensures.ok),
+      subst (IsReady after) (sym c.in_ok-ready.ensures.change) (omega arith, λ _. c.in_ok-reserve.ensures.ok),
     )
