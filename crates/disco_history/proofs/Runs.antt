@@ -5,7 +5,7 @@ use Rattle.std.specs.declared.cmp.Ordering.TheVariants.{Less, Equal, Greater}
 use Rattle.std.specs.Cmp.{tied_itself}
 use Rattle.std.specs.Cmp.Lexicographic.{slice_cmp, nat_list_cmp_total}
 use Rattle.std.specs.Borrow.{Bor}
-use Rattle.std.specs.List.{HoldsAt, position_from}
+use Rattle.std.specs.List.{HoldsAt, find, position_from}
 use Rattle.std.proofs.lemmas.Iterator.Adapters.{position_from-zero}
 use Rattle.std.proofs.lemmas.Option.{same_Some, slice_get-get_or}
 use Rattle.std.specs.List.Sorted.{IsPartitionedBy, IsPartitionPoint}
@@ -128,13 +128,13 @@ module _ (p : Entry → Bool) where
   abbrev q : Held → Bool
   q h = p (entry_of h)
 
-  pub first_from : (k : ℕ) (hs : List Held) (i : ℕ) → position_from q k hs ≡ Some i → (k ≤ i) × (slice_get (filter p (map entry_of hs)) 0 ≡ option_map entry_of (slice_get hs (i - k)))
+  pub first_from : (k : ℕ) (hs : List Held) (i : ℕ) → position_from q k hs ≡ Some i → (k ≤ i) × (find p (map entry_of hs) ≡ option_map entry_of (slice_get hs (i - k)))
   first_from k [] i e = absurd (cc)
   first_from k (x ∷ hs) i e = one (p (entry_of x)) e (first_from (k + 1) hs i)
     where
       one : (b : Bool) → cond b (Some k) (position_from q (k + 1) hs) ≡ Some i
-          → (position_from q (k + 1) hs ≡ Some i → (k + 1 ≤ i) × (slice_get (filter p (map entry_of hs)) 0 ≡ option_map entry_of (slice_get hs (i - (k + 1)))))
-          → (k ≤ i) × (slice_get (cond b (entry_of x ∷ filter p (map entry_of hs)) (filter p (map entry_of hs))) 0 ≡ option_map entry_of (slice_get (x ∷ hs) (i - k)))
+          → (position_from q (k + 1) hs ≡ Some i → (k + 1 ≤ i) × (find p (map entry_of hs) ≡ option_map entry_of (slice_get hs (i - (k + 1)))))
+          → (k ≤ i) × (cond b (Some (entry_of x)) (find p (map entry_of hs)) ≡ option_map entry_of (slice_get (x ∷ hs) (i - k)))
       one true e ih =
           let same : k ≡ i = same_Some k i e in
           let none : i - k ≡ 0 = omega (arith, same) in
@@ -144,19 +144,19 @@ module _ (p : Entry → Bool) where
           let more : i - k ≡ suc (i - (k + 1)) = omega (arith, rest.0) in
           (omega (arith, rest.0), rest.1 ∙ sym (ap (λ n. option_map entry_of (slice_get (x ∷ hs) n)) more))
 
-  pub none_from : (k : ℕ) (hs : List Held) → position_from q k hs ≡ None → slice_get (filter p (map entry_of hs)) 0 ≡ None
+  pub none_from : (k : ℕ) (hs : List Held) → position_from q k hs ≡ None → find p (map entry_of hs) ≡ None
   none_from k [] e = refl
   none_from k (x ∷ hs) e = one (p (entry_of x)) e (none_from (k + 1) hs)
     where
-      one : (b : Bool) → cond b (Some k) (position_from q (k + 1) hs) ≡ None → (position_from q (k + 1) hs ≡ None → slice_get (filter p (map entry_of hs)) 0 ≡ None)
-          → slice_get (cond b (entry_of x ∷ filter p (map entry_of hs)) (filter p (map entry_of hs))) 0 ≡ None
+      one : (b : Bool) → cond b (Some k) (position_from q (k + 1) hs) ≡ None → (position_from q (k + 1) hs ≡ None → find p (map entry_of hs) ≡ None)
+          → cond b (Some (entry_of x)) (find p (map entry_of hs)) ≡ None
       one true e ih = absurd (cc)
       one false e ih = ih e
 
-  pub first_at : (hs : List Held) (i : ℕ) → position q hs ≡ Some i → slice_get (filter p (map entry_of hs)) 0 ≡ option_map entry_of (slice_get hs i)
+  pub first_at : (hs : List Held) (i : ℕ) → position q hs ≡ Some i → find p (map entry_of hs) ≡ option_map entry_of (slice_get hs i)
   first_at hs i e = let whole : i - 0 ≡ i = omega arith in (first_from 0 hs i (sym (position_from-zero q hs) ∙ e)).1 ∙ ap (λ n. option_map entry_of (slice_get hs n)) whole
 
-  pub none_at : (hs : List Held) → position q hs ≡ None → slice_get (filter p (map entry_of hs)) 0 ≡ None
+  pub none_at : (hs : List Held) → position q hs ≡ None → find p (map entry_of hs) ≡ None
   none_at hs e = none_from 0 hs (sym (position_from-zero q hs) ∙ e)
 
 past_end : (xs : List Held) (i : ℕ) → length xs ≤ i → slice_get xs i ≡ None

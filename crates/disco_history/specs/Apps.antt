@@ -1,5 +1,5 @@
 -- The records of an app, and of an id, among those in the order of their keys.
-use Rattle.std.specs.Prelude.{◌≡◌, ℕ, ◌<◌, Bool, false, List, filter, length, Option, slice_get, slice_index_or}
+use Rattle.std.specs.Prelude.{◌≡◌, ℕ, ◌<◌, Bool, false, List, length, slice_index_or}
 use Rattle.std.specs.Cmp.Lexicographic.{slice_cmp}
 use Rattle.std.specs.Ordering.{is_lt, nat_cmp}
 use Rattle.std.specs.Str.{bytes_eq}
@@ -13,10 +13,6 @@ is_of_app name e = bytes_eq e.0.key.app name
 -- it is of that id
 abbrev pub is_of_id : List ℕ → Entry → Bool
 is_of_id id e = bytes_eq e.0.key.id id
-
--- the first of them that is of that id
-abbrev pub first_of_id : List ℕ → List Entry → Option Entry
-first_of_id id es = slice_get (filter (is_of_id id) es) 0
 
 -- its app comes before that one
 abbrev pub comes_before : List ℕ → Held → Bool

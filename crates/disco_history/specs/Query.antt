@@ -1,6 +1,6 @@
 -- Which records a query asks for (Eureka's REST operations).
-use Rattle.std.specs.Prelude.{ℕ, Bool, true, false, not, ◌==◌, ◌&&◌, List, [], ◌∷◌, length, filter, if◌then◌else◌, slice_get, Option, Some, None, option_and_then}
-use Rattle.std.specs.List.{list_any, onto_first}
+use Rattle.std.specs.Prelude.{ℕ, Bool, true, false, not, ◌==◌, ◌&&◌, List, [], ◌∷◌, length, filter, if◌then◌else◌, Option, Some, None, option_and_then}
+use Rattle.std.specs.List.{find, list_any, onto_first}
 use Rattle.std.specs.Str.{bytes_eq}
 use Rattle.std.specs.FinMap.{FinMap, get, keys, len, values}
 use Rattle.disco_instance.specs.Key.{key_cmp, same_key}
@@ -49,4 +49,4 @@ is_absent s q = (len (restrict s q) == 0) && not (may_be_empty q)
 
 -- the record of that id with the least app: the first in the order of keys
 abbrev pub by_id : FinMap key_cmp Row → List ℕ → Option Row
-by_id s id = slice_get (filter (λ r. bytes_eq r.key.id id) (values s)) 0
+by_id s id = find (λ r. bytes_eq r.key.id id) (values s)

@@ -1,7 +1,8 @@
 //! The run of an app, and the first record of an id, among records in the order of their keys.
 ghost use Rattle.std.specs.Prelude.{◌≡◌, filter, map, option_map, position};
+ghost use Rattle.std.specs.List.{find};
 ghost use Rattle.std.specs.Str.{bytes_eq};
-ghost use Rattle.disco_history.specs.Apps.{AreFrom, comes_before, first_of_id, is_of_app};
+ghost use Rattle.disco_history.specs.Apps.{AreFrom, comes_before, is_of_app, is_of_id};
 ghost use Rattle.disco_history.specs.Held.{entry_of};
 ghost use Rattle.disco_history.specs.List.{AreSorted};
 
@@ -64,7 +65,7 @@ fn place_of_id(records: &[Held], id: &str) -> Option<usize>
 
 /// The first record of an id.
 pub(crate) fn first_of_id<'a>(records: &'a [Held], id: &str) -> Option<&'a Held>
-    ensures { option_map (λ h. entry_of h.now) result ≡ first_of_id id.now (map entry_of records.now) }
+    ensures { option_map (λ h. entry_of h.now) result ≡ find (is_of_id id.now) (map entry_of records.now) }
 {
     match place_of_id(records, id) {
         Some(place) => records.get(place),

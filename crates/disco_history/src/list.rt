@@ -2,7 +2,8 @@
 ghost use Rattle.std.specs.Prelude.{◌≡◌, ◌<◌, ◌≤◌, ◌+◌, IfOk, IfErr, IfSome, OnOk, None, filter, map, option_map};
 ghost use Rattle.std.specs.FinMap as finmap;
 ghost use Rattle.std.specs.FinMap.{values};
-ghost use Rattle.disco_history.specs.Apps.{first_of_id, is_of_app};
+ghost use Rattle.std.specs.List.{find};
+ghost use Rattle.disco_history.specs.Apps.{is_of_app, is_of_id};
 ghost use Rattle.disco_history.specs.Held.{entry_of, record_at, seen_record};
 ghost use Rattle.disco_history.specs.List.{AreSorted, IsAt, IsGap};
 
@@ -83,7 +84,7 @@ impl RecordList {
 
     /// The first record of an id: of several apps' the one with the least app, in byte order.
     pub fn of_id(&self, id: &str) -> Option<&Held>
-        ensures { option_map (λ h. entry_of h.now) result ≡ first_of_id id.now (values self.now.held) }
+        ensures { option_map (λ h. entry_of h.now) result ≡ find (is_of_id id.now) (values self.now.held) }
     {
         first_of_id(&self.records, id)
     }

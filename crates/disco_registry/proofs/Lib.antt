@@ -1,2 +1,2 @@
-mod Histories
+pub mod Histories
 mod Readies

@@ -30,7 +30,7 @@ spent_version limits version c a e spent = ap (if_left limits version) e ∙ gri
 pub accepted_new : (s : State) (p : Row) (now : ℕ) → (is_new (record_at s.held p.key) && not (nat_lt (len s.held) s.instances)) ≡ false → s.version < s.versions
     → accepts s (register p) now ≡ Ok (Some (settle (record_at s.held p.key) p now, Added))
 accepted_new s p now place left =
-    left_version (limits_of s) s.version (settle (record_at s.held p.key) p now, Added) (asked (limits_of s) s.held (register p) now)
+    left_version (limits_of s) s.version (settle (record_at s.held p.key) p now, Added) (asked (limits_of s) (record_at s.held) (len s.held) (register p) now)
     (ap (λ b. cond b (Err TooManyInstances) (Ok (Some (settle (record_at s.held p.key) p now, Added)))) place) left
 
 pub gone_asked : (o : Option Row) (r : Row) (now : ℕ) → o ≡ Some r → cancelled o now ≡ Ok (Some (cancelled_at r now, Deleted))

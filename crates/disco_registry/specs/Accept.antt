@@ -1,18 +1,18 @@
 -- What an operation does: the first cause against it, else its change or none (the rules of Eureka's REST operations).
 use Rattle.std.specs.Prelude.{◌≡◌, ◌≢◌, ℕ, ◌&&◌, not, List, length, Bool, true, false, nat_lt, if◌then◌else◌, Option, Some, None, Result, Ok, Err}
-use Rattle.std.specs.FinMap.{FinMap, len}
-use Rattle.disco_instance.specs.Key.{key_cmp}
+use Rattle.std.specs.FinMap.{get, len}
 use Rattle.disco_instance.specs.Entries.{with_entries}
 use Rattle.disco_instance.specs.Moments.{cancelled_at, modified_at}
 use Rattle.disco_instance.specs.Row.{Row}
 use Rattle.disco_instance.specs.Status.{is_same, status_named}
+use Rattle.disco_instance.specs.declared.key.Key.{Key}
 use Rattle.disco_instance.specs.declared.status.Status.{Status}
 use Rattle.disco_instance.specs.declared.status.Status.TheVariants.{Unknown}
 use Rattle.disco_instance.specs.declared.action.Action.TheVariants.{Added, Modified, Deleted}
 use Rattle.disco_instance.specs.declared.fault.Fault.{Fault}
 use Rattle.disco_instance.specs.declared.fault.Fault.TheVariants.{OutOfMemory, BadStatus, NotFound, VersionsSpent, TooManyInstances}
 use Rattle.disco_history.specs.Change.{Entry}
-use Rattle.disco_history.specs.Registry.{reg, said}
+use Rattle.disco_history.specs.Registry.{reg}
 use Rattle.disco_history.specs.Held.{record_at}
 use Rattle.disco_registry.specs.Op.{Ask, register, cancel, renew, set_status, drop_status, add_metadata}
 use Rattle.disco_registry.specs.Settle.{settle}
@@ -56,16 +56,15 @@ abbrev pub metadata_added : Option Row → List (List ℕ × List ℕ) → ℕ �
 metadata_added None entries now = Err NotFound
 metadata_added (Some r) entries now = Ok (Some (settle (Some r) (record r { metadata = with_entries r.metadata entries }) now, Added))
 
--- the change that is asked for or none, or the first cause against it
-abbrev pub asked : Limits → FinMap key_cmp Entry → Ask → ℕ → Result (Option Entry) Fault
-asked limits held (register p) now =
-    let r = record_at held p.key in
-    if is_new r && not (nat_lt (len held) (limits.instances)) then Err TooManyInstances else Ok (Some (settle r p now, Added))
-asked limits held (cancel k) now = cancelled (record_at held k) now
-asked limits held (renew k) now = renewed (record_at held k)
-asked limits held (set_status k text) now = status_set (status_named text) (record_at held k) now
-asked limits held (drop_status k text) now = override_dropped (status_given text) (record_at held k) now
-asked limits held (add_metadata k entries) now = metadata_added (record_at held k) entries now
+-- the change that is asked for or none, or the first cause against it, by the record of each key and the number of records
+abbrev pub asked : Limits → (Key → Option Row) → ℕ → Ask → ℕ → Result (Option Entry) Fault
+asked limits held count (register p) now =
+    if is_new (held p.key) && not (nat_lt count (limits.instances)) then Err TooManyInstances else Ok (Some (settle (held p.key) p now, Added))
+asked limits held count (cancel k) now = cancelled (held k) now
+asked limits held count (renew k) now = renewed (held k)
+asked limits held count (set_status k text) now = status_set (status_named text) (held k) now
+asked limits held count (drop_status k text) now = override_dropped (status_given text) (held k) now
+asked limits held count (add_metadata k entries) now = metadata_added (held k) entries now
 
 -- a change needs a version that is left
 abbrev pub if_left : Limits → ℕ → Result (Option Entry) Fault → Result (Option Entry) Fault
@@ -73,20 +72,20 @@ if_left limits version (Err e) = Err e
 if_left limits version (Ok None) = Ok None
 if_left limits version (Ok (Some c)) = if nat_lt version (limits.versions) then Ok (Some c) else Err VersionsSpent
 
--- what an operation does to the mentions that are held at a version
-abbrev pub accept : Limits → FinMap key_cmp Entry → ℕ → Ask → ℕ → Result (Option Entry) Fault
-accept limits held version ask now = if_left limits version (asked limits held ask now)
+-- what an operation does to these records at a version
+abbrev pub accept : Limits → (Key → Option Row) → ℕ → ℕ → Ask → ℕ → Result (Option Entry) Fault
+accept limits held count version ask now = if_left limits version (asked limits held count ask now)
 
--- what it does after a history
+-- what it does after a history: to the history's registry
 abbrev pub accept_after : Limits → List Entry → Ask → ℕ → Result (Option Entry) Fault
-accept_after limits h ask now = accept limits (said h (reg h)) (length h) ask now
+accept_after limits h ask now = accept limits (get (reg h)) (len (reg h)) (length h) ask now
 
 abbrev pub limits_of : State → Limits
 limits_of s = record { versions = s.versions; instances = s.instances }
 
 -- what it does to a registry
 abbrev pub accepts : State → Ask → ℕ → Result (Option Entry) Fault
-accepts s ask now = accept (limits_of s) s.held s.version ask now
+accepts s ask now = accept (limits_of s) (record_at s.held) (len s.held) s.version ask now
 
 -- memory may always be refused, any other fault comes only as the rules have it
 abbrev pub Refuses : State → Ask → ℕ → Fault → Type 0

@@ -1,14 +1,17 @@
 //! The registry.
 ghost use Rattle.std.specs.Prelude.{◌≡◌, ◌<◌, ◌^◌, ◌&&◌, not, nat_lt, List, [], map, IfOk, IfErr, IfSome, None, Some, Ok, filter, option_map, true};
 ghost use Rattle.std.specs.FinMap.{get, len, values};
+ghost use Rattle.std.specs.List.{find};
+ghost use Rattle.disco_instance.specs.Instance.{Gives};
 ghost use Rattle.disco_instance.specs.Moments.{modified_at};
 ghost use Rattle.disco_instance.specs.Row.{row};
 ghost use Rattle.disco_instance.specs.declared.action.Action.TheVariants.{Added, Modified, Deleted};
 ghost use Rattle.disco_instance.specs.declared.fault.Fault.TheVariants.{OutOfMemory};
 ghost use Rattle.disco_history.specs.Change.{Entry, is_proper, seen};
-ghost use Rattle.disco_history.specs.Registry.{put_of};
-ghost use Rattle.disco_registry.specs.Accept.{Refuses, accepts, is_new, limits_of, status_given};
-ghost use Rattle.disco_history.specs.Apps.{first_of_id, is_of_app};
+ghost use Rattle.disco_history.specs.Query.{by_id};
+ghost use Rattle.disco_history.specs.Registry.{put_of, reg};
+ghost use Rattle.disco_registry.specs.Accept.{Refuses, accept_after, accepts, is_new, limits_of, status_given};
+ghost use Rattle.disco_history.specs.Apps.{is_of_app, is_of_id};
 ghost use Rattle.disco_registry.specs.Commit.{IsPrepared, IsReady, Takes, changes_properly, done_by, extended, outcome};
 ghost use Rattle.disco_history.specs.Held.{entry_of, record_at, seen_record};
 ghost use Rattle.disco_registry.specs.Op.{ask_of, register, cancel, renew, set_status, drop_status, add_metadata};
@@ -153,7 +156,8 @@ impl Registry {
 
     /// The record under a key.
     pub fn get(&self, key: &Key) -> Option<&Record>
-        ensures { seen_record result ≡ record_at self.now.held key.now }
+        ensures found { seen_record result ≡ record_at self.now.held key.now }
+        ensures history { (h : List Entry) → StandsFor self.now h → seen_record result ≡ get (reg h) key.now }
     {
         self.records.get(key)
     }
@@ -169,14 +173,15 @@ impl Registry {
     /// The record of an id, with what its last change did: of several apps' the one with the least
     /// app, in byte order.
     pub fn held_by_id(&self, id: &str) -> Option<&Held>
-        ensures { option_map (λ h. entry_of h.now) result ≡ first_of_id id.now (values self.now.held) }
+        ensures { option_map (λ h. entry_of h.now) result ≡ find (is_of_id id.now) (values self.now.held) }
     {
         self.records.of_id(id)
     }
 
     /// The record of an id: of several apps' the one with the least app, in byte order.
     pub fn by_id(&self, id: &str) -> Option<&Record>
-        ensures { seen_record result ≡ option_map (λ e. e.0) (first_of_id id.now (values self.now.held)) }
+        ensures found { seen_record result ≡ option_map (λ e. e.0) (find (is_of_id id.now) (values self.now.held)) }
+        ensures history { (h : List Entry) → StandsFor self.now h → seen_record result ≡ by_id (reg h) id.now }
     {
         match self.held_by_id(id) {
             Some(held) => Some(&*held.rec),
@@ -194,7 +199,8 @@ impl Registry {
 
     /// How many instances are held.
     pub fn len(&self) -> usize
-        ensures { result ≡ len self.now.held }
+        ensures held { result ≡ len self.now.held }
+        ensures history { (h : List Entry) → StandsFor self.now h → result ≡ len (reg h) }
     {
         self.records.len()
     }
@@ -382,6 +388,7 @@ impl Registry {
     pub fn apply(&mut self, op: Op, now: u64) -> Result<Applied, Fault>
         ensures done { IfOk result (λ a. accepts self.old (ask_of op) now ≡ Ok (done_by a)) }
         ensures refused { IfErr result (Refuses self.old (ask_of op) now) }
+        ensures does { (h : List Entry) → StandsFor self.old h → Gives done_by result (accept_after (limits_of self.old) h (ask_of op) now) }
         ensures proper { IfOk result (λ a. changes_properly a ≡ true) }
         ensures takes { Takes self.old (outcome result) self.new }
         ensures history { (h : List Entry) → StandsFor self.old h → StandsFor self.new (extended h (outcome result)) }

@@ -8,11 +8,12 @@ use Rattle.disco_instance.specs.declared.fault.Fault.TheVariants.{OutOfMemory}
 use Rattle.disco_history.specs.Change.{Entry}
 use Rattle.disco_hub.specs.Past.{Past, history, with_done}
 use Rattle.disco_hub.specs.State.{Rules, State, StandsFor, rules_of}
-use Rattle.disco_registry.specs.Accept.{Refuses, accept, accept_after, accepts}
+use Rattle.disco_registry.specs.Accept.{Refuses, accept_after, accepts}
 use Rattle.disco_registry.specs.Commit.{done_by}
 use Rattle.disco_registry.specs.Op.{Ask}
 use Rattle.disco_registry.specs.declared.op.Applied.{Applied}
 use Rattle.disco_registry.specs.declared.op.Applied.TheVariants as applied
+use Rattle.disco_registry.proofs.Histories.{accepts_after}
 use Rattle.disco_queue.specs.Timed.{Timed}
 use Rattle.disco_world.specs.Answers.{IsAnswer}
 use Rattle.disco_world.specs.Events.{Deed, World, clients_after, clients_done, in_full, loads, past_after, past_done, ran_out, writes, after_write, done}
@@ -26,7 +27,7 @@ use Rattle.disco_world.specs.declared.event.Reply.TheVariants.{Refused}
 
 -- what a hub does is done after all that it stands for
 at_history : (s : State) (p : Past) (ask : Ask) (now : ℕ) → StandsFor s p → accepts s.registry ask now ≡ accept_after (rules_of s).limits (history p) ask now
-at_history s p ask now stands = λ i. accept (rules_of s).limits (stands.registry.held i) (stands.registry.version i) ask now
+at_history s p ask now stands = accepts_after s.registry (history p) stands.registry ask now
 
 gives : (s : State) (p : Past) (ask : Ask) (now : ℕ) (r : Result Applied Fault) → StandsFor s p → IfOk r (λ a. accepts s.registry ask now ≡ Ok (done_by a)) → IfErr r (Refuses s.registry ask now)
     → Gives done_by r (done (rules_of s) p now (Ok ask))

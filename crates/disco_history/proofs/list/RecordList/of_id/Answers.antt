@@ -1,6 +1,7 @@
 use Rattle.std.proofs.Common.{sym, ap, ◌∙◌, map}
 use Rattle.std.specs.FinMap.{values}
-use Rattle.disco_history.specs.Apps.{first_of_id}
+use Rattle.std.specs.List.{find}
+use Rattle.disco_history.specs.Apps.{is_of_id}
 use Rattle.disco_history.specs.Held.{entry_of}
 use Rattle.disco_history.specs.List.{Room}
 use Rattle.disco_history.proofs.Places.{values_of}
@@ -9,6 +10,6 @@ use Rattle.disco_history.proofs.list.RecordList.of_id.Goals as goal
 pub returns : goal.returns
 returns c =
     c.first_of_id.ensures
-    ∙ ap (first_of_id c.args.id.now) (ap (map entry_of) c.deref.ensures.value
+    ∙ ap (find (is_of_id c.args.id.now)) (ap (map entry_of) c.deref.ensures.value
     ∙ sym (values_of c.self.inside.records.items c.self.invariant)
     ∙ ap (λ (r : Room). values r.held) c.self.view_is)
