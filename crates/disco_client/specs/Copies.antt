@@ -1,25 +1,19 @@
 -- A client's copy of a registry, and what is asked of it.
 use Rattle.std.specs.Prelude.{◌≡◌, ℕ, Bool, false, ◌&&◌, List, map, Option, Some, None}
-use Rattle.std.specs.Coded.{Coded}
-use Rattle.std.specs.FinMap.{FinMap, code, keys, values}
+use Rattle.std.specs.FinMap.{FinMap, keys, values}
 use Rattle.std.specs.List.{list_any}
 use Rattle.std.specs.Str.{bytes_eq}
 use Rattle.disco_instance.specs.Key.{key_cmp}
 use Rattle.disco_instance.specs.Row.{Row}
 use Rattle.disco_instance.specs.Status.{is_same}
 use Rattle.disco_instance.specs.Text.{in_upper_case}
-use Rattle.disco_instance.specs.contracts.key.Key as key
 use Rattle.disco_instance.specs.declared.status.Status.TheVariants.{Up}
 use Rattle.disco_history.specs.Change.{Entry}
 use Rattle.disco_history.specs.Chosen.{chosen}
-use Rattle.disco_history.specs.Coded.{coded_row}
 use Rattle.disco_history.specs.Hash.{hash}
 use Rattle.disco_history.specs.Held.{record_at}
 use Rattle.disco_history.specs.Query.{vips}
 use Rattle.disco_index.specs.Tally.{Tally, tally_in}
-
-abbrev pub coded_rows : Coded (FinMap key_cmp Row)
-coded_rows = code key.the_row.coded coded_row
 
 -- the records of some entries, by key
 abbrev pub rows_in : FinMap key_cmp Entry → FinMap key_cmp Row

@@ -32,11 +32,13 @@ impl Model for Copy {
     ghost use Rattle.std.specs.FinMap.{FinMap};
     ghost use Rattle.disco_instance.specs.Key.{key_cmp};
     ghost use Rattle.disco_instance.specs.Row.{Row};
-    ghost use Rattle.disco_client.specs.Copies.{coded_rows, rows_in};
+    ghost use Rattle.std.specs.Coded.{codes};
+    ghost use Rattle.std.specs.FinMap.{code};
+    ghost use Rattle.disco_client.specs.Copies.{rows_in};
 
     ghost Value = { FinMap key_cmp Row };
 
-    ghost coded = { coded_rows };
+    ghost coded = { Prim.hlevel (codes, code) };
 
     ghost view = { λ c. rows_in c.counted.held };
 }

@@ -23,12 +23,14 @@ pub(crate) struct Counted {
 }
 
 impl Model for Counted {
-    ghost use Rattle.disco_history.specs.List.{Room, coded_room};
+    ghost use Rattle.std.specs.Coded.{codes};
+    ghost use Rattle.std.specs.FinMap.{code};
+    ghost use Rattle.disco_history.specs.Room.{Room};
     ghost use Rattle.disco_client.specs.Copies.{IsTied};
 
     ghost Value = { Room };
 
-    ghost coded = { coded_room };
+    ghost coded = { Prim.hlevel (codes, code) };
 
     ghost view = { λ c. c.records };
 

@@ -14,7 +14,8 @@ use Rattle.std.specs.Str.{bytes_eq}
 use Rattle.std.proofs.lemmas.Map.Text.{is_eq-slice_cmp}
 use Rattle.std.proofs.lemmas.Slice.Eq.{bytes_eq-Decides}
 use Rattle.disco_history.specs.declared.held.Held.{Held}
-use Rattle.disco_history.specs.Apps.{AreFrom, comes_before, is_of_app}
+use Rattle.disco_history.specs.Apps.{is_of_app}
+use Rattle.disco_history.specs.List.{AreFrom, comes_before}
 use Rattle.disco_history.specs.Held.{entry_of}
 use Rattle.disco_history.specs.List.{AreSorted}
 use Rattle.disco_history.specs.Change.{Entry}

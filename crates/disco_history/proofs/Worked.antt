@@ -17,6 +17,7 @@ pub worked : Worked
 unfolding digits
 worked = record {
   hash_code = refl;
+  count_of_two_digits = refl;
   empty_hash_code = refl;
   vips_of = refl;
   registry = get-reg story a1;

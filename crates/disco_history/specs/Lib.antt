@@ -1,7 +1,6 @@
 pub mod Apps
 pub mod Change
 pub mod Chosen
-pub mod Coded
 pub mod Forms
 pub mod Hash
 pub mod Held
@@ -10,4 +9,5 @@ pub mod List
 pub mod Mentions
 pub mod Query
 pub mod Registry
+pub mod Room
 pub mod Worked

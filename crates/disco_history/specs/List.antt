@@ -1,24 +1,16 @@
--- Held records in the order of their keys.
-use Rattle.std.specs.Prelude.{◌≡◌, ℕ, ◌<◌, ◌≤◌, List, map, length, slice_index_or, refl}
+-- Held records in the order of their keys. Nothing here is to be believed: no public contract rests on it.
+use Rattle.std.specs.Prelude.{◌≡◌, ℕ, ◌<◌, ◌≤◌, Bool, false, List, map, length, slice_index_or}
 use Rattle.std.proofs.Common.{T}
 use Rattle.std.specs.declared.cmp.Ordering.TheVariants.{Less, Equal, Greater}
+use Rattle.std.specs.Cmp.Lexicographic.{slice_cmp}
+use Rattle.std.specs.Ordering.{is_lt, nat_cmp}
 use Rattle.std.specs.FinMap.{FinMap, from_sorted}
 use Rattle.std.specs.FinMap.Entries.{is_sorted}
-use Rattle.std.specs.Coded.{Coded, code_by, coded×, coded_ℕ}
 use Rattle.disco_instance.specs.Key.{key_cmp}
 use Rattle.disco_instance.specs.declared.key.Key.{Key}
 use Rattle.disco_history.specs.Change.{Entry}
-use Rattle.disco_history.specs.Coded.{coded_mentions}
 use Rattle.disco_history.specs.Held.{entry_of}
 use Rattle.disco_history.specs.declared.held.Held.{Held}
-
--- the records by key, and how many more fit into the room that is there
-pub record Room : Type 0 where
-  pub held : FinMap key_cmp Entry
-  pub room : ℕ
-
-abbrev pub coded_room : Coded Room
-coded_room = code_by (FinMap key_cmp Entry × ℕ) (coded× coded_mentions coded_ℕ) (λ h. (h.held, h.room)) (λ p. record { held = p.0; room = p.1 }) (λ _. refl)
 
 -- each record under its key
 abbrev pub by_key : List Held → List (Key × Entry)
@@ -45,3 +37,11 @@ pub record IsGap (hs : List Held) (k : Key) (i : ℕ) : Type 0 where
   pub in_range : i ≤ length hs
   pub before : ComesAfter k hs i
   pub here : (d : Held) → i < length hs → key_cmp k (slice_index_or hs i d).rec.value.key ≡ Less
+
+-- its app comes before that one
+abbrev pub comes_before : List ℕ → Held → Bool
+comes_before name h = is_lt (slice_cmp nat_cmp h.rec.value.key.app name)
+
+-- none of their apps comes before that one
+abbrev pub AreFrom : List ℕ → List Held → Type 0
+AreFrom name hs = (i : ℕ) (d : Held) → i < length hs → comes_before name (slice_index_or hs i d) ≡ false

@@ -9,7 +9,7 @@ use Rattle.disco_instance.specs.declared.status.Status.{Status}
 use Rattle.disco_instance.specs.declared.status.Status.TheVariants.{Up, Down, Unknown}
 use Rattle.disco_history.specs.Change.{Entry, front}
 use Rattle.disco_history.specs.Forms.{default_lease, formed}
-use Rattle.disco_history.specs.Hash.{hash}
+use Rattle.disco_history.specs.Hash.{digits, hash}
 use Rattle.disco_history.specs.Mentions.{delta, mention_of, overlay}
 use Rattle.disco_history.specs.Query.{of_app, of_vip, restrict, vips}
 use Rattle.disco_history.specs.Registry.{reg, said}
@@ -55,6 +55,7 @@ story =
 
 pub record Worked : Type 0 where
   pub hash_code : hash (instance (codes "A") (codes "1") Up ∷ instance (codes "A") (codes "2") Down ∷ instance (codes "B") (codes "1") Up ∷ []) ≡ codes "DOWN_1_UP_2_"
+  pub count_of_two_digits : digits 10 ≡ codes "10"
   pub empty_hash_code : hash [] ≡ []
   pub vips_of : vips (codes ",a,,b") ≡ codes "a" ∷ codes "b" ∷ []
   pub registry : get (reg story) a1 ≡ Some (instance (codes "A") (codes "1") Down)

@@ -2,7 +2,8 @@
 ghost use Rattle.std.specs.Prelude.{◌≡◌, filter, map, option_map, position};
 ghost use Rattle.std.specs.List.{find};
 ghost use Rattle.std.specs.Str.{bytes_eq};
-ghost use Rattle.disco_history.specs.Apps.{AreFrom, comes_before, is_of_app, is_of_id};
+ghost use Rattle.disco_history.specs.Apps.{is_of_app, is_of_id};
+ghost use Rattle.disco_history.specs.List.{AreFrom, comes_before};
 ghost use Rattle.disco_history.specs.Held.{entry_of};
 ghost use Rattle.disco_history.specs.List.{AreSorted};
 

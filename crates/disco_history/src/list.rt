@@ -21,12 +21,15 @@ pub struct RecordList {
 
 impl Model for RecordList {
     ghost use Rattle.std.specs.Prelude.{◌-◌, vec_len};
+    ghost use Rattle.std.specs.Coded.{codes};
+    ghost use Rattle.std.specs.FinMap.{code};
     ghost use Rattle.std.specs.Vec.{vec_capacity};
-    ghost use Rattle.disco_history.specs.List.{Room, coded_room, AreSorted, map_of};
+    ghost use Rattle.disco_history.specs.List.{AreSorted, map_of};
+    ghost use Rattle.disco_history.specs.Room.{Room};
 
     ghost Value = { Room };
 
-    ghost coded = { coded_room };
+    ghost coded = { Prim.hlevel (codes, code) };
 
     ghost view = { λ r. record { held = map_of r.records.items; room = vec_capacity r.records - vec_len r.records } };
 

@@ -1,17 +1,16 @@
 -- What a hub is, and what its commits need.
-use Rattle.std.specs.Prelude.{◌≡◌, ℕ, Bool, true, Option, Some, None, Ok, IfSome, option_map, refl}
-use Rattle.std.specs.Coded.{Coded, code_by, coded×, coded_ℕ, coded_bool}
+use Rattle.std.specs.Prelude.{◌≡◌, ℕ, Bool, true, Option, Some, None, Ok, IfSome, option_map}
 use Rattle.std.specs.FinMap.{FinMap, get}
 use Rattle.disco_instance.specs.Key.{key_cmp}
 use Rattle.disco_instance.specs.declared.key.Key.{Key}
 use Rattle.disco_history.specs.Change.{Entry, is_proper, key_of, seen}
 use Rattle.disco_history.specs.Registry.{put_of, reg}
 use Rattle.disco_index.specs.Vips as vips
-use Rattle.disco_index.specs.Vips.{Adds, HasNoneEmpty, HasPlaces, VipKeys, coded_vip_keys}
+use Rattle.disco_index.specs.Vips.{Adds, HasNoneEmpty, HasPlaces, VipKeys}
 use Rattle.disco_lease.specs.Leases as leases
-use Rattle.disco_lease.specs.Leases.{HasPlace, IsFilled, Leases, coded_leases, lease_at}
+use Rattle.disco_lease.specs.Leases.{HasPlace, IsFilled, Leases, lease_at}
 use Rattle.disco_queue.specs.Queue as queue
-use Rattle.disco_queue.specs.Queue.{HasRoom, Keeps, Queue, coded_queue}
+use Rattle.disco_queue.specs.Queue.{HasRoom, Keeps, Queue}
 use Rattle.disco_registry.specs.Commit as commit
 use Rattle.disco_registry.specs.State as registry
 use Rattle.disco_registry.specs.Accept.{Limits, accepts, limits_of}
@@ -32,12 +31,6 @@ pub record State : Type 0 where
   pub queue : Queue
   pub retention : ℕ
   pub delta : Bool
-
-abbrev pub coded_state : Coded State
-coded_state =
-    code_by (registry.State × (VipKeys × (Leases × (Queue × (ℕ × Bool))))) (coded× registry.coded_state (coded× coded_vip_keys (coded× coded_leases (coded× coded_queue (coded× coded_ℕ coded_bool)))))
-    (λ s. (s.registry, (s.vips, (s.leases, (s.queue, (s.retention, s.delta))))))
-    (λ p. record { registry = p.0; vips = p.1.0; leases = p.1.1.0; queue = p.1.1.1.0; retention = p.1.1.1.1.0; delta = p.1.1.1.1.1 }) (λ _. refl)
 
 -- the limits and choices that answers depend on
 pub record Rules : Type 0 where

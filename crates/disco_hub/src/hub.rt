@@ -56,12 +56,14 @@ pub struct Hub {
 }
 
 impl Model for Hub {
-    ghost use Rattle.disco_hub.specs.State.{State, coded_state};
+    ghost use Rattle.std.specs.Coded.{codes};
+    ghost use Rattle.std.specs.FinMap.{code};
+    ghost use Rattle.disco_hub.specs.State.{State};
     ghost use Rattle.disco_hub.specs.Tied.{IsTied};
 
     ghost Value = { State };
 
-    ghost coded = { coded_state };
+    ghost coded = { Prim.hlevel (codes, code) };
 
     ghost view = { λ h. record { registry = h.registry; vips = h.vips; leases = h.leases; queue = h.queue; retention = h.retention; delta = h.delta } };
 

@@ -1,4 +1,4 @@
--- What is stored of vips, and what becomes of places.
+-- What is stored of vips, and what becomes of places. Nothing here is to be believed: no public contract rests on it.
 use Rattle.std.specs.Prelude.{◌≡◌, ℕ, Bool, true, false, ◌&&◌, List, map, filter, if◌then◌else◌, Option, Some, None, option_map, string_bytes}
 use Rattle.std.specs.FinMap.{FinMap, empty, from_entries, entries, get}
 use Rattle.std.specs.List.{list_any}

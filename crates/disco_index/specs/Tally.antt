@@ -1,6 +1,5 @@
 -- How many instances have each status, as numbers.
-use Rattle.std.specs.Prelude.{ℕ, ◌+◌, ◌-◌, List, map, Option, Some, None, refl}
-use Rattle.std.specs.Coded.{Coded, code_by, coded×, coded_ℕ}
+use Rattle.std.specs.Prelude.{ℕ, ◌+◌, ◌-◌, List, map, Option, Some, None}
 use Rattle.std.specs.FinMap.{FinMap, values}
 use Rattle.disco_instance.specs.Key.{key_cmp}
 use Rattle.disco_instance.specs.Row.{Row}
@@ -16,13 +15,6 @@ pub record Tally : Type 0 where
   pub starting : ℕ
   pub unknown : ℕ
   pub up : ℕ
-
-abbrev pub coded_tally : Coded Tally
-coded_tally =
-    code_by (ℕ × (ℕ × (ℕ × (ℕ × ℕ)))) (coded× coded_ℕ (coded× coded_ℕ (coded× coded_ℕ (coded× coded_ℕ coded_ℕ))))
-    (λ t. (t.down, (t.out_of_service, (t.starting, (t.unknown, t.up)))))
-    (λ p. record { down = p.0; out_of_service = p.1.0; starting = p.1.1.0; unknown = p.1.1.1.0; up = p.1.1.1.1 })
-    (λ _. refl)
 
 -- the number of a status
 abbrev pub count_in : Tally → Status → ℕ

@@ -1,26 +1,18 @@
 -- Which instances have a vip, as plain data.
 use Rattle.std.specs.Prelude.{◌≡◌, ℕ, Bool, true, false, not, ◌&&◌, ◌||◌, List, filter, Option, Some, None, IsSome}
-use Rattle.std.specs.Coded.{Coded, coded_bool, coded_list, coded_ℕ}
 use Rattle.std.specs.Cmp.Lexicographic.{slice_cmp}
-use Rattle.std.specs.FinMap.{FinMap, code, empty, get, keys}
+use Rattle.std.specs.FinMap.{FinMap, empty, get, keys}
 use Rattle.std.specs.Option.{unwrap_or}
 use Rattle.std.specs.Ordering.{nat_cmp}
 use Rattle.disco_instance.specs.Key.{key_cmp, same_key}
 use Rattle.disco_instance.specs.Row.{Row}
-use Rattle.disco_instance.specs.contracts.key.Key as key
 use Rattle.disco_instance.specs.declared.key.Key.{Key}
 use Rattle.disco_history.specs.Change.{Entry}
 use Rattle.disco_history.specs.Query.{asks_for, of_vip}
 
-abbrev pub coded_places : Coded (FinMap key_cmp Bool)
-coded_places = code key.the_row.coded coded_bool
-
 -- under each of some vips a place for each of some keys, true where the instance is there
 abbrev pub VipKeys : Type 0
 VipKeys = FinMap (slice_cmp nat_cmp) (FinMap key_cmp Bool)
-
-abbrev pub coded_vip_keys : Coded VipKeys
-coded_vip_keys = code (coded_list coded_ℕ) coded_places
 
 -- the places under a vip
 abbrev pub places_at : VipKeys → List ℕ → FinMap key_cmp Bool

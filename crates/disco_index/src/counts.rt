@@ -25,11 +25,9 @@ pub struct Counts {
 }
 
 impl Model for Counts {
-    ghost use Rattle.disco_index.specs.Tally.{Tally, coded_tally};
+    ghost use Rattle.disco_index.specs.Tally.{Tally};
 
     ghost Value = { Tally };
-
-    ghost coded = { coded_tally };
 
     ghost view = { λ c. record { down = c.down; out_of_service = c.out_of_service; starting = c.starting; unknown = c.unknown; up = c.up } };
 }

@@ -18,13 +18,13 @@ pub(crate) struct Places {
 
 impl Model for Places {
     ghost use Rattle.std.specs.Prelude.{Bool};
-    ghost use Rattle.std.specs.FinMap.{FinMap, from_entries};
+    ghost use Rattle.std.specs.Coded.{codes};
+    ghost use Rattle.std.specs.FinMap.{FinMap, code, from_entries};
     ghost use Rattle.disco_instance.specs.Key.{key_cmp};
-    ghost use Rattle.disco_index.specs.Vips.{coded_places};
 
     ghost Value = { FinMap key_cmp Bool };
 
-    ghost coded = { coded_places };
+    ghost coded = { Prim.hlevel (codes, code) };
 
     ghost view = { λ p. from_entries p.places.entries };
 }

@@ -30,12 +30,14 @@ pub struct VipIndex {
 }
 
 impl Model for VipIndex {
+    ghost use Rattle.std.specs.Coded.{codes};
+    ghost use Rattle.std.specs.FinMap.{code};
     ghost use Rattle.disco_index.specs.Places.{HasNoBareVip, seen_vips};
-    ghost use Rattle.disco_index.specs.Vips.{VipKeys, coded_vip_keys};
+    ghost use Rattle.disco_index.specs.Vips.{VipKeys};
 
     ghost Value = { VipKeys };
 
-    ghost coded = { coded_vip_keys };
+    ghost coded = { Prim.hlevel (codes, code) };
 
     ghost view = { λ v. seen_vips v.vips.entries };
 

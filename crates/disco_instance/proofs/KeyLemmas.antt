@@ -7,7 +7,8 @@ use Rattle.serde_json.specs.Data.{Data}
 use Rattle.disco_instance.specs.Text.{in_upper_case}
 use Rattle.disco_instance.specs.declared.key.Key.{Key}
 use Rattle.disco_instance.specs.Members.{not_empty, text_at}
-use Rattle.disco_instance.specs.Instance.{id_at, app_at, key_by, key_at, IsRecordKey}
+use Rattle.disco_instance.specs.Instance.{id_at, app_at, key_by, key_at}
+use Rattle.disco_instance.specs.Steps.{IsRecordKey}
 
 abbrev IsNotEmpty : Option (List ℕ) → Type 0
 IsNotEmpty o = IfSome o (λ s. s ≢ [])

@@ -8,7 +8,8 @@ use Rattle.std.specs.FinMap.Entries.{by_order, put}
 use Rattle.std.specs.List.{insert}
 use Rattle.std.specs.Str.{bytes_eq}
 use Rattle.std.proofs.lemmas.Map.Lookups.{exact_bytes}
-use Rattle.disco_instance.specs.Entries.{IsNameAt, IsNameGap, NameComesAfter, is_before, is_by_name}
+use Rattle.disco_instance.specs.Entries.{is_before, is_by_name}
+use Rattle.disco_instance.specs.Steps.{IsNameAt, IsNameGap, NameComesAfter}
 
 abbrev Pair : Type 0
 Pair = List ℕ × List ℕ

@@ -6,7 +6,8 @@ use Rattle.disco_instance.specs.declared.lease.Lease.{Lease}
 use Rattle.disco_instance.specs.declared.record.Record.{Record}
 use Rattle.disco_instance.specs.Row.{row, numbers}
 use Rattle.disco_instance.specs.Members.{inner_at}
-use Rattle.disco_instance.specs.Instance.{Says, Gives, IfSays, lease_matches, lease_at, row_at, with_row, key_at, told_by}
+use Rattle.disco_instance.specs.Instance.{Gives, lease_at, row_at, if_ok, key_at, told_by}
+use Rattle.disco_instance.specs.Steps.{Says, IfSays, lease_matches}
 
 same_numbers : (l : Lease) (d : Data) → lease_matches l d → numbers l ≡ lease_at d
 same_numbers l d m = λ i. record { duration_secs = m.0 i; renewal_interval_secs = m.1 i; eviction = m.2 i; last_renewal = m.3 i; registration = m.4 i; service_up = m.5 i }
@@ -38,5 +39,5 @@ same_rows d r s =
     }
 
 pub told : (within : Option (List ℕ)) (d : Data) (r : Result Record Fault) → IfSays d r → Gives (λ x. x.key) r (key_at within d) → Gives row r (told_by within d)
-told within d (Ok r) s k = ap (with_row d) k ∙ ap Ok (sym (same_rows d r s))
-told within d (Err e) s k = λ other. ap (with_row d) (k other)
+told within d (Ok r) s k = ap (λ o. if_ok o (λ q. Ok (row_at d q))) k ∙ ap Ok (sym (same_rows d r s))
+told within d (Err e) s k = λ other. ap (λ o. if_ok o (λ q. Ok (row_at d q))) (k other)

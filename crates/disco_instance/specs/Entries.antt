@@ -1,7 +1,6 @@
 -- What metadata keeps.
-use Rattle.std.specs.Prelude.{◌≡◌, ℕ, ◌<◌, ◌≤◌, length, slice_index_or, List, [], ◌∷◌, Bool, true, ◌&&◌, codes, not, if◌then◌else◌}
+use Rattle.std.specs.Prelude.{ℕ, List, [], ◌∷◌, Bool, true, ◌&&◌, codes, not, if◌then◌else◌}
 use Rattle.std.specs.Str.{bytes_eq}
-use Rattle.std.specs.declared.cmp.Ordering.TheVariants.{Less, Equal, Greater}
 use Rattle.std.specs.Ordering.{nat_cmp, is_lt}
 use Rattle.std.specs.Cmp.Lexicographic.{slice_cmp}
 use Rattle.std.specs.FinMap.Entries.{put}
@@ -25,19 +24,3 @@ with_entries es (e ∷ others) = with_entries (put (slice_cmp nat_cmp) e.0 e.1 e
 abbrev pub entries_of : List (List ℕ × List ℕ) → List (List ℕ × List ℕ)
 entries_of [] = []
 entries_of (p ∷ ps) = if bytes_eq p.0 (codes "@class") then entries_of ps else put (slice_cmp nat_cmp) p.0 p.1 (entries_of ps)
-
--- the name comes after those of the entries before place i
-abbrev pub NameComesAfter : List ℕ → List (List ℕ × List ℕ) → ℕ → Type 0
-NameComesAfter name es i = (j : ℕ) (d : List ℕ × List ℕ) → j < i → slice_cmp nat_cmp name (slice_index_or es j d).0 ≡ Greater
-
--- the entry at place i is that of the name
-pub record IsNameAt (es : List (List ℕ × List ℕ)) (name : List ℕ) (i : ℕ) : Type 0 where
-  pub in_range : i < length es
-  pub before : NameComesAfter name es i
-  pub here : (d : List ℕ × List ℕ) → slice_cmp nat_cmp name (slice_index_or es i d).0 ≡ Equal
-
--- no entry is of the name, and it would go to place i
-pub record IsNameGap (es : List (List ℕ × List ℕ)) (name : List ℕ) (i : ℕ) : Type 0 where
-  pub in_range : i ≤ length es
-  pub before : NameComesAfter name es i
-  pub here : (d : List ℕ × List ℕ) → i < length es → slice_cmp nat_cmp name (slice_index_or es i d).0 ≡ Less

@@ -1,5 +1,5 @@
 -- The member table: what a JSON tree says of an instance (Eureka's REST operations; ranges are this project's own rule).
-use Rattle.std.specs.Prelude.{ℕ, ◌≡◌, ◌≢◌, true, false, List, codes, Option, Some, None, Result, Ok, Err, IfOk, option_and_then, unwrap_or, []}
+use Rattle.std.specs.Prelude.{ℕ, ◌≡◌, ◌≢◌, true, false, List, codes, Option, Some, None, Result, Ok, Err, option_and_then, unwrap_or}
 use Rattle.std.specs.Option.{option_or}
 use Rattle.serde_json.specs.Data.{Data}
 use Rattle.disco_instance.specs.Action.{action_named}
@@ -13,8 +13,6 @@ use Rattle.disco_instance.specs.declared.fault.Fault.{Fault}
 use Rattle.disco_instance.specs.declared.fault.Fault.TheVariants.{OutOfMemory, MissingField}
 use Rattle.disco_instance.specs.declared.fault.Field.TheVariants.{InstanceId, App}
 use Rattle.disco_instance.specs.declared.key.Key.{Key}
-use Rattle.disco_instance.specs.declared.lease.Lease.{Lease}
-use Rattle.disco_instance.specs.declared.record.Record.{Record}
 use Rattle.disco_instance.specs.declared.status.Status.TheVariants.{Up}
 
 -- what a call gave, seen by a function, is this, unless memory ran out
@@ -83,50 +81,15 @@ row_at d k = record {
   status = status_at (codes "status") Up d;
 }
 
-abbrev pub with_row : Data → Result Key Fault → Result Row Fault
-with_row d (Ok k) = Ok (row_at d k)
-with_row d (Err e) = Err e
+-- what f makes of an answer, where there is one
+abbrev pub if_ok : {A B : Type 0} → Result A Fault → (A → Result B Fault) → Result B Fault
+if_ok (Ok x) f = f x
+if_ok (Err e) f = Err e
 
 -- what a tree says of an instance within an application of that name, or what is missing
 abbrev pub told_by : Option (List ℕ) → Data → Result Row Fault
-told_by within d = with_row d (key_at within d)
+told_by within d = if_ok (key_at within d) (λ k. Ok (row_at d k))
 
 -- what was done to the instance, where the tree says so
 abbrev pub action_at : Data → Option Action
 action_at d = option_and_then action_named (text_at (codes "actionType") d)
-
--- ---- the same of a record, a member at a time
-
-abbrev pub lease_matches : Lease → Data → Type 0
-lease_matches l d = (l.duration_secs ≡ number_at (codes "durationInSecs") 1 2147483647 90 d) × (l.renewal_interval_secs ≡ number_at (codes "renewalIntervalInSecs") 0 2147483647 30 d)
-    × (l.eviction ≡ number_at (codes "evictionTimestamp") 0 18446744073709551615 0 d) × (l.last_renewal ≡ number_at (codes "lastRenewalTimestamp") 0 18446744073709551615 0 d)
-    × (l.registration ≡ number_at (codes "registrationTimestamp") 0 18446744073709551615 0 d) × (l.service_up ≡ number_at (codes "serviceUpTimestamp") 0 18446744073709551615 0 d)
-
-pub record Says (d : Data) (r : Record) : Type 0 where
-  pub country : r.country_id ≡ number_at (codes "countryId") 0 2147483647 1 d
-  pub data_center : r.data_center ≡ data_center_at d
-  pub health_check_url : r.health_check_url ≡ text_or_empty (codes "healthCheckUrl") d
-  pub home_page_url : r.home_page_url ≡ text_or_empty (codes "homePageUrl") d
-  pub status_page_url : r.status_page_url ≡ text_or_empty (codes "statusPageUrl") d
-  pub host_name : r.host_name ≡ text_or_empty (codes "hostName") d
-  pub ip_addr : r.ip_addr ≡ text_or_empty (codes "ipAddr") d
-  pub is_coordinating : r.is_coordinating ≡ unwrap_or (flag_at (codes "isCoordinatingDiscoveryServer") d) false
-  pub last_dirty : r.last_dirty ≡ number_at (codes "lastDirtyTimestamp") 0 18446744073709551615 0 d
-  pub last_updated : r.last_updated ≡ number_at (codes "lastUpdatedTimestamp") 0 18446744073709551615 0 d
-  pub lease : lease_matches r.lease (inner_at (codes "leaseInfo") d)
-  pub metadata : r.metadata ≡ entries_at (codes "metadata") d
-  pub overridden_status : r.overridden_status ≡ override_at d
-  pub port : r.port ≡ port_at (codes "port") 7001 true d
-  pub secure_port : r.secure_port ≡ port_at (codes "securePort") 7002 false d
-  pub secure_vip_address : r.secure_vip_address ≡ text_or_empty (codes "secureVipAddress") d
-  pub vip_address : r.vip_address ≡ text_or_empty (codes "vipAddress") d
-  pub status : r.status ≡ status_at (codes "status") Up d
-
-abbrev pub IfSays : Data → Result Record Fault → Type 0
-IfSays d r = IfOk r (λ x. Says d x)
-
--- a key that a record may have
-pub record IsRecordKey (k : Key) : Type 0 where
-  pub has_app : k.app ≢ []
-  pub has_id : k.id ≢ []
-  pub upper : in_upper_case k.app ≡ k.app

@@ -9,4 +9,5 @@ pub mod Moments
 pub mod Row
 pub mod Since
 pub mod Status
+pub mod Steps
 pub mod Text

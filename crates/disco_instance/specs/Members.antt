@@ -4,7 +4,7 @@ use Rattle.std.specs.List.{list_all}
 use Rattle.std.specs.Char.{is_ascii_digit}
 use Rattle.std.specs.Str.{bytes_eq}
 use Rattle.std.specs.Str.Parse.{digits_value}
-use Rattle.serde_json.specs.Data.{Data, null, boolean, number, string, array, object}
+use Rattle.serde_json.specs.Data.{Data, null, boolean, number, string}
 use Rattle.serde_json.specs.Find.{get, as_str, as_u64}
 use Rattle.disco_instance.specs.Text.{in_upper_case}
 use Rattle.disco_instance.specs.Status.{status_named}
@@ -20,24 +20,18 @@ digits_number s = if not (length s == 0) && (list_all is_ascii_digit s && nat_lt
 
 -- a whole number, given as a number or as a text of digits
 abbrev pub as_whole : Data → Option ℕ
-as_whole null = None
-as_whole (boolean b) = None
 as_whole (number n) = as_u64 n
 as_whole (string s) = digits_number s
-as_whole (array ds) = None
-as_whole (object ms) = None
+as_whole _ = None
 
 abbrev pub flag_named : List ℕ → Option Bool
 flag_named s = if bytes_eq s (codes "true") then Some true else (if bytes_eq s (codes "false") then Some false else None)
 
 -- a truth value, given as one or as its name
 abbrev pub as_flag : Data → Option Bool
-as_flag null = None
 as_flag (boolean b) = Some b
-as_flag (number n) = None
 as_flag (string s) = flag_named s
-as_flag (array ds) = None
-as_flag (object ms) = None
+as_flag _ = None
 
 -- a text that is not empty
 abbrev pub not_empty : List ℕ → Option (List ℕ)

@@ -1,17 +1,15 @@
 -- Which entries of an object are kept as metadata, and as what (this project's own rule).
 use Rattle.std.specs.Prelude.{ℕ, List, [], ◌∷◌, codes, if◌then◌else◌, Option, Some, None, option_and_then, option_map, decimal}
 use Rattle.std.specs.Str.{bytes_eq}
-use Rattle.serde_json.specs.Data.{Data, null, boolean, number, string, array, object, Members, no_members, member}
+use Rattle.serde_json.specs.Data.{Data, boolean, number, string, Members, no_members, member}
 use Rattle.serde_json.specs.Find.{get, as_u64, as_object}
 
 -- the text that an entry is kept as: a text, a whole number as its digits, a truth value as its name
 abbrev pub entry_text : Data → Option (List ℕ)
-entry_text null = None
 entry_text (boolean b) = Some (if b then codes "true" else codes "false")
 entry_text (number n) = option_map decimal (as_u64 n)
 entry_text (string s) = Some s
-entry_text (array ds) = None
-entry_text (object ms) = None
+entry_text _ = None
 
 -- an entry that is kept, before the others
 abbrev pub with_entry : List ℕ → Option (List ℕ) → List (List ℕ × List ℕ) → List (List ℕ × List ℕ)

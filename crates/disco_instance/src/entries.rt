@@ -4,7 +4,8 @@ ghost use Rattle.std.specs.Cmp.Lexicographic.{slice_cmp};
 ghost use Rattle.std.specs.FinMap.Entries.{put};
 ghost use Rattle.std.specs.Ordering.{nat_cmp};
 ghost use Rattle.std.specs.Str.{bytes_eq};
-ghost use Rattle.disco_instance.specs.Entries.{IsNameAt, IsNameGap, entries_of, is_by_name, with_entries};
+ghost use Rattle.disco_instance.specs.Entries.{entries_of, is_by_name, with_entries};
+ghost use Rattle.disco_instance.specs.Steps.{IsNameAt, IsNameGap};
 ghost use Rattle.disco_instance.specs.declared.fault.Fault.TheVariants.{OutOfMemory};
 
 use crate::fault::Fault;
@@ -46,6 +47,7 @@ fn place(entries: &[(Text, Text)], name: &Text) -> Result<usize, usize>
 }
 
 impl Entries {
+    /// No entries. Takes no memory.
     pub fn new(alloc: Global) -> Entries
         ensures { result ≡ [] }
     {
@@ -61,6 +63,7 @@ impl Entries {
         Entries { entries }
     }
 
+    /// The entries, each a name and its text, in byte order of the names.
     pub fn as_slice(&self) -> &[(Text, Text)]
         ensures { result.now ≡ self.now }
     {
@@ -74,6 +77,7 @@ impl Entries {
         let _ = &self.entries;
     }
 
+    /// The same entries once more.
     pub fn copy(&self) -> Result<Entries, AllocError>
         ensures { IfOk result (λ e. e ≡ self.now) }
     {

@@ -3,6 +3,7 @@ ghost use Rattle.std.specs.Prelude.{◌≡◌};
 ghost use Rattle.disco_instance.specs.declared.fault.Fault.TheVariants.{OutOfMemory};
 
 use std::alloc::{AllocError, AllocFailed};
+use std::fmt;
 use thiserror::Error;
 
 /// A required member of a registration.
@@ -32,6 +33,12 @@ impl Field {
     }
 }
 
+impl fmt::Display for Field {
+    fn fmt<W: fmt::Write>(&self, f: &mut fmt::Formatter<W>) -> fmt::Result {
+        f.write_str(self.name())
+    }
+}
+
 /// Why a call was refused. Each has a number, which the program prints.
 #[derive(Clone, Copy, Debug, PartialEq, Eq, Error)]
 pub enum Fault {
@@ -39,7 +46,7 @@ pub enum Fault {
     OutOfMemory,
     #[error("the body is not the JSON that was wanted")]
     BadJson,
-    #[error("a required member is missing: {0:?}")]
+    #[error("a required member is missing: {0}")]
     MissingField(Field),
     #[error("the record is of another app than the path")]
     MismatchedApp,

@@ -8,9 +8,13 @@ pub struct Lease {
     pub duration_secs: u32,
     /// How often the instance means to renew, in seconds: 0 to 2,147,483,647.
     pub renewal_interval_secs: u32,
+    /// When the instance was cancelled, 0 while it is there: the member `evictionTimestamp`.
     pub eviction: u64,
+    /// When the record was last put: the member `lastRenewalTimestamp`.
     pub last_renewal: u64,
+    /// When the instance last registered: the member `registrationTimestamp`.
     pub registration: u64,
+    /// Since when the instance is up, 0 for no such moment: the member `serviceUpTimestamp`.
     pub service_up: u64,
     pub ghost lasts: { 0 < duration_secs },
     pub ghost duration_in_range: { duration_secs < 2 ^ 31 },

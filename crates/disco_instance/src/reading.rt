@@ -2,7 +2,8 @@
 ghost use Rattle.std.specs.Prelude.{◌≡◌, ◌<◌, ◌^◌, codes, IfOk};
 ghost use Rattle.std.specs.Option.{option_copied};
 ghost use Rattle.serde_json.specs.View.{view};
-ghost use Rattle.disco_instance.specs.Instance.{Gives, Says, action_at, data_center_at, key_at, lease_matches, told_by};
+ghost use Rattle.disco_instance.specs.Instance.{Gives, action_at, data_center_at, key_at, told_by};
+ghost use Rattle.disco_instance.specs.Steps.{Says, lease_matches};
 ghost use Rattle.disco_instance.specs.Members.{inner_at, number_at};
 ghost use Rattle.disco_instance.specs.Row.{row};
 

@@ -23,6 +23,7 @@ impl Model for Text {
 }
 
 impl Text {
+    /// The text once more, in memory of its own.
     pub fn new(alloc: Global, text: &str) -> Result<Text, AllocError>
         ensures { IfOk result (λ t. t ≡ text.now) }
     {
@@ -31,12 +32,14 @@ impl Text {
         })
     }
 
+    /// The text of a `String`. Takes no memory.
     pub fn from_string(text: String) -> Text
         ensures { result ≡ string_bytes text }
     {
         Text { text }
     }
 
+    /// The empty text. Takes no memory.
     pub fn empty(alloc: Global) -> Text
         ensures { result ≡ [] }
     {
@@ -45,12 +48,14 @@ impl Text {
         }
     }
 
+    /// The text as a `&str`.
     pub fn as_str(&self) -> &str
         ensures { result.now ≡ self.now }
     {
         self.text.as_str()
     }
 
+    /// Whether it has no byte.
     pub fn is_empty(&self) -> bool
         ensures { IsTrue result ↔ (self.now ≡ []) }
     {

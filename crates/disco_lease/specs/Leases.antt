@@ -1,30 +1,19 @@
 -- Leases as plain data.
-use Rattle.std.specs.Prelude.{◌≡◌, ℕ, ◌+◌, ◌-◌, ◌*◌, ◌^◌, min, false, if◌then◌else◌, Option, IsSome, refl}
-use Rattle.std.specs.Coded.{Coded, code_by, coded×, coded_ℕ, coded_option}
-use Rattle.std.specs.FinMap.{FinMap, code, empty, get}
+use Rattle.std.specs.Prelude.{◌≡◌, ℕ, ◌+◌, ◌-◌, ◌*◌, ◌^◌, min, false, if◌then◌else◌, Option, IsSome}
+use Rattle.std.specs.FinMap.{FinMap, empty, get}
 use Rattle.std.specs.Option.{option_flatten}
 use Rattle.disco_instance.specs.Key.{key_cmp, same_key}
 use Rattle.disco_instance.specs.declared.key.Key.{Key}
-use Rattle.disco_instance.specs.contracts.key.Key as key
 
 -- how many seconds a lease lasts, and its mark, in milliseconds
 pub record Lease : Type 0 where
   pub duration_secs : ℕ
   pub mark : ℕ
 
-abbrev pub coded_lease : Coded Lease
-coded_lease = code_by (ℕ × ℕ) (coded× coded_ℕ coded_ℕ) (λ l. (l.duration_secs, l.mark)) (λ p. record { duration_secs = p.0; mark = p.1 }) (λ _. refl)
-
-abbrev pub coded_places : Coded (FinMap key_cmp (Option Lease))
-coded_places = code key.the_row.coded (coded_option coded_lease)
-
 -- a place for each of some keys, with a lease or empty, and the number of renewals so far
 pub record Leases : Type 0 where
   pub places : FinMap key_cmp (Option Lease)
   pub renewals : ℕ
-
-abbrev pub coded_leases : Coded Leases
-coded_leases = code_by (FinMap key_cmp (Option Lease) × ℕ) (coded× coded_places coded_ℕ) (λ v. (v.places, v.renewals)) (λ p. record { places = p.0; renewals = p.1 }) (λ _. refl)
 
 abbrev pub no_leases : Leases
 no_leases = record { places = empty; renewals = 0 }

@@ -18,11 +18,13 @@ pub struct LeaseBook {
 }
 
 impl Model for LeaseBook {
-    ghost use Rattle.disco_lease.specs.Leases.{Leases, coded_leases};
+    ghost use Rattle.std.specs.Coded.{codes};
+    ghost use Rattle.std.specs.FinMap.{code};
+    ghost use Rattle.disco_lease.specs.Leases.{Leases};
 
     ghost Value = { Leases };
 
-    ghost coded = { coded_leases };
+    ghost coded = { Prim.hlevel (codes, code) };
 
     ghost view = { λ b. record { places = b.places; renewals = b.renewals } };
 }

@@ -20,14 +20,15 @@ pub(crate) struct Places {
 
 impl Model for Places {
     ghost use Rattle.std.specs.Prelude.{Option};
-    ghost use Rattle.std.specs.FinMap.{FinMap};
+    ghost use Rattle.std.specs.Coded.{codes};
+    ghost use Rattle.std.specs.FinMap.{FinMap, code};
     ghost use Rattle.disco_instance.specs.Key.{key_cmp};
     ghost use Rattle.disco_lease.specs.Leases as leases;
     ghost use Rattle.disco_lease.specs.Seen.{seen_places};
 
     ghost Value = { FinMap key_cmp (Option leases.Lease) };
 
-    ghost coded = { leases.coded_places };
+    ghost coded = { Prim.hlevel (codes, code) };
 
     ghost view = { λ p. seen_places p.places.entries };
 }

@@ -1,7 +1,6 @@
 -- The recently changed queue as plain data.
-use Rattle.std.specs.Prelude.{◌≡◌, ℕ, ◌+◌, ◌-◌, ◌^◌, ◌<◌, ◌≤◌, List, drop, length, refl}
-use Rattle.std.specs.Coded.{Coded, code_by, coded×, coded_ℕ, coded_list}
-use Rattle.disco_queue.specs.Timed.{Timed, coded_timed}
+use Rattle.std.specs.Prelude.{◌≡◌, ℕ, ◌+◌, ◌-◌, ◌^◌, ◌<◌, ◌≤◌, List, drop, length}
+use Rattle.disco_queue.specs.Timed.{Timed}
 
 -- how many changes it keeps at most, how many leading ones it dropped, those that it keeps, and room for more
 pub record Queue : Type 0 where
@@ -9,11 +8,6 @@ pub record Queue : Type 0 where
   pub base : ℕ
   pub kept : List Timed
   pub room : ℕ
-
-abbrev pub coded_queue : Coded Queue
-coded_queue =
-    code_by (ℕ × (ℕ × (List Timed × ℕ))) (coded× coded_ℕ (coded× coded_ℕ (coded× (coded_list coded_timed) coded_ℕ)))
-    (λ q. (q.max, (q.base, (q.kept, q.room)))) (λ p. record { max = p.0; base = p.1.0; kept = p.1.1.0; room = p.1.1.1 }) (λ _. refl)
 
 -- how many changes there were
 abbrev pub version : Queue → ℕ

@@ -29,12 +29,10 @@ pub struct ChangedQueue {
 impl Model for ChangedQueue {
     ghost use Rattle.std.specs.Prelude.{◌-◌, map};
     ghost use Rattle.std.specs.VecDeque.{deque_capacity, deque_len};
-    ghost use Rattle.disco_queue.specs.Queue.{IsWithin, Queue, coded_queue};
+    ghost use Rattle.disco_queue.specs.Queue.{IsWithin, Queue};
     ghost use Rattle.disco_queue.specs.Seen.{timed};
 
     ghost Value = { Queue };
-
-    ghost coded = { coded_queue };
 
     ghost view = { λ q. record { max = q.max; base = q.base; kept = map timed q.kept.items; room = deque_capacity q.kept - deque_len q.kept } };
 

@@ -1,9 +1,10 @@
 -- What a registration makes of the posted and of the held record (this project's own rule).
-use Rattle.std.specs.Prelude.{ℕ, Bool, true, false, nat_lt, if◌then◌else◌, Option, Some, None}
+use Rattle.std.specs.Prelude.{ℕ, Bool, ◌||◌, nat_lt, if◌then◌else◌, Option, Some, None}
 use Rattle.disco_instance.specs.Moments.{registered_at}
 use Rattle.disco_instance.specs.Row.{Row}
+use Rattle.disco_instance.specs.Status.{is_same}
 use Rattle.disco_instance.specs.declared.status.Status.{Status}
-use Rattle.disco_instance.specs.declared.status.Status.TheVariants.{Up, Down, Starting, OutOfService, Unknown}
+use Rattle.disco_instance.specs.declared.status.Status.TheVariants.{Up, OutOfService, Unknown}
 
 -- the registrant: the posted record, or the held one where that is the later change
 abbrev pub registrant : Option Row → Row → Row
@@ -12,11 +13,7 @@ registrant (Some held) posted = if nat_lt posted.last_dirty held.last_dirty then
 
 -- a status, or another where it is Unknown
 abbrev pub known_or : Status → Status → Status
-known_or Unknown other = other
-known_or Up other = Up
-known_or Down other = Down
-known_or Starting other = Starting
-known_or OutOfService other = OutOfService
+known_or status other = if is_same status Unknown then other else status
 
 -- the override: the held one where there is one, else the registrant's own
 abbrev pub override_of : Option Row → Status → Status
@@ -25,11 +22,7 @@ override_of (Some held) own = known_or held.overridden_status own
 
 -- the statuses that give way to an override and to the held status
 abbrev pub is_open : Status → Bool
-is_open Up = true
-is_open OutOfService = true
-is_open Down = false
-is_open Starting = false
-is_open Unknown = false
+is_open status = is_same status Up || is_same status OutOfService
 
 abbrev pub held_or : Option Row → Status → Status
 held_or None own = own

@@ -37,11 +37,13 @@ pub struct Registry {
 }
 
 impl Model for Registry {
-    ghost use Rattle.disco_registry.specs.State.{State, coded_state};
+    ghost use Rattle.std.specs.Coded.{codes};
+    ghost use Rattle.std.specs.FinMap.{code};
+    ghost use Rattle.disco_registry.specs.State.{State};
 
     ghost Value = { State };
 
-    ghost coded = { coded_state };
+    ghost coded = { Prim.hlevel (codes, code) };
 
     ghost view = { λ r. record { held = r.records.held; version = r.version; versions = r.versions; instances = r.instances; room = r.records.room } };
 }

@@ -1,10 +1,8 @@
 -- A tree means one thing at most.
-use Rattle.std.proofs.Common.{◌≡◌, List, [], ◌∷◌, map, get_or, drop, Option, Some, None, refl, sym, ap, ◌∙◌, length, arith}
-use Rattle.serde_json.specs.Data.{Data}
+use Rattle.std.proofs.Common.{◌≡◌, List, [], ◌∷◌, get_or, drop, refl, sym, ap, ◌∙◌}
 use Rattle.disco_instance.proofs.SameRow.{same_row}
 use Rattle.disco_wire.specs.declared.wire.Mention.{Mention}
 use Rattle.disco_wire.specs.declared.wire.Wire.{Wire}
-use Rattle.disco_wire.specs.Meaning.{meaning_of}
 use Rattle.disco_wire.specs.Wire.{seen, tell, tell_all}
 use Rattle.disco_wire.specs.Laws.{OneMeaning}
 use Rattle.std.proofs.lemmas.Option.{same_Some}

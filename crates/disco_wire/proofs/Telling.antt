@@ -1,12 +1,12 @@
 -- Lists of what was read.
-use Rattle.std.proofs.Common.{◌≡◌, ◌≢◌, ℕ, ◌<◌, ◌+◌, List, [], ◌∷◌, ◌++◌, map, length, drop, get_or, Option, Some, None, option_map, option_and_then, Result, Ok, Err, refl, sym, ap, ◌∙◌, append_assoc, arith, IfOk, Vec, Global}
+use Rattle.std.proofs.Common.{◌≡◌, List, [], ◌∷◌, ◌++◌, map, Option, Some, None, option_map, option_and_then, Ok, Err, refl, ap, append_assoc, Vec, Global}
 use Rattle.serde_json.proofs.Views.{view-Array}
 use Rattle.serde_json.specs.Data.{Data}
-use Rattle.serde_json.specs.View.{view, items_of, items_view}
+use Rattle.serde_json.specs.View.{view, items_view}
 use Rattle.serde_json.specs.declared.value.Value.{Value, Array}
 use Rattle.disco_instance.specs.declared.fault.Fault.{Fault}
-use Rattle.disco_instance.specs.declared.fault.Fault.TheVariants.{OutOfMemory, BadJson, BadDocument}
-use Rattle.disco_wire.specs.Meaning.{Told, list_of, listed_in, all_told, told_on}
+use Rattle.disco_wire.specs.Meaning.{Told, list_of, listed_in, all_told}
+use Rattle.disco_wire.specs.Steps.{told_on}
 
 pub list_of_items : (vs : List Value) → list_of (items_view vs) ≡ map view vs
 list_of_items [] = refl

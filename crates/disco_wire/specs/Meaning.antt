@@ -1,14 +1,12 @@
 -- What a JSON tree means as a document (the JSON of Eureka's REST operations).
-use Rattle.std.specs.Prelude.{ℕ, List, [], ◌∷◌, ◌++◌, codes, Option, Some, None, option_map, option_and_then, Result, Ok, Err}
+use Rattle.std.specs.Prelude.{ℕ, List, [], ◌∷◌, ◌++◌, codes, Option, Some, None, option_map, option_and_then}
 use Rattle.std.specs.Result.{result_ok}
-use Rattle.serde_json.specs.Data.{Data, null, boolean, number, string, array, object, Items, no_items, item}
+use Rattle.serde_json.specs.Data.{Data, null, array, object, Items, no_items, item}
 use Rattle.serde_json.specs.Find.{get}
 use Rattle.disco_instance.specs.Instance.{told_by, action_at}
 use Rattle.disco_instance.specs.Members.{text_at, as_whole}
 use Rattle.disco_instance.specs.Row.{Row}
 use Rattle.disco_instance.specs.declared.action.Action.{Action}
-use Rattle.disco_instance.specs.declared.fault.Fault.{Fault}
-use Rattle.disco_instance.specs.declared.fault.Fault.TheVariants.{BadDocument}
 use Rattle.disco_wire.specs.Tree.{as_tree, object_at}
 use Rattle.disco_wire.specs.declared.wire.Shape.{Shape}
 use Rattle.disco_wire.specs.declared.wire.Shape.TheVariants.{Many, App, One}
@@ -31,11 +29,9 @@ list_of (item d ds) = d ∷ list_of ds
 -- an array, one object, or null: what stands there
 abbrev pub listed_in : Data → Option (List Data)
 listed_in null = Some []
-listed_in (boolean b) = None
-listed_in (number n) = None
-listed_in (string s) = None
 listed_in (array ds) = Some (list_of ds)
 listed_in (object ms) = Some (object ms ∷ [])
+listed_in _ = None
 
 abbrev pub listed : Option Data → Option (List Data)
 listed None = Some []
@@ -82,13 +78,3 @@ meaning_by None None None = None
 
 unfoldable pub meaning_of : Data → Option Meaning
 meaning_of d = meaning_by (object_at (codes "applications") d) (object_at (codes "application") d) (object_at (codes "instance") d)
-
--- a meaning, or the refusal of what has none
-abbrev pub or_bad : {A : Type 0} → Option A → Result A Fault
-or_bad None = Err BadDocument
-or_bad (Some x) = Ok x
-
--- the same after what was told before
-abbrev pub told_on : List Told → Option (List Told) → Result (List Told) Fault
-told_on before None = Err BadDocument
-told_on before (Some ms) = Ok (before ++ ms)

@@ -1,7 +1,8 @@
 -- What a registration says (Eureka's POST /apps/{app}; which members are required is this project's own rule).
-use Rattle.std.specs.Prelude.{ℕ, List, codes, is_some, ◌&&◌, not, if◌then◌else◌, Option, Some, None, Result, Ok, Err}
+use Rattle.std.specs.Prelude.{ℕ, List, codes, is_some, ◌&&◌, not, if◌then◌else◌, Option, Some, None, Result, Err}
+use Rattle.std.specs.Option.{ok_or}
 use Rattle.serde_json.specs.Data.{Data}
-use Rattle.disco_instance.specs.Instance.{told_by}
+use Rattle.disco_instance.specs.Instance.{if_ok, told_by}
 use Rattle.disco_instance.specs.Members.{inner_at, non_empty_at}
 use Rattle.disco_instance.specs.Row.{Row}
 use Rattle.disco_instance.specs.declared.fault.Fault.{Fault}
@@ -20,22 +21,15 @@ missing_in d =
     if not (is_some (non_empty_at (codes "app") d)) then Some App else (
     if not (is_some (non_empty_at (codes "name") (inner_at (codes "dataCenterInfo") d))) then Some DataCenterInfo else None))))
 
+-- the record, where nothing is missing
 abbrev pub registered_by : Option Field → Data → Result Row Fault
 registered_by (Some field) d = Err (MissingField field)
 registered_by None d = told_by None d
 
-abbrev pub registered_in : Option Data → Result Row Fault
-registered_in None = Err BadJson
-registered_in (Some d) = registered_by (missing_in d) d
-
 -- the record of a tree's member `instance`, an object
 abbrev pub registration_in : Data → Result Row Fault
-registration_in d = registered_in (object_at (codes "instance") d)
-
-abbrev pub registration_by : Result Data Fault → Result Row Fault
-registration_by (Err e) = Err e
-registration_by (Ok d) = registration_in d
+registration_in d = if_ok (ok_or (object_at (codes "instance") d) BadJson) (λ i. registered_by (missing_in i) i)
 
 -- the record of the bytes of a registration, or why there is none
 abbrev pub registration_of : List ℕ → Result Row Fault
-registration_of bytes = registration_by (json_of bytes)
+registration_of bytes = if_ok (json_of bytes) registration_in

@@ -1,12 +1,14 @@
 //! Reading a document.
 ghost use Rattle.std.specs.Prelude.{◌≡◌, codes, map, option_map, option_and_then, IfOk, Err, Some};
-ghost use Rattle.std.specs.Option.{option_copied};
+ghost use Rattle.std.specs.Option.{ok_or, option_copied};
 ghost use Rattle.serde_json.specs.Data.{Data};
 ghost use Rattle.serde_json.specs.Find.{get};
 ghost use Rattle.serde_json.specs.View.{view};
 ghost use Rattle.disco_instance.specs.Instance.{Gives};
+ghost use Rattle.disco_instance.specs.declared.fault.Fault.TheVariants.{BadDocument};
 ghost use Rattle.disco_instance.specs.Members.{as_whole, text_at};
-ghost use Rattle.disco_wire.specs.Meaning.{all_told, app_meant, listed, listed_in, many_meant, meaning_of, one_meant, or_bad, told_app, told_in, told_item, told_on};
+ghost use Rattle.disco_wire.specs.Meaning.{all_told, app_meant, listed, listed_in, many_meant, meaning_of, one_meant, told_app, told_in, told_item};
+ghost use Rattle.disco_wire.specs.Steps.{told_on};
 ghost use Rattle.disco_wire.specs.Documents.{document_of};
 ghost use Rattle.disco_wire.specs.Wire.{seen, tell_all};
 
@@ -28,7 +30,7 @@ pub fn read_document(alloc: Global, bytes: &[u8]) -> Result<Wire, Fault>
 
 #[tactic(auto, unfolding(crate::specs::Meaning::meaning_of))]
 fn from_tree(alloc: Global, tree: &Value) -> Result<Wire, Fault>
-    ensures { Gives seen result (or_bad (meaning_of (view tree.now))) }
+    ensures { Gives seen result (ok_or (meaning_of (view tree.now)) BadDocument) }
 {
     if let Some(applications) = object_member(tree, "applications") {
         many(alloc, applications)
@@ -42,7 +44,7 @@ fn from_tree(alloc: Global, tree: &Value) -> Result<Wire, Fault>
 }
 
 fn one_app(alloc: Global, app: &Value) -> Result<Wire, Fault>
-    ensures { Gives seen result (or_bad (app_meant (view app.now))) }
+    ensures { Gives seen result (ok_or (app_meant (view app.now)) BadDocument) }
 {
     let mut mentions = Vec::new(alloc);
     push_app(alloc, &mut mentions, app)?;
@@ -55,7 +57,7 @@ fn one_app(alloc: Global, app: &Value) -> Result<Wire, Fault>
 }
 
 fn one_instance(alloc: Global, instance: &Value) -> Result<Wire, Fault>
-    ensures { Gives seen result (or_bad (one_meant (view instance.now))) }
+    ensures { Gives seen result (ok_or (one_meant (view instance.now)) BadDocument) }
 {
     let mut mentions = Vec::new(alloc);
     push_instance(alloc, &mut mentions, None, instance)?;
@@ -68,7 +70,7 @@ fn one_instance(alloc: Global, instance: &Value) -> Result<Wire, Fault>
 }
 
 fn many(alloc: Global, applications: &Value) -> Result<Wire, Fault>
-    ensures { Gives seen result (or_bad (many_meant (view applications.now))) }
+    ensures { Gives seen result (ok_or (many_meant (view applications.now)) BadDocument) }
 {
     let hash = text_of_member(alloc, applications, "apps__hashcode")?;
     let version = version_of(applications);

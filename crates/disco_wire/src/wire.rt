@@ -35,12 +35,14 @@ impl Model for Mentions {
 }
 
 impl Mentions {
+    /// The mentions of a `Vec`. Takes no memory.
     pub fn from_vec(mentions: Vec<Mention>) -> Mentions
         ensures { result ≡ mentions.items }
     {
         Mentions { mentions }
     }
 
+    /// The mentions as a slice.
     pub fn as_slice(&self) -> &[Mention]
         ensures { result.now ≡ self.now }
     {

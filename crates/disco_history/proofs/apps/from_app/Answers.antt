@@ -1,6 +1,6 @@
 use Rattle.std.proofs.Common.{rules, of_calls}
 use Rattle.std.proofs.lemmas.Fn.{always_returns_same}
-use Rattle.disco_history.specs.Apps.{comes_before}
+use Rattle.disco_history.specs.List.{comes_before}
 use Rattle.disco_history.proofs.Runs.{all_cut, before_is_partitioned, from_cut, sorted_drop}
 use Rattle.disco_history.proofs.apps.from_app.Goals as goal
 

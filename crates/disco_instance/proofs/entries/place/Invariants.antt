@@ -1,4 +1,4 @@
-use Rattle.disco_instance.specs.Entries.{NameComesAfter}
+use Rattle.disco_instance.specs.Steps.{NameComesAfter}
 use Rattle.disco_instance.proofs.entries.place.Given as goal
 
 abbrev pub invariant-loop-i : goal.invariant-loop-i

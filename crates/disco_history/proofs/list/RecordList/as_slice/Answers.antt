@@ -1,7 +1,7 @@
 use Rattle.std.proofs.Common.{sym, ap, ◌∙◌, map}
 use Rattle.std.specs.FinMap.{values}
 use Rattle.disco_history.specs.Held.{entry_of}
-use Rattle.disco_history.specs.List.{Room}
+use Rattle.disco_history.specs.Room.{Room}
 use Rattle.disco_history.proofs.Places.{values_of}
 use Rattle.disco_history.proofs.list.RecordList.as_slice.Goals as goal
 

@@ -5,7 +5,7 @@ use Rattle.disco_history.proofs.Keys.{exact_keys}
 use Rattle.disco_instance.specs.declared.record.Record.{Record}
 use Rattle.disco_instance.specs.Row.{row}
 use Rattle.disco_history.specs.declared.held.Held.{Held}
-use Rattle.disco_history.specs.List.{Room}
+use Rattle.disco_history.specs.Room.{Room}
 use Rattle.disco_history.proofs.Places.{get_at, get_gap}
 use Rattle.disco_history.proofs.list.RecordList.get.Goals as goal
 

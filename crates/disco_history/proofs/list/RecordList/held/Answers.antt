@@ -3,7 +3,7 @@ use Rattle.std.specs.FinMap as map
 use Rattle.disco_history.proofs.Keys.{exact_keys}
 use Rattle.disco_history.specs.Held.{entry_of}
 use Rattle.disco_history.specs.declared.held.Held.{Held}
-use Rattle.disco_history.specs.List.{Room}
+use Rattle.disco_history.specs.Room.{Room}
 use Rattle.disco_history.proofs.Places.{get_at, get_gap}
 use Rattle.disco_history.proofs.list.RecordList.held.Goals as goal
 

@@ -1,6 +1,6 @@
 use Rattle.std.proofs.Common.{sym, ap, ◌∙◌}
 use Rattle.std.specs.FinMap as map
-use Rattle.disco_history.specs.List.{Room}
+use Rattle.disco_history.specs.Room.{Room}
 use Rattle.disco_history.proofs.Places.{len_of}
 use Rattle.disco_history.proofs.list.RecordList.len.Goals as goal
 

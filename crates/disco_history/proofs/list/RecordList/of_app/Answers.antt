@@ -2,7 +2,7 @@ use Rattle.std.proofs.Common.{sym, ap, ◌∙◌, map, filter}
 use Rattle.std.specs.FinMap.{values}
 use Rattle.disco_history.specs.Apps.{is_of_app}
 use Rattle.disco_history.specs.Held.{entry_of}
-use Rattle.disco_history.specs.List.{Room}
+use Rattle.disco_history.specs.Room.{Room}
 use Rattle.disco_history.proofs.Places.{values_of}
 use Rattle.disco_history.proofs.list.RecordList.of_app.Goals as goal
 

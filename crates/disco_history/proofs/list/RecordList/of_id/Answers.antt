@@ -3,7 +3,7 @@ use Rattle.std.specs.FinMap.{values}
 use Rattle.std.specs.List.{find}
 use Rattle.disco_history.specs.Apps.{is_of_id}
 use Rattle.disco_history.specs.Held.{entry_of}
-use Rattle.disco_history.specs.List.{Room}
+use Rattle.disco_history.specs.Room.{Room}
 use Rattle.disco_history.proofs.Places.{values_of}
 use Rattle.disco_history.proofs.list.RecordList.of_id.Goals as goal
 

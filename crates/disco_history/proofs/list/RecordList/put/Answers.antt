@@ -2,7 +2,8 @@ use Rattle.std.proofs.Common.{sym, ap, ◌∙◌, arith, cond, is_ok}
 use Rattle.std.specs.List.{insert}
 use Rattle.std.specs.FinMap as map
 use Rattle.disco_history.specs.Held.{entry_of}
-use Rattle.disco_history.specs.List.{Room, map_of}
+use Rattle.disco_history.specs.List.{map_of}
+use Rattle.disco_history.specs.Room.{Room}
 use Rattle.disco_history.proofs.Places.{get_gap, inserted_at, inserted_gap}
 use Rattle.disco_history.proofs.list.RecordList.put.Goals as goal
 

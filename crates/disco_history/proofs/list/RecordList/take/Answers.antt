@@ -1,6 +1,7 @@
 use Rattle.std.proofs.Common.{sym, ap, ◌∙◌}
 use Rattle.std.specs.FinMap as map
-use Rattle.disco_history.specs.List.{Room, map_of}
+use Rattle.disco_history.specs.List.{map_of}
+use Rattle.disco_history.specs.Room.{Room}
 use Rattle.disco_history.proofs.Places.{removed_at, remove_gap}
 use Rattle.disco_history.proofs.list.RecordList.take.Goals as goal
 

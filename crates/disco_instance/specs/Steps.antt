@@ -1,0 +1,65 @@
+-- What steps inside this crate say of a record and of entries. Nothing here is to be believed: no public contract rests on it.
+use Rattle.std.specs.Prelude.{IfOk, List, Result, [], codes, false, length, slice_index_or, true, unwrap_or, ℕ, ◌<◌, ◌≡◌, ◌≢◌, ◌≤◌}
+use Rattle.serde_json.specs.Data.{Data}
+use Rattle.disco_instance.specs.Members.{flag_at, inner_at, number_at, override_at, port_at, status_at, text_or_empty}
+use Rattle.disco_instance.specs.Metadata.{entries_at}
+use Rattle.disco_instance.specs.Text.{in_upper_case}
+use Rattle.disco_instance.specs.declared.fault.Fault.{Fault}
+use Rattle.disco_instance.specs.declared.key.Key.{Key}
+use Rattle.disco_instance.specs.declared.lease.Lease.{Lease}
+use Rattle.disco_instance.specs.declared.record.Record.{Record}
+use Rattle.disco_instance.specs.declared.status.Status.TheVariants.{Up}
+use Rattle.std.specs.declared.cmp.Ordering.TheVariants.{Less, Equal, Greater}
+use Rattle.std.specs.Ordering.{nat_cmp}
+use Rattle.std.specs.Cmp.Lexicographic.{slice_cmp}
+use Rattle.disco_instance.specs.Instance.{data_center_at}
+
+abbrev pub lease_matches : Lease → Data → Type 0
+lease_matches l d = (l.duration_secs ≡ number_at (codes "durationInSecs") 1 2147483647 90 d) × (l.renewal_interval_secs ≡ number_at (codes "renewalIntervalInSecs") 0 2147483647 30 d)
+    × (l.eviction ≡ number_at (codes "evictionTimestamp") 0 18446744073709551615 0 d) × (l.last_renewal ≡ number_at (codes "lastRenewalTimestamp") 0 18446744073709551615 0 d)
+    × (l.registration ≡ number_at (codes "registrationTimestamp") 0 18446744073709551615 0 d) × (l.service_up ≡ number_at (codes "serviceUpTimestamp") 0 18446744073709551615 0 d)
+
+pub record Says (d : Data) (r : Record) : Type 0 where
+  pub country : r.country_id ≡ number_at (codes "countryId") 0 2147483647 1 d
+  pub data_center : r.data_center ≡ data_center_at d
+  pub health_check_url : r.health_check_url ≡ text_or_empty (codes "healthCheckUrl") d
+  pub home_page_url : r.home_page_url ≡ text_or_empty (codes "homePageUrl") d
+  pub status_page_url : r.status_page_url ≡ text_or_empty (codes "statusPageUrl") d
+  pub host_name : r.host_name ≡ text_or_empty (codes "hostName") d
+  pub ip_addr : r.ip_addr ≡ text_or_empty (codes "ipAddr") d
+  pub is_coordinating : r.is_coordinating ≡ unwrap_or (flag_at (codes "isCoordinatingDiscoveryServer") d) false
+  pub last_dirty : r.last_dirty ≡ number_at (codes "lastDirtyTimestamp") 0 18446744073709551615 0 d
+  pub last_updated : r.last_updated ≡ number_at (codes "lastUpdatedTimestamp") 0 18446744073709551615 0 d
+  pub lease : lease_matches r.lease (inner_at (codes "leaseInfo") d)
+  pub metadata : r.metadata ≡ entries_at (codes "metadata") d
+  pub overridden_status : r.overridden_status ≡ override_at d
+  pub port : r.port ≡ port_at (codes "port") 7001 true d
+  pub secure_port : r.secure_port ≡ port_at (codes "securePort") 7002 false d
+  pub secure_vip_address : r.secure_vip_address ≡ text_or_empty (codes "secureVipAddress") d
+  pub vip_address : r.vip_address ≡ text_or_empty (codes "vipAddress") d
+  pub status : r.status ≡ status_at (codes "status") Up d
+
+abbrev pub IfSays : Data → Result Record Fault → Type 0
+IfSays d r = IfOk r (λ x. Says d x)
+
+-- a key that a record may have
+pub record IsRecordKey (k : Key) : Type 0 where
+  pub has_app : k.app ≢ []
+  pub has_id : k.id ≢ []
+  pub upper : in_upper_case k.app ≡ k.app
+
+-- the name comes after those of the entries before place i
+abbrev pub NameComesAfter : List ℕ → List (List ℕ × List ℕ) → ℕ → Type 0
+NameComesAfter name es i = (j : ℕ) (d : List ℕ × List ℕ) → j < i → slice_cmp nat_cmp name (slice_index_or es j d).0 ≡ Greater
+
+-- the entry at place i is that of the name
+pub record IsNameAt (es : List (List ℕ × List ℕ)) (name : List ℕ) (i : ℕ) : Type 0 where
+  pub in_range : i < length es
+  pub before : NameComesAfter name es i
+  pub here : (d : List ℕ × List ℕ) → slice_cmp nat_cmp name (slice_index_or es i d).0 ≡ Equal
+
+-- no entry is of the name, and it would go to place i
+pub record IsNameGap (es : List (List ℕ × List ℕ)) (name : List ℕ) (i : ℕ) : Type 0 where
+  pub in_range : i ≤ length es
+  pub before : NameComesAfter name es i
+  pub here : (d : List ℕ × List ℕ) → i < length es → slice_cmp nat_cmp name (slice_index_or es i d).0 ≡ Less
