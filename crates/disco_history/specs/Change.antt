@@ -13,6 +13,7 @@ use Rattle.disco_history.specs.declared.change.Change.TheVariants.{Put, Gone}
 abbrev pub Entry : Type 0
 Entry = Row × Action
 
+-- a change as plain data
 abbrev pub seen : Change → Entry
 seen (Put action rec) = (row rec.value, action)
 seen (Gone rec) = (row rec.value, Deleted)
@@ -22,6 +23,7 @@ abbrev pub is_proper : Change → Bool
 is_proper (Put Deleted rec) = false
 is_proper _ = true
 
+-- the key of its record
 abbrev pub key_of : Entry → Key
 key_of e = e.0.key
 

@@ -28,5 +28,6 @@ hash_by count =
     then_piece (status_name Unknown) (count Unknown) (
     then_piece (status_name Up) (count Up) []))))
 
+-- the hash code of some records
 abbrev pub hash : List Row → List ℕ
 hash rows = hash_by (count_of rows)

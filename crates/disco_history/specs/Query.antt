@@ -25,6 +25,7 @@ between_commas (c ∷ cs) = if c == 44 then [] ∷ between_commas cs else onto_f
 abbrev pub vips : List ℕ → List (List ℕ)
 vips address = filter (λ p. not (length p == 0)) (between_commas address)
 
+-- a query asks for the record
 abbrev pub asks_for : Asked → Row → Bool
 asks_for all r = true
 asks_for (of_app name) r = bytes_eq r.key.app name
@@ -36,6 +37,7 @@ asks_for (of_key k) r = same_key r.key k
 abbrev pub restrict : FinMap key_cmp Row → Asked → FinMap key_cmp Row
 restrict s q = chosen (λ k. option_and_then (λ r. if asks_for q r then Some r else None) (get s k)) (keys s)
 
+-- a query that has an answer where it asks for no record: that of all
 abbrev pub may_be_empty : Asked → Bool
 may_be_empty all = true
 may_be_empty (of_app name) = false

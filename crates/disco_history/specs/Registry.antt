@@ -22,6 +22,6 @@ put_of e = kept_by e.1 e
 abbrev pub reg : List Entry → FinMap key_cmp Row
 reg h = chosen (λ k. option_map (λ e. e.0) (option_and_then put_of (last h k))) (map key_of h)
 
--- the mentions of records of the registry: each with what its key's last change did
+-- the mentions of records s of the registry of h: each with what its key's last change did. It says so where s is a part of that registry alone, as it is wherever this is used
 abbrev pub said : List Entry → FinMap key_cmp Row → FinMap key_cmp Entry
 said h s = chosen (λ k. option_and_then put_of (last h k)) (keys s)

@@ -23,10 +23,12 @@ pub record Limits : Type 0 where
   pub versions : ℕ
   pub instances : ℕ
 
+-- there is no record
 abbrev pub is_new : Option Row → Bool
 is_new None = true
 is_new (Some r) = false
 
+-- the record goes
 abbrev pub cancelled : Option Row → ℕ → Result (Option Entry) Fault
 cancelled None now = Err NotFound
 cancelled (Some r) now = Ok (Some (cancelled_at r now, Deleted))
@@ -36,6 +38,7 @@ abbrev pub renewed : Option Row → Result (Option Entry) Fault
 renewed None = Err NotFound
 renewed (Some r) = if is_same r.status Unknown then Err NotFound else Ok None
 
+-- the status is changed, and with it the override
 abbrev pub status_set : Option Status → Option Row → ℕ → Result (Option Entry) Fault
 status_set None r now = Err BadStatus
 status_set (Some status) None now = Err NotFound
@@ -46,6 +49,7 @@ abbrev pub status_given : Option (List ℕ) → Option Status
 status_given None = Some Unknown
 status_given (Some text) = status_named text
 
+-- the override goes, and the status is that which is given
 abbrev pub override_dropped : Option Status → Option Row → ℕ → Result (Option Entry) Fault
 override_dropped None r now = Err BadStatus
 override_dropped (Some status) None now = Err NotFound
@@ -80,6 +84,7 @@ accept limits held count version ask now = if_left limits version (asked limits 
 abbrev pub accept_after : Limits → List Entry → Ask → ℕ → Result (Option Entry) Fault
 accept_after limits h ask now = accept limits (get (reg h)) (len (reg h)) (length h) ask now
 
+-- the limits of a registry
 abbrev pub limits_of : State → Limits
 limits_of s = record { versions = s.versions; instances = s.instances }
 

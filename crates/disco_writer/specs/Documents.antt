@@ -27,6 +27,7 @@ asked_by (query.Vip vip) = of_vip vip
 asked_by (query.Svip vip) = of_secure_vip vip
 asked_by (query.Instance key) = of_key key
 
+-- the query asks for what changed
 abbrev pub is_delta : Query → Bool
 is_delta query.Apps = false
 is_delta query.Delta = true
@@ -35,6 +36,7 @@ is_delta (query.Vip vip) = false
 is_delta (query.Svip vip) = false
 is_delta (query.Instance key) = false
 
+-- the shape of the document that answers a query
 abbrev pub shape_of : Asked → Shape
 shape_of all = Many
 shape_of (of_app name) = App
