@@ -124,7 +124,7 @@ adds_metadata (Some r) es now k c held is = record {
   change = done _ c is;
 }
 
-registers : (limits : Limits) (held : FinMap key_cmp Entry) (p : Row) (now : ℕ) (c : Option Entry) → ((r : Row) → record_at held p.key ≡ Some r → r.key ≡ p.key) → asked limits held (register p) now ≡ Ok c → Comes p.key c
+registers : (limits : Limits) (held : FinMap key_cmp Entry) (p : Row) (now : ℕ) (c : Option Entry) → ((r : Row) → record_at held p.key ≡ Some r → r.key ≡ p.key) → asked limits (record_at held) (len held) (register p) now ≡ Ok c → Comes p.key c
 registers limits held p now c own is = one (is_new (record_at held p.key) && not (nat_lt (len held) (limits.instances))) is
   where
     one : (b : Bool) → cond b (no TooManyInstances) (ok (Some (settle (record_at held p.key) p now, Added))) ≡ ok c → Comes p.key c
@@ -209,7 +209,7 @@ module _ (s : registry.State) (v w : Leases) (p : Past) (now : ℕ) (c : Option 
       let follows = subst (λ (x : Option Entry). Moves x j step now v w) gone.change moves in
       out_mark k v w p.marks (subst (λ (x : Key). Sets x None v w) (own k gone.row gone.there) follows.leases) agree.marks
 
-  marks_on : (ask : Ask) → asked (limits_of s) s.held ask now ≡ Ok c → Moves c (asked_key ask) step now v w → (q : Key) → mark_of (lease_at w q) ≡ get (marks_after p now ask) q
+  marks_on : (ask : Ask) → asked (limits_of s) (record_at s.held) (len s.held) ask now ≡ Ok c → Moves c (asked_key ask) step now v w → (q : Key) → mark_of (lease_at w q) ≡ get (marks_after p now ask) q
   marks_on (register posted) is moves = comes_mark posted.key posted.key (registers (limits_of s) s.held posted now c (own posted.key) is) moves
   marks_on (cancel k) is moves = goes_mark k k (goes (record_at s.held k) now c is) moves
   marks_on (renew k) is moves = let r = renews (record_at s.held k) c is in goes_on_mark k r.0 r.1 (subst (λ (x : Option Entry). Moves x k step now v w) r.2 moves)
@@ -231,7 +231,7 @@ module _ (s : registry.State) (v w : Leases) (p : Past) (now : ℕ) (c : Option 
       let goes = subst (λ (x : Option Entry). Moves x k step now v w) none moves in
       goes.renewals (has_lease r.lease.duration_secs (lease_at v k) (lasting k r there)) ∙ ap (λ x. counted_by x v.renewals) renewed
 
-  count_on : (ask : Ask) → asked (limits_of s) s.held ask now ≡ Ok c → step ≡ step_for ask → Moves c (asked_key ask) step now v w → w.renewals ≡ renewals_after v.renewals ask
+  count_on : (ask : Ask) → asked (limits_of s) (record_at s.held) (len s.held) ask now ≡ Ok c → step ≡ step_for ask → Moves c (asked_key ask) step now v w → w.renewals ≡ renewals_after v.renewals ask
   count_on (register posted) is step_is moves = let comes = registers (limits_of s) s.held posted now c (own posted.key) is in change_count (comes.row, Added) posted.key comes.change moves
   count_on (cancel k) is step_is moves = let gone = goes (record_at s.held k) now c is in change_count (cancelled_at gone.row gone.moment, Deleted) k gone.change moves
   count_on (renew k) is step_is moves = let r = renews (record_at s.held k) c is in renew_count k r.0 r.1 r.2 step_is moves
@@ -243,7 +243,7 @@ module _ (s : registry.State) (v w : Leases) (p : Past) (now : ℕ) (c : Option 
   pub leases_on : (most : ℕ) (ask : Ask) (k : Key) (t : registry.State) → registry.StandsFor t (history (with_done most p now ask c)) → AreLeased t.held w → accepts s ask now ≡ Ok c → k ≡ asked_key ask → step ≡ step_for ask → Moves c k step now v w
       → AreLeasesOf w (with_done most p now ask c)
   leases_on most ask k t after leased is key step_is moves =
-      let does = left (limits_of s) s.version (asked (limits_of s) s.held ask now) c is in
+      let does = left (limits_of s) s.version (asked (limits_of s) (record_at s.held) (len s.held) ask now) c is in
       let moves_it = subst (λ (x : Key). Moves c x step now v w) key moves in
       record {
         durations = λ q. leased q ∙ ap (λ m. rows_last (record_at m q)) after.held ∙ ap rows_last (get-said_reg (history (with_done most p now ask c)) q);
