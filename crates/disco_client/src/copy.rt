@@ -146,7 +146,8 @@ impl Copy {
         self.counted.hash_is(text)
     }
 
-    /// The records in the order of their keys. Takes no memory.
+    /// The records in the order of their keys. Takes no memory. The action beside each is only what
+    /// the copy did last with it: a full document adds each record, whatever was done to it before.
     pub fn records(&self) -> &[Held]
         ensures { map (λ h. row h.rec.value) result.now ≡ values self.now }
     {

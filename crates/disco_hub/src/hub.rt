@@ -11,7 +11,7 @@ ghost use Rattle.disco_lease.specs.Leases as lease;
 ghost use Rattle.disco_queue.specs.Queue as recent;
 ghost use Rattle.disco_registry.specs.Accept.{Refuses, accepts};
 ghost use Rattle.disco_registry.specs.Commit as commit;
-ghost use Rattle.disco_registry.specs.Commit.{Takes, done_by, held_after};
+ghost use Rattle.disco_registry.specs.Commit.{Takes, changes_properly, done_by, held_after};
 ghost use Rattle.disco_registry.specs.Op.{Ask, ask_of};
 ghost use Rattle.disco_registry.specs.State as registry;
 ghost use Rattle.disco_writer.specs.Documents.{IsDeltaWritten, IsWritten, asked_by, is_delta};
@@ -232,6 +232,7 @@ impl Hub {
     pub fn commit(&mut self, ready: Ready) -> Applied
         requires { IsReady self.old ready }
         ensures change { done_by result ≡ change_in ready }
+        ensures proper { changes_properly result ≡ true }
         ensures takes { Takes self.old.registry (change_in ready) self.new.registry }
         ensures swept { IsSweptAfter self.old.registry.held (change_in ready) self.new.vips self.new.leases }
         ensures history { (p : Past) (ask : Ask) → IsFor self.old ready ask → StandsFor self.old p → StandsFor self.new (with_done self.old.queue.max p (moment_in ready) ask (done_by result)) }
@@ -253,6 +254,7 @@ impl Hub {
     /// leases that it leaves empty are given back, also where it is refused.
     pub fn write(&mut self, op: Op, now: u64) -> Result<Applied, Fault>
         ensures done { IfOk result (λ a. accepts self.old.registry (ask_of op) now ≡ Ok (done_by a)) }
+        ensures proper { IfOk result (λ a. changes_properly a ≡ true) }
         ensures refused { IfErr result (Refuses self.old.registry (ask_of op) now) }
         ensures rules { rules_of self.new ≡ rules_of self.old }
         ensures history { IfOk result (λ a. (p : Past) → StandsFor self.old p → StandsFor self.new (with_done self.old.queue.max p now (ask_of op) (done_by a))) }

@@ -4,7 +4,8 @@ use native.Mathlib.Numerals.{unary_clauses}
 use Rattle.std.specs.List.{before_first, after_first, position_or_len}
 use Rattle.disco_instance.specs.declared.fault.Fault.TheVariants.{BadEvent}
 use Rattle.disco_world.specs.declared.event.Event.{Event}
-use Rattle.disco_lines.specs.Lines.{lines, is_feed, is_none, meanings, event_of, IsFirstBadLine}
+use Rattle.std.specs.Option.{is_none}
+use Rattle.disco_lines.specs.Lines.{lines, is_feed, meanings, event_of, IsFirstBadLine}
 
 split_on : (t : Bool) → (t ≡ true) ⊎ (t ≡ false)
 split_on true = inl refl

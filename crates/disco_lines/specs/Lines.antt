@@ -1,6 +1,7 @@
 -- Lines, and the events that they mean (this project's own format).
-use Rattle.std.specs.Prelude.{ℕ, Bool, List, [], ◌∷◌, ◌+◌, ◌<◌, ◌≡◌, length, map, not, Option, Some, None, ◌==◌, if◌then◌else◌, option_and_then, option_map, is_some, unwrap_or, codes}
+use Rattle.std.specs.Prelude.{ℕ, Bool, List, [], ◌∷◌, ◌+◌, ◌<◌, ◌≡◌, length, map, Option, Some, None, ◌==◌, if◌then◌else◌, option_and_then, option_map, is_some, unwrap_or, codes}
 use Rattle.std.specs.List.{onto_first, position_or_len}
+use Rattle.std.specs.Option.{is_none}
 use Rattle.std.specs.Str.{bytes_eq}
 use Rattle.disco_instance.specs.declared.fault.Fault.{Fault}
 use Rattle.disco_instance.specs.declared.fault.Fault.TheVariants.{BadEvent}
@@ -106,9 +107,6 @@ lines (b ∷ bs) = if is_feed b then [] ∷ lines bs else onto_first b (lines bs
 -- what each line means
 abbrev pub meanings : List ℕ → List (Option Event)
 meanings input = map event_of (lines input)
-
-abbrev pub is_none : Option Event → Bool
-is_none meaning = not (is_some meaning)
 
 -- the fault names the first line that means nothing, by its number from 1
 pub record IsFirstBadLine (input : List ℕ) (fault : Fault) : Type 0 where

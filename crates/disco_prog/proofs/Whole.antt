@@ -1,6 +1,7 @@
 -- The events of an input.
 use Rattle.std.proofs.Common.{◌≡◌, ◌≢◌, inl, inr, ℕ, List, [], ◌∷◌, length, map, Option, Some, Result, Ok, Err, OnOk, refl, ap, ◌∙◌, arith}
 use Rattle.std.specs.List.{position_or_len}
+use Rattle.std.specs.Option.{is_none}
 use Rattle.disco_instance.specs.declared.fault.Fault.{Fault}
 use Rattle.disco_instance.specs.declared.fault.Fault.TheVariants.{OutOfMemory}
 use Rattle.disco_hub.specs.State.{rules}
@@ -8,7 +9,7 @@ use Rattle.disco_hub.specs.declared.settings.Settings.{Settings}
 use Rattle.disco_world.specs.Answers.{IsFirstBadEvent}
 use Rattle.disco_world.specs.declared.event.Event.{Event}
 use Rattle.disco_lines.specs.Input.{AreRead}
-use Rattle.disco_lines.specs.Lines.{IsFirstBadLine, is_none, meanings}
+use Rattle.disco_lines.specs.Lines.{IsFirstBadLine, meanings}
 use Rattle.disco_prog.specs.Replay.{IsRunFault}
 
 -- where all lines mean events, none is bad
