@@ -9,4 +9,5 @@ mod Runs
 mod Searches
 pub mod Sets
 pub mod Sorted
+mod Untouched
 mod Worked

@@ -50,7 +50,7 @@ asked_first a (Some e) = one (asks_for a e.0)
     one true = refl
     one false = refl
 
-get-first : (h : List Entry) (a : Asked) (q : Key) → get (restrict (reg h) a) q ≡ first_of (get (said h (restrict (reg h) a)) q)
+pub get-first : (h : List Entry) (a : Asked) (q : Key) → get (restrict (reg h) a) q ≡ first_of (get (said h (restrict (reg h) a)) q)
 get-first h a q =
     get-restrict (reg h) a q ∙ ap (asked_of a) (sym (get-said_reg h q)) ∙ asked_first a (get (said h (reg h)) q) ∙ ap first_of (sym (get-said_restrict h a q))
 

@@ -1,12 +1,13 @@
 -- Laws of the definitions.
-use Rattle.std.specs.Prelude.{◌≡◌, ◌↔◌, ◌≤◌, ℕ, List, length, map}
-use Rattle.std.specs.FinMap.{values}
+use Rattle.std.specs.Prelude.{◌≡◌, ◌↔◌, ◌≤◌, ℕ, false, List, [], ◌∷◌, ◌++◌, length, map, option_map}
+use Rattle.std.specs.FinMap.{get, values}
 use Rattle.disco_instance.specs.Row.{Row}
 use Rattle.disco_instance.specs.declared.status.Status.{Status}
-use Rattle.disco_history.specs.Change.{Entry, front}
+use Rattle.disco_history.specs.Change.{Entry, front, key_of}
 use Rattle.disco_history.specs.Hash.{hash, count_of}
 use Rattle.disco_history.specs.Mentions.{copied, delta, mention_of, overlay}
-use Rattle.disco_history.specs.Registry.{reg, said}
+use Rattle.disco_history.specs.Query.{Asked, is_named, restrict}
+use Rattle.disco_history.specs.Registry.{put_of, reg, said}
 
 -- the overlay law: a delta from base o turns a version that isn't older than o into the whole
 abbrev pub OverlayLaw : Type 0
@@ -19,3 +20,8 @@ CopyLaw = (h : List Entry) → copied (map mention_of (values (said h (reg h))))
 -- the hash law: equal hash codes say that each status has equal numbers, and no more
 abbrev pub HashLaw : Type 0
 HashLaw = (s t : List Row) → (hash s ≡ hash t) ↔ ((status : Status) → count_of s status ≡ count_of t status)
+
+-- the law of untouched documents: a change leaves the records, and their mentions, of each query that it doesn't name
+abbrev pub UntouchedLaw : Type 0
+UntouchedLaw = (h : List Entry) (c : Entry) (a : Asked) → is_named (get (reg h) (key_of c)) (option_map (λ e. e.0) (put_of c)) a ≡ false
+    → let now = h ++ c ∷ [] in (restrict (reg now) a ≡ restrict (reg h) a) × (said now (restrict (reg now) a) ≡ said h (restrict (reg h) a))

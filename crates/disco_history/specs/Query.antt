@@ -1,6 +1,7 @@
 -- Which records a query asks for (Eureka's REST operations).
-use Rattle.std.specs.Prelude.{ℕ, Bool, true, false, not, ◌==◌, ◌&&◌, List, [], ◌∷◌, length, filter, if◌then◌else◌, Option, Some, None, option_and_then}
+use Rattle.std.specs.Prelude.{ℕ, Bool, true, false, not, ◌==◌, ◌&&◌, ◌||◌, List, [], ◌∷◌, length, filter, if◌then◌else◌, Option, Some, None, option_and_then}
 use Rattle.std.specs.List.{find, list_any, onto_first}
+use Rattle.std.specs.Option.{option_map_or}
 use Rattle.std.specs.Str.{bytes_eq}
 use Rattle.std.specs.FinMap.{FinMap, get, keys, len, values}
 use Rattle.disco_instance.specs.Key.{key_cmp, same_key}
@@ -32,6 +33,10 @@ asks_for (of_app name) r = bytes_eq r.key.app name
 asks_for (of_vip vip) r = list_any (bytes_eq vip) (vips r.vip_address)
 asks_for (of_secure_vip vip) r = list_any (bytes_eq vip) (vips r.secure_vip_address)
 asks_for (of_key k) r = same_key r.key k
+
+-- what asks for the record of a key before a change or for the one after it, where they are there, is named by the change; so all apps always are
+abbrev pub is_named : Option Row → Option Row → Asked → Bool
+is_named old new a = option_map_or (asks_for a) old false || option_map_or (asks_for a) new false
 
 -- the restriction: the records that are asked for
 abbrev pub restrict : FinMap key_cmp Row → Asked → FinMap key_cmp Row
