@@ -3,11 +3,10 @@ pub mod Keys
 mod LastOf
 pub mod Lasts
 pub mod Overlays
-mod Places
 pub mod Restrictions
 mod Runs
-mod Searches
 pub mod Sets
 pub mod Sorted
+pub mod SortedBy
 mod Untouched
 mod Worked

@@ -15,12 +15,13 @@ use Rattle.std.proofs.lemmas.Map.Text.{is_eq-slice_cmp}
 use Rattle.std.proofs.lemmas.Slice.Eq.{bytes_eq-Decides}
 use Rattle.disco_history.specs.declared.held.Held.{Held}
 use Rattle.disco_history.specs.Apps.{is_of_app}
-use Rattle.disco_history.specs.List.{AreFrom, comes_before}
+use Rattle.disco_history.specs.List.{AreFrom, comes_before, key_in}
 use Rattle.disco_history.specs.Held.{entry_of}
 use Rattle.disco_history.specs.List.{AreSorted}
 use Rattle.disco_history.specs.Change.{Entry}
 use Rattle.disco_history.proofs.Sorted.{both_second}
-use Rattle.disco_history.proofs.Searches.{apart, rises}
+use Rattle.disco_history.proofs.Keys.{keys_total, exact_keys}
+use Rattle.disco_history.proofs.SortedBy.{apart, rises}
 
 abbrev text_cmp : List ℕ → List ℕ → Ordering
 text_cmp = slice_cmp nat_cmp
@@ -40,7 +41,7 @@ equal_not_after o e = λ bad. let both = sym e ∙ bad in absurd (cc)
 apps_rise : (hs : List Held) (i j : ℕ) (d : Held) → AreSorted hs → i ≤ j → j < length hs → text_cmp (app_of (get_or hs i d)) (app_of (get_or hs j d)) ≢ Greater
 apps_rise hs i j d sorted le inside = elim (apart i j le) [
   | inl same ↦ subst (λ n. text_cmp (app_of (get_or hs i d)) (app_of (get_or hs n d)) ≢ Greater) same (equal_not_after _ (tied_itself nat_list_cmp_total (app_of (get_or hs i d))))
-  | inr lt ↦ not_after _ _ (rises hs i j d sorted lt inside)
+  | inr lt ↦ not_after _ _ (rises keys_total exact_keys key_in entry_of hs i j d sorted lt inside)
 ]
 
 -- ---- two tests of an app, against one that comes no later

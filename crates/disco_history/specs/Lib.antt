@@ -10,4 +10,5 @@ pub mod Mentions
 pub mod Query
 pub mod Registry
 pub mod Room
+pub mod SortedBy
 pub mod Worked

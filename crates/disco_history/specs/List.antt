@@ -1,42 +1,31 @@
 -- Held records in the order of their keys. Nothing here is to be believed: no public contract rests on it.
-use Rattle.std.specs.Prelude.{◌≡◌, ℕ, ◌<◌, ◌≤◌, Bool, false, List, map, length, slice_index_or}
-use Rattle.std.proofs.Common.{T}
-use Rattle.std.specs.declared.cmp.Ordering.TheVariants.{Less, Equal, Greater}
+use Rattle.std.specs.Prelude.{◌≡◌, ℕ, ◌<◌, Bool, false, List, length, slice_index_or}
 use Rattle.std.specs.Cmp.Lexicographic.{slice_cmp}
 use Rattle.std.specs.Ordering.{is_lt, nat_cmp}
-use Rattle.std.specs.FinMap.{FinMap, from_sorted}
-use Rattle.std.specs.FinMap.Entries.{is_sorted}
+use Rattle.std.specs.FinMap.{FinMap}
 use Rattle.disco_instance.specs.Key.{key_cmp}
 use Rattle.disco_instance.specs.declared.key.Key.{Key}
 use Rattle.disco_history.specs.Change.{Entry}
 use Rattle.disco_history.specs.Held.{entry_of}
+use Rattle.disco_history.specs.SortedBy.{AreSortedBy, IsAtBy, IsGapBy, map_by}
 use Rattle.disco_history.specs.declared.held.Held.{Held}
 
--- each record under its key
-abbrev pub by_key : List Held → List (Key × Entry)
-by_key = map (λ h. (h.rec.value.key, entry_of h))
+abbrev pub key_in : Held → Key
+key_in h = h.rec.value.key
 
 abbrev pub AreSorted : List Held → Type 0
-AreSorted hs = T (is_sorted key_cmp (by_key hs))
+AreSorted hs = AreSortedBy key_cmp key_in entry_of hs
 
 abbrev pub map_of : List Held → FinMap key_cmp Entry
-map_of hs = from_sorted (by_key hs)
-
--- the key comes after the records before place i
-abbrev pub ComesAfter : Key → List Held → ℕ → Type 0
-ComesAfter k hs i = (j : ℕ) (d : Held) → j < i → key_cmp k (slice_index_or hs j d).rec.value.key ≡ Greater
+map_of hs = map_by key_cmp key_in entry_of hs
 
 -- the record at place i is that of the key
-pub record IsAt (hs : List Held) (k : Key) (i : ℕ) : Type 0 where
-  pub in_range : i < length hs
-  pub before : ComesAfter k hs i
-  pub here : (d : Held) → key_cmp k (slice_index_or hs i d).rec.value.key ≡ Equal
+abbrev pub IsAt : List Held → Key → ℕ → Type 0
+IsAt hs k i = IsAtBy key_cmp key_in hs k i
 
 -- no record is of the key, and it would go to place i
-pub record IsGap (hs : List Held) (k : Key) (i : ℕ) : Type 0 where
-  pub in_range : i ≤ length hs
-  pub before : ComesAfter k hs i
-  pub here : (d : Held) → i < length hs → key_cmp k (slice_index_or hs i d).rec.value.key ≡ Less
+abbrev pub IsGap : List Held → Key → ℕ → Type 0
+IsGap hs k i = IsGapBy key_cmp key_in hs k i
 
 -- its app comes before that one
 abbrev pub comes_before : List ℕ → Held → Bool

@@ -6,7 +6,7 @@ use disco_instance::{Key, Text};
 use std::alloc::AllocError;
 
 /// Which instances a document is of.
-#[derive(Debug, Drop, PartialEq, Eq)]
+#[derive(Debug, Drop, PartialEq, Eq, PartialOrd, Ord)]
 pub enum Query {
     /// All: Eureka's `GET /apps`.
     Apps,

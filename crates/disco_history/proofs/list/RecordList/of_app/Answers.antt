@@ -3,12 +3,14 @@ use Rattle.std.specs.FinMap.{values}
 use Rattle.disco_history.specs.Apps.{is_of_app}
 use Rattle.disco_history.specs.Held.{entry_of}
 use Rattle.disco_history.specs.Room.{Room}
-use Rattle.disco_history.proofs.Places.{values_of}
+use Rattle.disco_history.proofs.Keys.{keys_total, exact_keys}
+use Rattle.disco_history.specs.List.{key_in}
+use Rattle.disco_history.proofs.SortedBy.{values_of}
 use Rattle.disco_history.proofs.list.RecordList.of_app.Goals as goal
 
 pub returns : goal.returns
 returns c =
     c.run_of_app.ensures
     ∙ ap (filter (is_of_app c.args.app.now)) (ap (map entry_of) c.deref.ensures.value
-    ∙ sym (values_of c.self.inside.records.items c.self.invariant)
+    ∙ sym (values_of keys_total exact_keys key_in entry_of c.self.inside.records.items c.self.invariant)
     ∙ ap (λ (r : Room). values r.held) c.self.view_is)

@@ -4,12 +4,14 @@ use Rattle.std.specs.List.{find}
 use Rattle.disco_history.specs.Apps.{is_of_id}
 use Rattle.disco_history.specs.Held.{entry_of}
 use Rattle.disco_history.specs.Room.{Room}
-use Rattle.disco_history.proofs.Places.{values_of}
+use Rattle.disco_history.proofs.Keys.{keys_total, exact_keys}
+use Rattle.disco_history.specs.List.{key_in}
+use Rattle.disco_history.proofs.SortedBy.{values_of}
 use Rattle.disco_history.proofs.list.RecordList.of_id.Goals as goal
 
 pub returns : goal.returns
 returns c =
     c.first_of_id.ensures
     ∙ ap (find (is_of_id c.args.id.now)) (ap (map entry_of) c.deref.ensures.value
-    ∙ sym (values_of c.self.inside.records.items c.self.invariant)
+    ∙ sym (values_of keys_total exact_keys key_in entry_of c.self.inside.records.items c.self.invariant)
     ∙ ap (λ (r : Room). values r.held) c.self.view_is)
