@@ -1,8 +1,11 @@
 //! Documents as they are kept and served.
 #![tactic(auto)]
 
+mod cache;
 mod key;
+mod named;
 mod payload;
 
+pub use cache::DocCache;
 pub use key::DocKey;
 pub use payload::Payload;

@@ -175,6 +175,13 @@ module _ {E K X : Type 0} {cmp : K → K → Ordering} (total : IsTotalOrder cmp
   pub len_of : (xs : List E) → AreSorted xs → map.len (map_of xs) ≡ length xs
   len_of xs sorted = map.len-entries (map_of xs) ∙ ap length (entries-from_sorted cmp (by_key xs) sorted) ∙ length-map xs (λ (a : E). (key a, shown a))
 
+  keys_by_key : (xs : List E) → mapped (λ (p : K × X). p.0) (by_key xs) ≡ mapped key xs
+  keys_by_key [] = refl
+  keys_by_key (x ∷ xs) = ap (λ ks. key x ∷ ks) (keys_by_key xs)
+
+  pub keys_of : (xs : List E) → AreSorted xs → map.keys (map_of xs) ≡ mapped key xs
+  keys_of xs sorted = ap (mapped (λ (p : K × X). p.0)) (entries-from_sorted cmp (by_key xs) sorted) ∙ keys_by_key xs
+
   values_by_key : (xs : List E) → mapped (λ (p : K × X). p.1) (by_key xs) ≡ mapped shown xs
   values_by_key [] = refl
   values_by_key (x ∷ xs) = ap (λ es. shown x ∷ es) (values_by_key xs)

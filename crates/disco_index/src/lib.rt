@@ -2,14 +2,14 @@
 //! instances have a vip.
 #![tactic(auto)]
 
+mod address;
 mod behind;
 mod counts;
 pub mod laws;
-mod next_vip;
 mod pieces;
 mod places;
 mod vips;
 
+pub use address::{has_vip, next_vip};
 pub use counts::Counts;
-pub use next_vip::has_vip;
 pub use vips::VipIndex;

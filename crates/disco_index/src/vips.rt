@@ -11,7 +11,7 @@ ghost use Rattle.disco_history.specs.Query.{vips};
 ghost use Rattle.disco_index.specs.Places.{Alters, HasNoBareVip, IsBareOnly, opened, seen_vips, swept, written};
 ghost use Rattle.disco_index.specs.Vips.{Adds, HasNoneEmpty, HasPlaces, IsSame, KeepsOthers, KeepsPlaces, Takes, under};
 
-use crate::next_vip::next_vip;
+use crate::address::next_vip;
 use crate::places::Places;
 use disco_instance::{Fault, Key, Record};
 use std::alloc::{AllocError, Global};

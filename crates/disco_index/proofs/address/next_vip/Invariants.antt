@@ -2,7 +2,7 @@ use Rattle.std.proofs.Common.{◌≡◌, length}
 use denote.Text.{Utf8}
 use denote.Shadow.{shadow}
 use Rattle.disco_history.specs.Query.{vips}
-use Rattle.disco_index.proofs.next_vip.next_vip.Given as goal
+use Rattle.disco_index.proofs.address.next_vip.Given as goal
 
 abbrev pub invariant-loop-piece : goal.invariant-loop-piece
 invariant-loop-piece l = shadow (Utf8 l.rest) × (vips l.rest ≡ vips l.fn.address)

@@ -4,7 +4,7 @@ use Rattle.std.specs.Str.{bytes_eq}
 use denote.Text.{Utf8}
 use denote.Shadow.{shadow}
 use Rattle.disco_history.specs.Query.{vips}
-use Rattle.disco_index.proofs.next_vip.has_vip.Given as goal
+use Rattle.disco_index.proofs.address.has_vip.Given as goal
 
 abbrev pub invariant-loop-piece : goal.invariant-loop-piece
 invariant-loop-piece l = shadow (Utf8 l.rest) × (list_any (bytes_eq l.vip) (vips l.rest) ≡ list_any (bytes_eq l.vip) (vips l.fn.address))

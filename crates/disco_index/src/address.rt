@@ -6,7 +6,7 @@ ghost use Rattle.disco_history.specs.Query.{vips};
 
 /// The first vip of an address, and the rest of the address. There is none where every piece is
 /// empty.
-pub(crate) fn next_vip(address: &str) -> Option<(&str, &str)>
+pub fn next_vip(address: &str) -> Option<(&str, &str)>
     ensures { MatchOption result (vips address.now ≡ []) (λ p. vips address.now ≡ p.0.now ∷ vips p.1.now) }
 {
     let mut rest = address;

@@ -1,6 +1,6 @@
 use Rattle.std.proofs.Common.{sym, ◌∙◌, lit<}
 use Rattle.disco_index.proofs.Commas.{cut_full, whole_full}
-use Rattle.disco_index.proofs.next_vip.next_vip.Goals as goal
+use Rattle.disco_index.proofs.address.next_vip.Goals as goal
 
 pub returns-then-not-is_empty : goal.returns-then-not-is_empty
 returns-then-not-is_empty c =

@@ -1,0 +1,3 @@
+mod Drops
+mod Orders
+mod Puts

@@ -1,0 +1,16 @@
+-- Kept documents as plain data.
+use Rattle.std.specs.Prelude.{◌≡◌, ℕ, Bool, if◌then◌else◌, None}
+use Rattle.std.specs.FinMap.{FinMap, get}
+use Rattle.disco_cache.specs.Keys.{doc_cmp}
+use Rattle.disco_cache.specs.declared.key.DocKey.{DocKey}
+use Rattle.disco_cache.specs.declared.payload.Payload.{Payload}
+
+-- the document of each key that has one, and how many there may be
+pub record Docs : Type 0 where
+  pub docs : FinMap doc_cmp Payload
+  pub max : ℕ
+
+-- the keys of which it is asked have no document any more, and each other key what it had
+pub record Drops (of : DocKey → Bool) (old new : Docs) : Type 0 where
+  pub docs : (k : DocKey) → get new.docs k ≡ (if of k then None else get old.docs k)
+  pub max : new.max ≡ old.max

@@ -1,0 +1,70 @@
+-- Kept documents as they are stored, and what names them. Nothing here is to be believed: no public contract rests on it.
+use Rattle.std.specs.Prelude.{ℕ, Bool, List, if◌then◌else◌}
+use Rattle.std.specs.List.{list_any}
+use Rattle.std.specs.FinMap.{FinMap}
+use Rattle.std.specs.declared.alloc.Global.{Global}
+use Rattle.std.specs.declared.cmp.Ordering.{Ordering}
+use Rattle.std.specs.declared.sync.Arc.{Arc}
+use Rattle.std.specs.Cmp.Lexicographic.{slice_cmp}
+use Rattle.std.specs.Ordering.{nat_cmp, ordering_then, is_eq}
+use Rattle.disco_history.specs.SortedBy.{AreSortedBy, IsAtBy, IsGapBy, map_by}
+use Rattle.disco_instance.specs.declared.form.Form.{Form}
+use Rattle.disco_writer.specs.declared.query.Query.{Query}
+use Rattle.disco_writer.specs.declared.query.Query.TheVariants as query
+use Rattle.disco_cache.specs.Keys.{doc_cmp, kind_of, names_in}
+use Rattle.disco_cache.specs.declared.key.DocKey.{DocKey}
+use Rattle.disco_cache.specs.declared.named.Named.{Named}
+use Rattle.disco_cache.specs.declared.named.Named.TheVariants as named
+use Rattle.disco_cache.specs.declared.payload.Payload.{Payload}
+
+abbrev pub Stored : Type 0
+Stored = List (Arc Payload Global)
+
+abbrev pub key_in : Arc Payload Global → DocKey
+key_in d = d.value.key
+
+abbrev pub shown : Arc Payload Global → Payload
+shown d = d.value
+
+abbrev pub AreSorted : Stored → Type 0
+AreSorted ds = AreSortedBy doc_cmp key_in shown ds
+
+abbrev pub map_of : Stored → FinMap doc_cmp Payload
+map_of ds = map_by doc_cmp key_in shown ds
+
+-- the document at place i is that of the key
+abbrev pub IsAt : Stored → DocKey → ℕ → Type 0
+IsAt ds k i = IsAtBy doc_cmp key_in ds k i
+
+-- no document is of the key, and it would go to place i
+abbrev pub IsGap : Stored → DocKey → ℕ → Type 0
+IsGap ds k i = IsGapBy doc_cmp key_in ds k i
+
+-- the query of what is named
+abbrev pub query_of : Named → Query
+query_of named.Apps = query.Apps
+query_of named.Delta = query.Delta
+query_of (named.App name) = query.App name.now
+query_of (named.Vip vip) = query.Vip vip.now
+query_of (named.Svip vip) = query.Svip vip.now
+query_of (named.Instance key) = query.Instance key.now
+
+-- the order of queries: by kind, then by names
+abbrev pub query_cmp : Query → Query → Ordering
+query_cmp a b = ordering_then (nat_cmp (kind_of a) (kind_of b)) (slice_cmp (slice_cmp nat_cmp) (names_in a) (names_in b))
+
+-- the key of a query in a form
+abbrev pub doc_of : Query → Form → DocKey
+doc_of q f = record { query = q; form = f }
+
+-- the key is of that query, in any form
+abbrev pub is_of : Query → DocKey → Bool
+is_of q k = is_eq (query_cmp k.query q)
+
+-- a vip, or a secure one
+abbrev pub vip_query : Bool → List ℕ → Query
+vip_query secure vip = if secure then query.Svip vip else query.Vip vip
+
+-- the key is of one of these vips, or of these secure ones
+abbrev pub is_of_any : Bool → List (List ℕ) → DocKey → Bool
+is_of_any secure vips k = list_any (λ vip. is_of (vip_query secure vip) k) vips
