@@ -4,7 +4,6 @@
 
 mod behind;
 mod counts;
-pub mod laws;
 mod next_vip;
 mod pieces;
 mod places;
