@@ -10,7 +10,6 @@ ghost use Rattle.disco_client.specs.Steps.{after, after_all};
 
 use disco_history::{Held, RecordList};
 use disco_index::Counts;
-use disco_index::laws::{count_law, empty_law, hash_law, held_law, insert_law, remove_law};
 use disco_instance::{Action, Fault, Key, Text};
 use std::alloc::{AllocError, Global};
 use std::marker::Model;
@@ -38,21 +37,21 @@ impl Model for Counted {
 }
 
 /// Counts no more what is held at a key.
+#[tactic(auto, using(disco_index::proofs::Changes::held_law))]
 fn uncount(counts: &mut Counts, records: &RecordList, key: &Key)
     requires { counts.old ≡ tally_in records.now.held }
     ensures { counts.new ≡ without (tally_in records.now.held) (get records.now.held key.now) }
 {
-    held_law();
     if let Some(held) = records.get(key) {
         counts.take(held.status);
     }
 }
 
 impl Counted {
+    #[tactic(auto, using(disco_index::proofs::Changes::empty_law))]
     pub(crate) fn new(alloc: Global) -> Counted
         ensures { result.held ≡ empty }
     {
-        empty_law();
         Counted {
             records: RecordList::new(alloc),
             counts: Counts::new(),
@@ -68,13 +67,12 @@ impl Counted {
     }
 
     /// Puts a record in, in the place of that of its key or in room that is there.
+    #[tactic(auto, using(disco_index::proofs::Changes::insert_law))]
     fn put(&mut self, added: Held)
         requires { 0 < self.old.room }
         ensures held { self.new.held ≡ insert self.old.held added.rec.value.key (entry_of added) }
         ensures room { self.old.room ≤ self.new.room + 1 }
     {
-        count_law();
-        insert_law();
         uncount(&mut self.counts, &self.records, &added.rec.key);
         let status = added.rec.status;
         self.records.put(added);
@@ -83,11 +81,11 @@ impl Counted {
     }
 
     /// Takes the record of a key out, if there is one.
+    #[tactic(auto, using(disco_index::proofs::Changes::remove_law))]
     fn take(&mut self, key: &Key)
         ensures held { self.new.held ≡ remove self.old.held key.now }
         ensures room { self.old.room ≤ self.new.room }
     {
-        remove_law();
         uncount(&mut self.counts, &self.records, key);
         self.records.take(key);
     }
@@ -132,15 +130,14 @@ impl Counted {
         ensures hash { IfOk result (λ t. t ≡ hash (rows_of self.now.held)) }
         ensures memory { IfErr result (λ e. e ≡ OutOfMemory) }
     {
-        hash_law();
-        self.counts.text(alloc)
+        let hash = self.counts.text(alloc)?;
+        Ok(hash)
     }
 
     /// Whether a text is the hash code of the records.
     pub(crate) fn hash_is(&self, text: &str) -> bool
         ensures { result ≡ bytes_eq text.now (hash (rows_of self.now.held)) }
     {
-        hash_law();
         self.counts.is_text(text)
     }
 }

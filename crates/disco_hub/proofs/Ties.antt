@@ -12,8 +12,8 @@ use Rattle.disco_history.specs.Registry.{put_of}
 use Rattle.disco_history.proofs.Keys.{keys_total, same_is}
 use Rattle.disco_history.proofs.Sets.{said_nil}
 use Rattle.disco_index.specs.Tally.{Tally, tally_in, tally_of}
-use Rattle.disco_index.specs.Laws.{EmptyLaw}
-use Rattle.disco_index.specs.VipLaws.{GoneVipsLaw, NoVipsLaw, PutVipsLaw, SameVipsLaw}
+use Rattle.disco_index.proofs.Changes.{empty_law}
+use Rattle.disco_index.proofs.VipLaws.{gone_vips_law, no_vips_law, put_vips_law, same_vips_law}
 use Rattle.disco_index.specs.Vips.{IsIndexOf, VipKeys}
 use Rattle.disco_index.specs.Vips as vips
 use Rattle.disco_lease.specs.Leases as leases
@@ -42,12 +42,12 @@ entry_lasts o = rows_last (option_map (λ e. e.0) o)
 
 -- ---- a new world
 
-pub tied_new : EmptyLaw → NoVipsLaw → (s : State) (t : Tally) (i : VipKeys) (v : Leases) (q : Queue) → StandsFor s [] → t ≡ tally_of [] → i ≡ empty → v ≡ no_leases → Keeps q [] → IsTied s t i v q
-tied_new law none_law s t i v q stands ts is vs keeps =
+pub tied_new : (s : State) (t : Tally) (i : VipKeys) (v : Leases) (q : Queue) → StandsFor s [] → t ≡ tally_of [] → i ≡ empty → v ≡ no_leases → Keeps q [] → IsTied s t i v q
+tied_new s t i v q stands ts is vs keeps =
     let held : s.held ≡ empty = stands.held ∙ said_nil in
     record {
-      counts = ts ∙ sym law ∙ ap tally_in (sym held);
-      indexed = subst (λ x. IsIndexOf x s.held) (sym is) (subst (λ m. IsIndexOf empty m) (sym held) none_law);
+      counts = ts ∙ sym empty_law ∙ ap tally_in (sym held);
+      indexed = subst (λ x. IsIndexOf x s.held) (sym is) (subst (λ m. IsIndexOf empty m) (sym held) no_vips_law);
       leased = λ k.
           ap (λ x. lasts (lease_at x k)) vs ∙ ap (λ o. lasts (option_flatten o)) (get-empty key_cmp k)
           ∙ sym (ap (λ m. rows_last (record_at m k)) held ∙ ap entry_lasts (get-empty key_cmp k));
@@ -140,10 +140,10 @@ tied_after old new c t i v₀ v q₀ q few leased seen takes counted indexed mov
 }
 
 -- what gets more places stays tied
-pub tied_same : SameVipsLaw → (old new : State) (t : Tally) (i j : VipKeys) (v w : Leases) (q r : Queue) → IsTied old t i v q → IsSame old new → vips.IsSame i j → leases.IsSame v w → queue.IsSame q r → IsTied new t j w r
-tied_same law old new t i j v w q r tied same vips_same leases_same queue_same = record {
+pub tied_same : (old new : State) (t : Tally) (i j : VipKeys) (v w : Leases) (q r : Queue) → IsTied old t i v q → IsSame old new → vips.IsSame i j → leases.IsSame v w → queue.IsSame q r → IsTied new t j w r
+tied_same old new t i j v w q r tied same vips_same leases_same queue_same = record {
   counts = tied.counts ∙ ap tally_in (sym same.held);
-  indexed = subst (λ m. IsIndexOf j m) (sym same.held) (law old.held i j tied.indexed vips_same);
+  indexed = subst (λ m. IsIndexOf j m) (sym same.held) (same_vips_law old.held i j tied.indexed vips_same);
   leased = subst (λ m. AreLeased m w) (sym same.held) (λ k. ap lasts (leases_same.leases k) ∙ tied.leased k);
   few = few_same old new same tied.few;
   seen = (λ k. queue_same.base k + length (queue_same.kept k)) ∙ tied.seen ∙ sym same.version;
@@ -165,9 +165,9 @@ places_kept old new None keeps has = has
 places_kept old new (Some e) keeps has = λ q k is. keeps q k (has q k is)
 
 -- what was at a change's key is taken, what it puts is added, and places are given back
-pub indexed_after : PutVipsLaw → GoneVipsLaw → SameVipsLaw → (m : FinMap key_cmp Entry) (r : Row) (a : Action) (old taken added new : VipKeys) → IsIndexOf old m → IfSome (get m r.key) (λ d. key_of d ≡ r.key)
+pub indexed_after : (m : FinMap key_cmp Entry) (r : Row) (a : Action) (old taken added new : VipKeys) → IsIndexOf old m → IfSome (get m r.key) (λ d. key_of d ≡ r.key)
     → vips.TakesAny (get m r.key) old taken → AddsAny (put_of (r, a)) taken added → vips.IsSame added new → IsIndexOf new (held_after m (Some (r, a)))
-indexed_after put gone same m r Added old taken added new index own takes adds swept = same (insert m r.key (r, Added)) added new (put m (r, Added) old taken added index own takes adds) swept
-indexed_after put gone same m r Modified old taken added new index own takes adds swept = same (insert m r.key (r, Modified)) added new (put m (r, Modified) old taken added index own takes adds) swept
-indexed_after put gone same m r Deleted old taken added new index own takes adds swept =
-    same (remove m r.key) added new (same (remove m r.key) taken added (gone m r.key old taken index own takes) adds) swept
+indexed_after m r Added old taken added new index own takes adds swept = same_vips_law (insert m r.key (r, Added)) added new (put_vips_law m (r, Added) old taken added index own takes adds) swept
+indexed_after m r Modified old taken added new index own takes adds swept = same_vips_law (insert m r.key (r, Modified)) added new (put_vips_law m (r, Modified) old taken added index own takes adds) swept
+indexed_after m r Deleted old taken added new index own takes adds swept =
+    same_vips_law (remove m r.key) added new (same_vips_law (remove m r.key) taken added (gone_vips_law m r.key old taken index own takes) adds) swept

@@ -7,30 +7,27 @@ ghost use Rattle.disco_registry.specs.Commit.{held_after};
 
 use disco_history::Change;
 use disco_index::Counts;
-use disco_index::laws::{held_law, insert_law, remove_law, room_law};
 use disco_instance::{Action, Key};
 use disco_registry::Registry;
 
 /// Counts no more what the registry has at a key.
+#[tactic(auto, using(disco_index::proofs::Changes::held_law))]
 fn uncount(counts: &mut Counts, registry: &Registry, key: &Key)
     requires { counts.old ≡ tally_in registry.now.held }
     ensures { counts.new ≡ without (tally_in registry.now.held) (get registry.now.held key.now) }
 {
-    held_law();
     if let Some(held) = registry.get(key) {
         counts.take(held.status);
     }
 }
 
 /// Counts a change that the registry is about to make.
+#[tactic(auto, using(disco_index::proofs::Changes::insert_law, disco_index::proofs::Changes::remove_law))]
 pub(crate) fn count(counts: &mut Counts, registry: &Registry, change: &Change)
     requires tally { counts.old ≡ tally_in registry.now.held }
     requires few { len registry.now.held < 2 ^ 64 - 1 }
     ensures { counts.new ≡ tally_in (held_after registry.now.held (Some (seen change.now))) }
 {
-    insert_law();
-    remove_law();
-    room_law();
     uncount(counts, registry, change.key());
     if let Change::Put {
         action: Action::Added | Action::Modified,

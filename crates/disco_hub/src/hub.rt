@@ -28,7 +28,6 @@ use crate::settings::Settings;
 use crate::{leases, vips};
 use disco_cache::{DocKey, Payload};
 use disco_history::Change;
-use disco_index::laws::{no_vips_law, same_vips_law};
 use disco_index::{Counts, VipIndex};
 use disco_instance::{Bytes, Fault, Form, Key};
 use disco_lease::LeaseBook;
@@ -176,7 +175,6 @@ impl Hub {
         ensures empty { StandsFor result nothing }
         ensures rules { rules_of result ≡ rules settings.now }
     {
-        no_vips_law();
         Hub {
             alloc,
             registry: Registry::new(alloc, settings.versions, settings.instances),
@@ -207,7 +205,6 @@ impl Hub {
         ensures refused { IfErr result (Refuses self.old.registry (ask_of op) now) }
         ensures given_back { OnErr result (AddsNoPlaces self.old.vips self.old.leases self.new.vips self.new.leases) }
     {
-        same_vips_law();
         let step = step_of(&op);
         let key = op.key().clone()?;
         let ready = self.registry.ready(op, now)?;

@@ -11,7 +11,6 @@ ghost use Rattle.disco_hub.specs.State.{AddsAny, HasVipPlaces, IsSwept};
 
 use disco_history::Change;
 use disco_index::VipIndex;
-use disco_index::laws::{gone_vips_law, put_vips_law, same_vips_law};
 use disco_instance::{Action, Fault, Key};
 use disco_registry::Registry;
 
@@ -90,9 +89,6 @@ pub(crate) fn follow(vips: &mut VipIndex, registry: &Registry, change: &Change)
     ensures index { IsIndexOf vips.new (held_after registry.now.held (Some (seen change.now))) }
     ensures swept { IsSwept vips.new (get registry.now.held (key_of (seen change.now))) }
 {
-    put_vips_law();
-    gone_vips_law();
-    same_vips_law();
     take(vips, registry, change.key());
     add(vips, change);
     sweep(vips, registry, change.key());

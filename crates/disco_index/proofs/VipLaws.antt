@@ -1,7 +1,7 @@
--- The laws of the index of vips.
-use Rattle.std.proofs.Common.{◌≡◌, ℕ, Bool, true, false, not, ◌&&◌, ◌||◌, cond, List, [], ◌∷◌, filter, map, Option, Some, None, IfSome, is_some, option_and_then, option_map, refl, sym, ap, ◌∙◌}
+-- How the index of vips follows what is put in and taken out.
+use Rattle.std.proofs.Common.{◌≡◌, ℕ, Bool, true, false, not, ◌&&◌, ◌||◌, cond, List, [], ◌∷◌, filter, map, Option, Some, None, IfSome, is_some, option_and_then, option_map, refl, sym, ap, subst, ◌∙◌}
 use Rattle.std.specs.Cmp.Lexicographic.{slice_cmp}
-use Rattle.std.specs.FinMap.{FinMap, empty, entries, entries_sorted, get, get-empty, get-entries, get-insert, get-remove}
+use Rattle.std.specs.FinMap.{FinMap, empty, entries, entries_sorted, get, get-empty, get-entries, get-insert, get-remove, insert, keys, remove}
 use Rattle.std.specs.FinMap.Entries.{find-where_key, is_sorted-where_key, where_key}
 use Rattle.std.specs.Option.{unwrap_or}
 use Rattle.std.specs.Ordering.{nat_cmp}
@@ -12,14 +12,17 @@ use Rattle.disco_history.specs.Change.{Entry, key_of}
 use Rattle.disco_history.specs.Query.{asks_for, of_vip, restrict}
 use Rattle.disco_history.proofs.Keys.{exact_keys, keys_total, same_is}
 use Rattle.disco_history.proofs.Sets.{get-restrict}
-use Rattle.disco_index.specs.VipLaws.{GoneVipsLaw, NoVipsLaw, PutVipsLaw, UnderVipLaw}
-use Rattle.disco_index.specs.Vips.{IsIndexOf, TakesAny, VipKeys, entry_has, has, is_under, place_at, places_at}
+use Rattle.disco_index.specs.Vips.{Adds, IsIndexOf, IsSame, Takes, TakesAny, VipKeys, entry_has, has, is_under, place_at, places_at, under}
 use Rattle.disco_index.proofs.Stored.{same_keys}
 
-pub no_vips_law : NoVipsLaw
+pub no_vips_law : IsIndexOf empty empty
 no_vips_law q k =
     ap (λ (o : Option (FinMap key_cmp Bool)). unwrap_or (get (unwrap_or o empty) k) false) (get-empty (slice_cmp nat_cmp) q)
     ∙ ap (λ (o : Option Bool). unwrap_or o false) (get-empty key_cmp k) ∙ sym (ap (entry_has q) (get-empty key_cmp k))
+
+-- empty places count for nothing
+pub same_vips_law : (m : FinMap key_cmp Entry) (old new : VipKeys) → IsIndexOf old m → IsSame old new → IsIndexOf new m
+same_vips_law m old new is same q k = same q k ∙ is q k
 
 -- ---- an entry goes
 
@@ -48,7 +51,8 @@ gone_by m k None old new there is keyed taken q p = taken q p ∙ is q p ∙ not
 gone_by m k (Some d) old new there is keyed taken q p =
     taken q p ∙ (λ i. is q p i && not (asks_for (of_vip q) d.0 && same_key p (keyed i))) ∙ one_gone m k q p d (same_key p k) there refl
 
-pub gone_vips_law : GoneVipsLaw
+-- what was at the key is taken
+pub gone_vips_law : (m : FinMap key_cmp Entry) (k : Key) (old new : VipKeys) → IsIndexOf old m → IfSome (get m k) (λ d. key_of d ≡ k) → TakesAny (get m k) old new → IsIndexOf new (remove m k)
 gone_vips_law m k old new is keyed taken q p = gone_by m k (get m k) old new refl is keyed taken q p ∙ sym (ap (entry_has q) (get-remove keys_total m k p))
 
 -- ---- an entry comes
@@ -65,12 +69,25 @@ one_put q e false o = other (asks_for (of_vip q) e.0)
     other true = refl
     other false = refl
 
-pub put_vips_law : PutVipsLaw
+-- what was at the key is taken, and then the new entry is added
+pub put_vips_law : (m : FinMap key_cmp Entry) (e : Entry) (old taken new : VipKeys) → IsIndexOf old m → IfSome (get m (key_of e)) (λ d. key_of d ≡ key_of e) → TakesAny (get m (key_of e)) old taken → Adds e.0 taken new → IsIndexOf new (insert m (key_of e) e)
 put_vips_law m e old taken new is keyed took added q p =
     added q p
     ∙ ap (λ b. is_under e.0 q p || b) (gone_by m (key_of e) (get m (key_of e)) old taken refl is keyed took q p)
     ∙ one_put q e (same_key p (key_of e)) (get m p)
     ∙ sym (ap (entry_has q) (get-insert keys_total m (key_of e) e p))
+
+-- a record that was there goes
+pub record_gone : (r : Row) (m : FinMap key_cmp Entry) (e : Entry) (old new : VipKeys) → Takes r old new → e.0 ≡ r → get m (key_of e) ≡ Some e → IsIndexOf old m → IsIndexOf new (remove m (key_of e))
+record_gone r m e old new takes of there is =
+    gone_vips_law m (key_of e) old new is (subst (λ o. IfSome o (λ d. key_of d ≡ key_of e)) (sym there) refl)
+    (subst (λ o. TakesAny o old new) (sym there) (subst (λ x. Takes x old new) (sym of) takes))
+
+-- a record of a key that was not there comes
+pub record_put : (r : Row) (m : FinMap key_cmp Entry) (e : Entry) (old new : VipKeys) → Adds r old new → e.0 ≡ r → get m (key_of e) ≡ None → IsIndexOf old m → IsIndexOf new (insert m (key_of e) e)
+record_put r m e old new adds of none is =
+    put_vips_law m e old old new is (subst (λ o. IfSome o (λ d. key_of d ≡ key_of e)) (sym none) tt)
+    (subst (λ o. TakesAny o old old) (sym none) (λ q k. refl)) (subst (λ x. Adds x old new) (sym of) adds)
 
 -- ---- the keys under a vip
 
@@ -96,7 +113,7 @@ asked : (q : List ℕ) (o : Option Entry) → entry_has q o ≡ is_some (option_
 asked q None = refl
 asked q (Some e) = chosen (asks_for (of_vip q) e.0) e.0
 
-pub under_vip_law : UnderVipLaw
+pub under_vip_law : (v : VipKeys) (m : FinMap key_cmp Entry) (rows : FinMap key_cmp Row) (q : List ℕ) → IsIndexOf v m → ((k : Key) → get rows k ≡ option_map (λ e. e.0) (get m k)) → under v q ≡ keys (restrict rows (of_vip q))
 under_vip_law v m rows q is same =
     let places = entries (places_at v q) in
     let asks = restrict rows (of_vip q) in

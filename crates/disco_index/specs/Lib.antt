@@ -1,6 +1,4 @@
 pub mod Behind
-pub mod Laws
 pub mod Places
 pub mod Tally
-pub mod VipLaws
 pub mod Vips

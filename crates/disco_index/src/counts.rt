@@ -1,12 +1,17 @@
 //! How many instances have each status.
-ghost use Rattle.std.specs.Prelude.{◌≡◌, ◌<◌, ◌≤◌, ◌+◌, ◌-◌, ◌^◌, ◌++◌, [], IfOk, IfErr, string_bytes, vec_len};
+ghost use Rattle.std.specs.Prelude.{◌≡◌, ◌<◌, ◌≤◌, ◌+◌, ◌-◌, ◌^◌, ◌++◌, [], List, IfOk, IfErr, None, Some, string_bytes, vec_len};
+ghost use Rattle.std.specs.FinMap.{FinMap, get, insert, remove};
 ghost use Rattle.std.specs.Option.{option_copied};
 ghost use Rattle.std.specs.Str.{bytes_eq};
 ghost use Rattle.std.specs.Vec.{vec_capacity};
+ghost use Rattle.disco_instance.specs.Key.{key_cmp};
+ghost use Rattle.disco_instance.specs.Row.{Row};
+ghost use Rattle.disco_instance.specs.declared.key.Key.{Key};
 ghost use Rattle.disco_instance.specs.declared.fault.Fault.TheVariants.{OutOfMemory};
-ghost use Rattle.disco_history.specs.Hash.{hash_by};
+ghost use Rattle.disco_history.specs.Change.{Entry};
+ghost use Rattle.disco_history.specs.Hash.{hash, hash_by};
 ghost use Rattle.disco_index.specs.Behind.{behind};
-ghost use Rattle.disco_index.specs.Tally.{count_in, fewer, more, tally_of};
+ghost use Rattle.disco_index.specs.Tally.{count_in, fewer, more, tally_in, tally_of};
 
 use crate::behind::behind_piece;
 use crate::pieces::{push_piece, write_piece};
@@ -49,6 +54,23 @@ impl Counts {
     /// One more instance has the status. Takes no memory.
     pub fn add(&mut self, status: Status)
         requires { count_in self.old status < 2 ^ 64 - 1 }
+        ensures more { self.new ≡ more self.old status }
+        ensures tally { (m : FinMap key_cmp Entry) (k : Key) (e : Entry) → e.0.status ≡ status → get m k ≡ None → self.old ≡ tally_in m → self.new ≡ tally_in (insert m k e) }
+    {
+        self.count(status);
+    }
+
+    /// One instance fewer has the status. Takes no memory.
+    pub fn take(&mut self, status: Status)
+        requires { 0 < count_in self.old status }
+        ensures fewer { self.new ≡ fewer self.old status }
+        ensures tally { (m : FinMap key_cmp Entry) (k : Key) (e : Entry) → e.0.status ≡ status → get m k ≡ Some e → self.old ≡ tally_in m → self.new ≡ tally_in (remove m k) }
+    {
+        self.uncount(status);
+    }
+
+    fn count(&mut self, status: Status)
+        requires { count_in self.old status < 2 ^ 64 - 1 }
         ensures { self.new ≡ more self.old status }
     {
         match status {
@@ -60,8 +82,7 @@ impl Counts {
         }
     }
 
-    /// One instance fewer has the status. Takes no memory.
-    pub fn take(&mut self, status: Status)
+    fn uncount(&mut self, status: Status)
         requires { 0 < count_in self.old status }
         ensures { self.new ≡ fewer self.old status }
     {
@@ -76,7 +97,7 @@ impl Counts {
 
     /// The hash code: Eureka's `apps__hashcode`. Refused only as `OutOfMemory`.
     pub fn text(&self, alloc: Global) -> Result<Text, Fault>
-        ensures text { IfOk result (λ t. t ≡ hash_by (count_in self.now)) }
+        ensures text { IfOk result (λ t. (rows : List Row) → self.now ≡ tally_of rows → t ≡ hash rows) }
         ensures memory { IfErr result (λ e. e ≡ OutOfMemory) }
     {
         Ok(Text::from_string(self.written(alloc)?))
@@ -97,7 +118,7 @@ impl Counts {
     /// Pushes the hash code into room that is there. Takes no memory.
     pub fn text_into(&self, out: &mut Vec<u8>)
         requires { vec_len out.old + 160 ≤ vec_capacity out.old }
-        ensures text { out.new.items ≡ out.old.items ++ hash_by (count_in self.now) }
+        ensures text { (rows : List Row) → self.now ≡ tally_of rows → out.new.items ≡ out.old.items ++ hash rows }
         ensures capacity { vec_capacity out.new ≡ vec_capacity out.old }
     {
         push_piece(out, Status::Down, self.down);
@@ -109,7 +130,7 @@ impl Counts {
 
     /// Whether a text is the hash code. Takes no memory.
     pub fn is_text(&self, text: &str) -> bool
-        ensures { result ≡ bytes_eq text.now (hash_by (count_in self.now)) }
+        ensures { (rows : List Row) → self.now ≡ tally_of rows → result ≡ bytes_eq text.now (hash rows) }
     {
         match self.behind_text(text.as_bytes()) {
             Some(rest) => rest.is_empty(),

@@ -5,7 +5,6 @@
 mod address;
 mod behind;
 mod counts;
-pub mod laws;
 mod pieces;
 mod places;
 mod vips;

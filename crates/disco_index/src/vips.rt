@@ -1,15 +1,18 @@
 //! Which instances have a vip.
-ghost use Rattle.std.specs.Prelude.{◌≡◌, ◌∷◌, [], IfErr, IfOk, IsTrue, None, OnErr, OnOk, Some, map, string_bytes};
+ghost use Rattle.std.specs.Prelude.{◌≡◌, ◌∷◌, [], IfErr, IfOk, IsTrue, None, OnErr, OnOk, Some, map, option_map, string_bytes};
 ghost use Rattle.std.specs.BTreeMap.{UpdatesBy};
 ghost use Rattle.std.specs.Cmp.Lexicographic.{slice_cmp};
-ghost use Rattle.std.specs.FinMap.{empty, get};
+ghost use Rattle.std.specs.FinMap.{FinMap, empty, get, insert, keys, remove};
 ghost use Rattle.std.specs.Ordering.{nat_cmp};
 ghost use Rattle.std.specs.String.{string_cmp};
-ghost use Rattle.disco_instance.specs.Row.{row};
+ghost use Rattle.disco_instance.specs.Key.{key_cmp};
+ghost use Rattle.disco_instance.specs.Row.{Row, row};
+ghost use Rattle.disco_instance.specs.declared.key.Key.{Key};
 ghost use Rattle.disco_instance.specs.declared.fault.Fault.TheVariants.{OutOfMemory};
-ghost use Rattle.disco_history.specs.Query.{vips};
+ghost use Rattle.disco_history.specs.Change.{Entry, key_of};
+ghost use Rattle.disco_history.specs.Query.{of_vip, restrict, vips};
 ghost use Rattle.disco_index.specs.Places.{Alters, HasNoBareVip, IsBareOnly, opened, seen_vips, swept, written};
-ghost use Rattle.disco_index.specs.Vips.{Adds, HasNoneEmpty, HasPlaces, IsSame, KeepsOthers, KeepsPlaces, Takes, under};
+ghost use Rattle.disco_index.specs.Vips.{Adds, HasNoneEmpty, HasPlaces, IsIndexOf, IsSame, KeepsOthers, KeepsPlaces, Takes, under};
 
 use crate::address::next_vip;
 use crate::places::Places;
@@ -77,18 +80,20 @@ impl VipIndex {
     pub fn add(&mut self, rec: &Record)
         requires { HasPlaces self.old (row rec.now) }
         ensures vips { Adds (row rec.now) self.old self.new }
+        ensures index { (m : FinMap key_cmp Entry) (e : Entry) → e.0 ≡ row rec.now → get m (key_of e) ≡ None → IsIndexOf self.old m → IsIndexOf self.new (insert m (key_of e) e) }
         ensures places { KeepsPlaces self.old self.new }
     {
-        self.write_all(rec, true);
+        self.place(rec);
     }
 
     /// The record's instance has the record's vips no more. Their places stay, and stand empty.
     /// Takes no memory.
     pub fn take(&mut self, rec: &Record)
         ensures vips { Takes (row rec.now) self.old self.new }
+        ensures index { (m : FinMap key_cmp Entry) (e : Entry) → e.0 ≡ row rec.now → get m (key_of e) ≡ Some e → IsIndexOf self.old m → IsIndexOf self.new (remove m (key_of e)) }
         ensures places { KeepsPlaces self.old self.new }
     {
-        self.write_all(rec, false);
+        self.displace(rec);
     }
 
     /// Gives back the places under the record's vips that stand empty. Takes no memory.
@@ -107,7 +112,31 @@ impl VipIndex {
     /// The keys of the instances that have a vip, in their order. Refused only as `OutOfMemory`.
     pub fn under(&self, alloc: Global, vip: &str) -> Result<Vec<&Key>, Fault>
         ensures keys { IfOk result (λ found. map (λ k. k.now) found.items ≡ under self.now vip.now) }
+        ensures restriction { (m : FinMap key_cmp Entry) (rows : FinMap key_cmp Row) → IsIndexOf self.now m → ((k : Key) → get rows k ≡ option_map (λ e. e.0) (get m k))
+            → IfOk result (λ found. map (λ k. k.now) found.items ≡ keys (restrict rows (of_vip vip.now))) }
         ensures memory { IfErr result (λ e. e ≡ OutOfMemory) }
+    {
+        Ok(self.keys_under(alloc, vip)?)
+    }
+
+    fn place(&mut self, rec: &Record)
+        requires { HasPlaces self.old (row rec.now) }
+        ensures vips { Adds (row rec.now) self.old self.new }
+        ensures places { KeepsPlaces self.old self.new }
+    {
+        self.write_all(rec, true);
+    }
+
+    fn displace(&mut self, rec: &Record)
+        ensures vips { Takes (row rec.now) self.old self.new }
+        ensures places { KeepsPlaces self.old self.new }
+    {
+        self.write_all(rec, false);
+    }
+
+    /// The keys that have a vip in the index.
+    fn keys_under(&self, alloc: Global, vip: &str) -> Result<Vec<&Key>, AllocError>
+        ensures { IfOk result (λ found. map (λ k. k.now) found.items ≡ under self.now vip.now) }
     {
         match self.vips.get(vip) {
             Some(places) => Ok(places.there(alloc)?),

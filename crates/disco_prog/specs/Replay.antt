@@ -1,5 +1,5 @@
 -- What `replay` reads and writes.
-use Rattle.std.specs.Prelude.{◌≡◌, ◌⊎◌, ℕ, List, length, Option}
+use Rattle.std.specs.Prelude.{◌≡◌, ◌≢◌, ◌⊎◌, ℕ, List, length, Option}
 use Rattle.std.specs.Io.KnownBytes.{Appends}
 use Rattle.clap.specs.Words.{Text}
 use Rattle.disco_instance.specs.declared.fault.Fault.{Fault}
@@ -35,3 +35,11 @@ pub record IsAnswered (settings : Settings) (known old new : Option (List ℕ)) 
 -- the words are `replay` and options, and the input is answered with the settings that these name
 abbrev pub IsReplayed : List Text → Option (List ℕ) → Option (List ℕ) → Option (List ℕ) → Type 0
 IsReplayed words known old new = (settings : Settings) × NamedBy words settings × IsAnswered settings known old new
+
+-- why a run of these words fails: want of memory, or what the run with their settings fails for
+abbrev pub IsFaultOf : List Text → Option (List ℕ) → Fault → Type 0
+IsFaultOf words known fault = (fault ≡ OutOfMemory) ⊎ ((settings : Settings) × NamedBy words settings × IsRunFault settings known fault)
+
+-- the run failed, and nothing was answered, but where a write failed or memory was wanting
+abbrev pub IsFailed : {W : Type 0} → List Text → Option (List ℕ) → W → W → Type 0
+IsFailed words known old new = (fault : Fault) × IsFaultOf words known fault × (fault ≢ OutOfMemory → fault ≢ WriteFailed → new ≡ old)

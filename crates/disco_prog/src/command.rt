@@ -6,7 +6,7 @@ ghost use Rattle.disco_instance.specs.declared.fault.Fault.TheVariants.{OutOfMem
 ghost use Rattle.disco_prog.specs.Faults.{IsStatusAmong};
 ghost use Rattle.disco_lines.specs.Lines.{IsFirstBadLine};
 ghost use Rattle.disco_prog.specs.Options.{faults_of_words};
-ghost use Rattle.disco_prog.specs.Replay.{IsAnswered, IsReplayed, IsRunFault};
+ghost use Rattle.disco_prog.specs.Replay.{IsAnswered, IsFailed, IsReplayed, IsRunFault};
 
 use crate::faults::{refused, report};
 use crate::options::read_words;
@@ -28,6 +28,7 @@ fn answer<R: Read, W: Write>(
     ensures fault { IfErr result (IsRunFault settings.now (R.remaining reader.old)) }
     ensures bad_line { (input : List ℕ) (bad : Fault) → R.remaining reader.old ≡ Some input
         → IsFirstBadLine input bad → out.new ≡ out.old }
+    ensures unwritten { IfErr result (λ e. e ≢ OutOfMemory → e ≢ WriteFailed → out.new ≡ out.old) }
 {
     let events = read_events(alloc, reader)?;
     let replies = run(alloc, settings, events.as_slice())?;
@@ -71,6 +72,10 @@ pub fn replay<R: Read, W: Write, E: Write>(
     ensures bad_line { faults_of_words (map string_bytes words.now) ≡ []
         → (input : List ℕ) (bad : Fault) → R.remaining reader.old ≡ Some input
         → IsFirstBadLine input bad → (result ≡ 1) × (out.new ≡ out.old) }
+
+    // Where the run is refused no event is answered, unless memory or a write failed.
+    ensures failed { faults_of_words (map string_bytes words.now) ≡ [] → result ≡ 1
+        → IsFailed (map string_bytes words.now) (R.remaining reader.old) out.old out.new }
 
     ensures silent { result ≡ 0 → errors.new ≡ errors.old }
 {

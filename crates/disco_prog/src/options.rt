@@ -93,7 +93,8 @@ fn flag_given(matches: &ArgMatches<'_>, name: &str) -> bool
     matches.get_one::<bool>(name).unwrap_or(false)
 }
 
-/// The number given for a name, from 1 to `most`; `most` where none is.
+/// The number given for a name, from 1 to `most`; `most` where none is. Words with a number out of
+/// range were refused before.
 fn count(matches: &ArgMatches<'_>, name: &str, most: u64) -> u64
     requires { 0 < most }
     ensures value { result ≡ within most (number_given name.now (rows_of (found_of matches.now))) }

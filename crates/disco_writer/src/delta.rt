@@ -12,7 +12,6 @@ ghost use Rattle.disco_writer.specs.Rows.{entries_of};
 use crate::many::many_text;
 use disco_history::{Change, Held};
 use disco_index::Counts;
-use disco_index::laws::hash_law;
 use disco_instance::Fault;
 use disco_queue::ChangedQueue;
 use disco_registry::Registry;
@@ -41,7 +40,6 @@ pub(crate) fn write_delta(
     ensures written { IfOk result (λ v. (h : List Timed) → StandsFor registry.now (changes h) → Keeps queue.now h → IsDeltaWritten (changes h) queue.now.base (Some v.items)) }
     ensures memory { IfErr result (λ e. e ≡ OutOfMemory) }
 {
-    hash_law();
     let last = queue.last_changes(alloc)?;
     let held = held_by(alloc, last.as_slice())?;
     let hash = counts.text(alloc)?;

@@ -24,7 +24,6 @@ use crate::query::Query;
 use crate::selected::{count, held_under_svip, held_under_vip};
 use crate::single::{app_text, instance_text};
 use disco_history::Held;
-use disco_index::laws::{hash_law, under_vip_law};
 use disco_index::{Counts, VipIndex};
 use disco_instance::{Fault, Key, Text};
 use disco_queue::ChangedQueue;
@@ -86,7 +85,6 @@ fn write_apps(alloc: Global, registry: &Registry, counts: &Counts) -> Result<Vec
     ensures written { IfOk result (λ v. (h : List Entry) → StandsFor registry.now h → IsWritten all h (Some v.items)) }
     ensures memory { IfErr result (λ e. e ≡ OutOfMemory) }
 {
-    hash_law();
     let hash = counts.text(alloc)?;
     Ok(many_text(alloc, registry.records(), &hash, registry.version())?)
 }
@@ -112,7 +110,6 @@ fn write_some(alloc: Global, held: &[Held], version: u64) -> Result<Option<Vec<u
     if held.is_empty() {
         return Ok(None);
     }
-    hash_law();
     let hash = count(held).text(alloc)?;
     Ok(Some(many_text(alloc, held, &hash, version)?))
 }
@@ -127,7 +124,6 @@ fn write_vip(
     ensures written { IfOk result (λ o. (h : List Entry) → StandsFor registry.now h → IsWritten (of_vip vip.now) h (option_map (λ v. v.items) o)) }
     ensures memory { IfErr result (λ e. e ≡ OutOfMemory) }
 {
-    under_vip_law();
     let held = held_under_vip(alloc, registry, vips, vip)?;
     Ok(write_some(alloc, held.as_slice(), registry.version())?)
 }

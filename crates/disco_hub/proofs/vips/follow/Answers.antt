@@ -17,7 +17,7 @@ returns-clause-index c =
     let e = seen c.args.change.now in
     let own = subst (λ (k : Key). IfSome (get held k) (λ d. key_of d ≡ k)) c.key.ensures c.take.ensures.own_key in
     let takes = subst (λ (k : Key). TakesAny (get held k) c.args.vips.now c.take.new.vips) c.key.ensures c.take.ensures.vips in
-    indexed_after c.put_vips_law.ensures c.gone_vips_law.ensures c.same_vips_law.ensures held e.0 e.1 c.args.vips.now c.take.new.vips c.add.new.vips c.sweep.new.vips c.requires.index own takes c.add.ensures c.sweep.ensures.same
+    indexed_after held e.0 e.1 c.args.vips.now c.take.new.vips c.add.new.vips c.sweep.new.vips c.requires.index own takes c.add.ensures c.sweep.ensures.same
 
 pub returns-clause-swept : goal.returns-clause-swept
 returns-clause-swept c = subst (λ (k : Key). IsSwept c.sweep.new.vips (get c.args.registry.now.held k)) c.key-2.ensures c.sweep.ensures.swept

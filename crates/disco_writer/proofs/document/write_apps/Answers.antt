@@ -3,11 +3,11 @@ use Rattle.std.specs.FinMap.{FinMap, values}
 use Rattle.serde_json.specs.Written.{compact_text}
 use Rattle.disco_instance.specs.Key.{key_cmp}
 use Rattle.disco_history.specs.Change.{Entry}
-use Rattle.disco_history.specs.Hash.{hash, hash_by}
+use Rattle.disco_history.specs.Hash.{hash}
 use Rattle.disco_history.specs.Mentions.{mention_of}
 use Rattle.disco_history.specs.Query.{all}
 use Rattle.disco_history.proofs.Restrictions.{values-said_all}
-use Rattle.disco_index.specs.Tally.{Tally, count_in, rows_of}
+use Rattle.disco_index.specs.Tally.{rows_of}
 use Rattle.disco_wire.specs.Meaning.{meant}
 use Rattle.disco_wire.specs.declared.wire.Shape.TheVariants.{Many}
 use Rattle.disco_writer.specs.Documents.{mentioned}
@@ -22,7 +22,7 @@ returns-clause-written c = λ h stands.
     let version = c.version.result in
     let same : es ≡ mentioned all h = c.records.ensures ∙ ap (λ (m : FinMap key_cmp Entry). values m) stands.held ∙ sym (values-said_all h) in
     let code : c.in_ok-hash.hash ≡ hash (rows_in es) =
-    c.in_ok-hash.ensures.text ∙ ap (λ (t : Tally). hash_by (count_in t)) c.requires ∙ c.hash_law.ensures (rows_of c.args.registry.now.held) ∙ ap (λ (l : List Entry). hash (rows_in l)) (sym c.records.ensures) in
+    c.in_ok-hash.ensures.text (rows_of c.args.registry.now.held) c.requires ∙ ap (λ (l : List Entry). hash (rows_in l)) (sym c.records.ensures) in
     some_written all h es same version c.in_ok-many_text.field-0.items (c.version.ensures.version ∙ stands.version) (all_there h)
     (c.in_ok-many_text.ensures.text ∙ ap (λ (t : List ℕ). compact_text (document_tree es t version)) code)
     (c.in_ok-many_text.ensures.means ∙ ap (λ (t : List ℕ). Ok (meant Many (Some t) (Some version) (map mention_of es))) code)

@@ -7,4 +7,4 @@ use Rattle.disco_client.proofs.counted.Counted.put.Goals as goal
 pub add-requires : goal.add-requires
 add-requires c =
     rw (c.uncount.ensures, c.deref.ensures, c.deref-2.ensures)
-    (fits c.count_law.ensures c.insert_law.ensures c.self.inside.records.held c.args.added.rec.value.key (entry_of c.args.added) c.len-held.result (c.len-held.ensures ∙ ap len c.put.ensures.held) c.len-held.type_inv)
+    (fits c.self.inside.records.held c.args.added.rec.value.key (entry_of c.args.added) c.len-held.result (c.len-held.ensures ∙ ap len c.put.ensures.held) c.len-held.type_inv)

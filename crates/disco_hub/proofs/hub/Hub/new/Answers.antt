@@ -1,11 +1,10 @@
-use Rattle.disco_index.proofs.Changes.{empty_law}
 use Rattle.disco_hub.proofs.Asks.{no_leases_of}
 use Rattle.disco_hub.proofs.Ties.{tied_new}
 use Rattle.disco_hub.proofs.hub.Hub.new.Goals as goal
 
 pub invariant_of-result : goal.invariant_of-result
 invariant_of-result c =
-    tied_new empty_law c.no_vips_law.ensures c.new.result c.new-2.result c.new-3.result c.new-4.result c.new-5.result c.new.ensures.empty c.new-2.ensures c.new-3.ensures c.new-4.ensures c.new-5.ensures.history
+    tied_new c.new.result c.new-2.result c.new-3.result c.new-4.result c.new-5.result c.new.ensures.empty c.new-2.ensures c.new-3.ensures c.new-4.ensures c.new-5.ensures.history
 
 pub returns-clause-empty : goal.returns-clause-empty
 returns-clause-empty c = record {
