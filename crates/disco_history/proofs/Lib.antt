@@ -1,3 +1,4 @@
+pub mod FormLemmas
 pub mod HashLemmas
 pub mod Keys
 mod LastOf

@@ -1,8 +1,12 @@
 -- The form of a record (this project's own rule).
-use Rattle.std.specs.Prelude.{false, []}
+use Rattle.std.specs.Prelude.{false, [], option_map}
+use Rattle.std.specs.FinMap.{FinMap, get, keys}
+use Rattle.disco_instance.specs.Key.{key_cmp}
 use Rattle.disco_instance.specs.Row.{LeaseNumbers, Row}
 use Rattle.disco_instance.specs.declared.form.Form.{Form}
 use Rattle.disco_instance.specs.declared.form.Form.TheVariants.{Full, Compact}
+use Rattle.disco_history.specs.Chosen.{chosen}
+use Rattle.disco_history.specs.Mentions.{Mention}
 
 -- the lease of an instance that says nothing of it
 abbrev pub default_lease : LeaseNumbers
@@ -20,3 +24,11 @@ formed Compact r = record r {
   lease = default_lease;
   metadata = [];
 }
+
+-- a mention in a form
+abbrev pub mention_in : Form → Mention → Mention
+mention_in f m = (formed f m.0, m.1)
+
+-- the records in a form
+abbrev pub in_form : Form → FinMap key_cmp Row → FinMap key_cmp Row
+in_form f s = chosen (λ k. option_map (formed f) (get s k)) (keys s)

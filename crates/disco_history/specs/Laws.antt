@@ -1,11 +1,14 @@
 -- Laws of the definitions.
 use Rattle.std.specs.Prelude.{◌≡◌, ◌↔◌, ◌≤◌, ℕ, false, List, [], ◌∷◌, ◌++◌, length, map, option_map}
-use Rattle.std.specs.FinMap.{get, values}
+use Rattle.std.specs.FinMap.{FinMap, get, values}
+use Rattle.disco_instance.specs.Key.{key_cmp}
 use Rattle.disco_instance.specs.Row.{Row}
+use Rattle.disco_instance.specs.declared.form.Form.{Form}
 use Rattle.disco_instance.specs.declared.status.Status.{Status}
 use Rattle.disco_history.specs.Change.{Entry, front, key_of}
+use Rattle.disco_history.specs.Forms.{formed, in_form, mention_in}
 use Rattle.disco_history.specs.Hash.{hash, count_of}
-use Rattle.disco_history.specs.Mentions.{copied, delta, mention_of, overlay}
+use Rattle.disco_history.specs.Mentions.{Mention, copied, delta, mention_of, overlay}
 use Rattle.disco_history.specs.Query.{Asked, is_named, restrict}
 use Rattle.disco_history.specs.Registry.{put_of, reg, said}
 
@@ -20,6 +23,13 @@ CopyLaw = (h : List Entry) → copied (map mention_of (values (said h (reg h))))
 -- the hash law: equal hash codes say that each status has equal numbers, and no more
 abbrev pub HashLaw : Type 0
 HashLaw = (s t : List Row) → (hash s ≡ hash t) ↔ ((status : Status) → count_of s status ≡ count_of t status)
+
+-- the form law: the form goes through copy, overlay, restriction and hash code unchanged
+pub record FormLaw : Type 0 where
+  pub copied : (f : Form) (ms : List Mention) → copied (map (mention_in f) ms) ≡ in_form f (copied ms)
+  pub overlay : (f : Form) (s : FinMap key_cmp Row) (ms : List Mention) → overlay (in_form f s) (map (mention_in f) ms) ≡ in_form f (overlay s ms)
+  pub restrict : (f : Form) (s : FinMap key_cmp Row) (q : Asked) → restrict (in_form f s) q ≡ in_form f (restrict s q)
+  pub hash : (f : Form) (rows : List Row) → hash (map (formed f) rows) ≡ hash rows
 
 -- the law of untouched documents: a change leaves the records, and their mentions, of each query that it doesn't name
 abbrev pub UntouchedLaw : Type 0

@@ -1,5 +1,5 @@
 //! Laws of the definitions, each the contract of a function that does nothing.
-ghost use Rattle.disco_history.specs.Laws.{CopyLaw, HashLaw, OverlayLaw, UntouchedLaw};
+ghost use Rattle.disco_history.specs.Laws.{CopyLaw, FormLaw, HashLaw, OverlayLaw, UntouchedLaw};
 ghost use Rattle.disco_history.specs.Worked.{Worked};
 
 /// A delta from base o turns a copy of any version from o on into the newest one.
@@ -15,6 +15,11 @@ pub fn copy_law()
 /// Two sets have one hash code exactly where every status has equal numbers in both.
 pub fn hash_law()
     ensures { HashLaw }
+{}
+
+/// A copy, an overlay, a restriction and a hash code of records in a form are those of the records.
+pub fn form_law()
+    ensures { FormLaw }
 {}
 
 /// A change leaves the records of each query that asks neither for the record that was there nor

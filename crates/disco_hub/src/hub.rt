@@ -2,7 +2,6 @@
 ghost use Rattle.std.specs.Prelude.{◌≡◌, ◌≢◌, ◌≤◌, List, IfErr, IfOk, OnErr, OnOk, Ok, Some, None, true, false, option_map};
 ghost use Rattle.std.specs.FinMap.{len};
 ghost use Rattle.disco_instance.specs.declared.fault.Fault.TheVariants.{OutOfMemory};
-ghost use Rattle.disco_instance.specs.declared.form.Form.TheVariants.{Full};
 ghost use Rattle.disco_history.specs.Change.{Entry, key_of, seen};
 ghost use Rattle.disco_history.specs.Registry.{put_of};
 ghost use Rattle.disco_index.specs.Tally.{tally_in};
@@ -27,6 +26,7 @@ use crate::recent::{remember, shared};
 use crate::settings::Settings;
 use crate::{leases, vips};
 use disco_cache::{DocKey, Payload};
+use disco_compact::write_compact;
 use disco_history::Change;
 use disco_index::{Counts, VipIndex};
 use disco_instance::{Bytes, Fault, Form, Key};
@@ -290,28 +290,26 @@ impl Hub {
         Ok(Arc::new(self.alloc, payload)?)
     }
 
-    fn text_of(&self, query: &Query) -> Result<Option<Vec<u8>>, Fault>
-        ensures written { IfOk result (λ o. is_delta query.now ≡ false
-            → (h : List Entry) → registry.StandsFor self.now.registry h → IsWritten (asked_by query.now) h (option_map (λ v. v.items) o)) }
-        ensures delta { IfOk result (λ o. is_delta query.now ≡ true
-            → (p : Past) → StandsFor self.now p → IsDeltaWritten (history p) self.now.queue.base (option_map (λ v. v.items) o)) }
+    fn text_of(&self, key: &DocKey) -> Result<Option<Vec<u8>>, Fault>
+        ensures written { IfOk result (λ o. is_delta key.now.query ≡ false
+            → (h : List Entry) → registry.StandsFor self.now.registry h → IsWritten key.now.form (asked_by key.now.query) h (option_map (λ v. v.items) o)) }
+        ensures delta { IfOk result (λ o. is_delta key.now.query ≡ true
+            → (p : Past) → StandsFor self.now p → IsDeltaWritten key.now.form (history p) self.now.queue.base (option_map (λ v. v.items) o)) }
         ensures memory { IfErr result (λ e. e ≡ OutOfMemory) }
     {
-        write_full(
-            self.alloc,
-            query,
-            &self.registry,
-            &self.vips,
-            &self.queue,
-            &self.counts,
-        )
+        let (registry, vips, queue) = (&self.registry, &self.vips, &self.queue);
+        match key.form {
+            Form::Full => write_full(self.alloc, &key.query, registry, vips, queue, &self.counts),
+            Form::Compact => {
+                write_compact(self.alloc, &key.query, registry, vips, queue, &self.counts)
+            }
+        }
     }
 
     /// The document that is asked for, written anew. An app's name has to be in upper case. Refused
     /// as `NotFound` exactly where an app, a vip, a secure vip or an instance is asked for and there
     /// is none, as `DeltaDisabled` exactly for a delta where deltas are off, and as `OutOfMemory`.
     pub fn load(&self, key: &DocKey) -> Result<Arc<Payload, Global>, Fault>
-        requires { key.now.form ≡ Full }
         ensures key { IfOk result (λ d. d.value.key ≡ key.now) }
         ensures version { IfOk result (λ d. d.value.version ≡ self.now.registry.version) }
         ensures base { IfOk result (λ d. is_delta key.now.query ≡ true → d.value.base ≡ self.now.queue.base) }
@@ -326,8 +324,7 @@ impl Hub {
     }
 
     fn load_delta(&self, key: &DocKey) -> Result<Arc<Payload, Global>, Fault>
-        requires form { key.now.form ≡ Full }
-        requires delta { is_delta key.now.query ≡ true }
+        requires { is_delta key.now.query ≡ true }
         ensures key { IfOk result (λ d. d.value.key ≡ key.now) }
         ensures version { IfOk result (λ d. d.value.version ≡ self.now.registry.version) }
         ensures base { IfOk result (λ d. d.value.base ≡ self.now.queue.base) }
@@ -338,22 +335,21 @@ impl Hub {
         if !self.delta {
             return Err(Fault::DeltaDisabled);
         }
-        match self.text_of(&key.query)? {
+        match self.text_of(key)? {
             Some(text) => Ok(self.payload(key, self.queue.base(), text)?),
             None => Err(Fault::NotFound),
         }
     }
 
     fn load_held(&self, key: &DocKey) -> Result<Arc<Payload, Global>, Fault>
-        requires form { key.now.form ≡ Full }
-        requires held { is_delta key.now.query ≡ false }
+        requires { is_delta key.now.query ≡ false }
         ensures key { IfOk result (λ d. d.value.key ≡ key.now) }
         ensures version { IfOk result (λ d. d.value.version ≡ self.now.registry.version) }
         ensures true_now { IfOk result (λ d. (h : List Entry) → registry.StandsFor self.now.registry h → IsTrue d.value h) }
         ensures allowed { IfOk result (λ _. (h : List Entry) → registry.StandsFor self.now.registry h → refusal_of self.now.delta key.now.query h ≡ None) }
         ensures refused { IfErr result (λ e. e ≢ OutOfMemory → (h : List Entry) → registry.StandsFor self.now.registry h → refusal_of self.now.delta key.now.query h ≡ Some e) }
     {
-        match self.text_of(&key.query)? {
+        match self.text_of(key)? {
             Some(text) => Ok(self.payload(key, self.registry.version(), text)?),
             None => Err(Fault::NotFound),
         }
@@ -361,7 +357,6 @@ impl Hub {
 
     /// The document of an instance, as [`Hub::load`] gives it.
     pub fn instance(&self, key: &Key, form: Form) -> Result<Arc<Payload, Global>, Fault>
-        requires { form ≡ Full }
         ensures key { IfOk result (λ p. p.value.key ≡ doc_of_key key.now form) }
         ensures version { IfOk result (λ p. p.value.version ≡ self.now.registry.version) }
         ensures true_now { IfOk result (λ p. (h : List Entry) → registry.StandsFor self.now.registry h → IsTrue p.value h) }
@@ -378,7 +373,6 @@ impl Hub {
     /// The document of the instance of an id, as [`Hub::load`] gives it: of several apps' the one
     /// with the least app. Refused as `NotFound` exactly where there is none, and as `OutOfMemory`.
     pub fn by_id(&self, id: &str, form: Form) -> Result<Arc<Payload, Global>, Fault>
-        requires { form ≡ Full }
         ensures key { IfOk result (λ p. (h : List Entry) → registry.StandsFor self.now.registry h → doc_of_id id.now form h ≡ Some p.value.key) }
         ensures version { IfOk result (λ p. p.value.version ≡ self.now.registry.version) }
         ensures true_now { IfOk result (λ p. (h : List Entry) → registry.StandsFor self.now.registry h → IsTrue p.value h) }

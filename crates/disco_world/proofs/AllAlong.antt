@@ -5,7 +5,6 @@ use Rattle.std.specs.declared.sync.Arc.{Arc}
 use Rattle.std.proofs.lemmas.Option.{same_Some}
 use Rattle.disco_instance.specs.declared.fault.Fault.{Fault}
 use Rattle.disco_instance.specs.declared.form.Form.{Form}
-use Rattle.disco_instance.specs.declared.form.Form.TheVariants.{Full, Compact}
 use Rattle.disco_history.specs.Change.{Entry}
 use Rattle.disco_registry.specs.Op.{Ask}
 use Rattle.disco_queue.specs.Timed.{Timed, changes}
@@ -16,7 +15,7 @@ use Rattle.disco_hub.specs.Past.{Past, history}
 use Rattle.disco_hub.specs.State.{Rules}
 use Rattle.disco_world.specs.Answers.{AreAnswers, AreKnown, IsAnswer}
 use Rattle.disco_world.specs.Clients.{MeansVersion, taken}
-use Rattle.disco_world.specs.Events.{Deed, World, writes, loads, cleans, takes, shows, bad, after, after_at, after_write, clients_done, deed, doc_in, doc_of_event, done, for_clients, in_full, past_after, past_done, ran_out, takes_any, world}
+use Rattle.disco_world.specs.Events.{Deed, World, writes, loads, cleans, takes, shows, bad, after, after_at, after_write, clients_done, deed, doc_in, doc_of_event, done, for_clients, past_after, past_done, ran_out, takes_any, world}
 use Rattle.disco_world.specs.Steps.{AreReadable}
 use Rattle.disco_world.specs.declared.clients.Client.{Client}
 use Rattle.disco_world.specs.declared.event.Event.{Event}
@@ -64,10 +63,6 @@ abbrev IsGood : List Entry → Deed → Type 0
 IsGood h (takes client d) = IsOf h d
 IsGood h _ = Unit {0}
 
-full_good : (h : List Entry) (f : Form) (k : Result DocKey Fault) → IsGood h (in_full f (loads k))
-full_good h Full k = tt
-full_good h Compact k = tt
-
 take_good : (h : List Entry) (client : ℕ) (o : Option Payload) → ((d : Payload) → o ≡ Some d → IsOf h d) → IsGood h (takes_any client o)
 take_good h client None is = tt
 take_good h client (Some d) is = is d refl
@@ -79,8 +74,8 @@ good rules w (Renew now app id) holds = tt
 good rules w (SetStatus now app id status) holds = tt
 good rules w (DropStatus now app id status) holds = tt
 good rules w (Metadata now app id entries) holds = tt
-good rules w (Load key) holds = full_good (history w.past) key.form _
-good rules w (LoadById id form) holds = full_good (history w.past) form _
+good rules w (Load key) holds = tt
+good rules w (LoadById id form) holds = tt
 good rules w (Clean now) holds = tt
 good rules w (Take client event) holds = take_good (history w.past) client (doc_of_event w.replies event) (holds.docs event)
 good rules w (Show client) holds = tt

@@ -11,12 +11,13 @@ use Rattle.disco_instance.specs.declared.form.Form.{Form}
 use Rattle.disco_instance.specs.declared.form.Form.TheVariants.{Full, Compact}
 use Rattle.disco_instance.specs.declared.key.Key.{Key}
 use Rattle.disco_history.specs.Change.{Entry, front, key_of, last}
-use Rattle.disco_history.specs.Forms.{formed}
+use Rattle.disco_history.specs.Forms.{in_form}
 use Rattle.disco_history.specs.Mentions.{Mention, copied, delta, known, mention_of, overlaid_by, overlay}
 use Rattle.disco_history.specs.Registry.{put_of, reg}
 use Rattle.disco_history.proofs.Keys.{keys_total, exact_keys, get-chosen}
 use Rattle.disco_history.proofs.Lasts.{last_mapped}
-use Rattle.disco_history.proofs.Overlays.{copy_law, known_all, overlay_law}
+use Rattle.disco_history.proofs.FormLemmas.{copied_formed, overlay_formed}
+use Rattle.disco_history.proofs.Overlays.{copy_law, overlay_law}
 use Rattle.disco_history.proofs.Sets.{first_of, get-overlay, get-reg, not_there}
 use Rattle.std.proofs.lemmas.List.{length-append, take-append-le, take-take, take_all}
 use Rattle.disco_history.specs.Query.{all}
@@ -24,83 +25,16 @@ use Rattle.disco_history.proofs.Restrictions.{values-said_all}
 use Rattle.disco_wire.specs.Documents.{document_of}
 use Rattle.disco_wire.specs.Meaning.{Meaning}
 use Rattle.disco_writer.specs.Documents.{IsTrueDelta, IsTrueFor, asked_by, delta_meaning, is_delta, meaning_for, mentioned}
+use Rattle.disco_writer.specs.Rows.{mentions_in}
 use Rattle.disco_writer.specs.declared.query.Query.{Query}
 use Rattle.disco_writer.specs.declared.query.Query.TheVariants as query
 use Rattle.disco_cache.specs.Payloads.{IsTrue, IsTrueBy}
 use Rattle.disco_cache.specs.declared.payload.Payload.{Payload}
-use Rattle.disco_world.specs.Clients.{MeansVersion, in_form, moved, same_form, taken, taken_by, taken_from}
+use Rattle.disco_world.specs.Clients.{MeansVersion, moved, same_form, taken, taken_by, taken_from}
 use Rattle.disco_world.specs.Events.{for_clients}
 use Rattle.disco_world.specs.Steps.{IsReadable}
 use Rattle.disco_world.specs.declared.clients.Client.{Client}
 use Rattle.disco_world.specs.declared.clients.Known.{Known}
-
--- ---- the form goes through copies and overlays
-
-abbrev pub in_form_mention : Form → Entry → Mention
-in_form_mention f e = (formed f e.0, Some e.1)
-
-abbrev formed_entry : Form → Entry → Entry
-formed_entry f e = (formed f e.0, e.1)
-
-abbrev formed_at : Form → Option Row → Option Row
-formed_at f o = option_map (formed f) o
-
-same_keys : (f : Form) (e : Entry) → key_of (formed_entry f e) ≡ key_of e
-same_keys Full e = refl
-same_keys Compact e = refl
-
-get-in_form : (f : Form) (s : FinMap key_cmp Row) (q : Key) → get (in_form f s) q ≡ formed_at f (get s q)
-get-in_form f s q = get-chosen (λ k. formed_at f (get s k)) q (keys s) (λ e. ap (formed_at f) (not_there s q e))
-
-known_formed : (f : Form) (es : List Entry) → known (map (in_form_mention f) es) ≡ map (formed_entry f) es
-known_formed f [] = refl
-known_formed f (e ∷ es) = ap (λ r. formed_entry f e ∷ r) (known_formed f es)
-
-kept_formed : (f : Form) (r : Row) (a : Action) (x : Option Row) → overlaid_by (formed_at f x) (Some (formed f r, a)) ≡ formed_at f (overlaid_by x (Some (r, a)))
-kept_formed f r Added x = refl
-kept_formed f r Modified x = refl
-kept_formed f r Deleted x = refl
-
-overlaid_formed : (f : Form) (x : Option Row) (o : Option Entry) → overlaid_by (formed_at f x) (option_map (formed_entry f) o) ≡ formed_at f (overlaid_by x o)
-overlaid_formed f x None = refl
-overlaid_formed f x (Some (r, a)) = kept_formed f r a x
-
-pub overlay_formed : (f : Form) (s : FinMap key_cmp Row) (es : List Entry) → overlay (in_form f s) (map (in_form_mention f) es) ≡ in_form f (overlay s (map mention_of es))
-overlay_formed f s es = same_map keys_total exact_keys _ _ (λ q.
-    get-overlay (in_form f s) (map (in_form_mention f) es) q
-    ∙ ap (λ xs. overlaid_by (get (in_form f s) q) (last xs q)) (known_formed f es)
-    ∙ ap (overlaid_by (get (in_form f s) q)) (last_mapped (formed_entry f) (same_keys f) es q)
-    ∙ ap (λ x. overlaid_by x (option_map (formed_entry f) (last es q))) (get-in_form f s q)
-    ∙ overlaid_formed f (get s q) (last es q)
-    ∙ ap (λ xs. formed_at f (overlaid_by (get s q) (last xs q))) (sym (known_all es))
-    ∙ ap (formed_at f) (sym (get-overlay s (map mention_of es) q))
-    ∙ sym (get-in_form f (overlay s (map mention_of es)) q))
-
-abbrev added : Entry → Entry
-added e = (e.0, Added)
-
-added_formed : (f : Form) (es : List Entry) → map (λ (m : Mention). (m.0, Added)) (map (in_form_mention f) es) ≡ map (formed_entry f) (map (λ (m : Mention). (m.0, Added)) (map mention_of es))
-added_formed f [] = refl
-added_formed f (e ∷ es) = ap (λ r. formed_entry f (added e) ∷ r) (added_formed f es)
-
-put_formed : (f : Form) (r : Row) (a : Action) → first_of (option_and_then put_of (Some (formed f r, a))) ≡ formed_at f (first_of (option_and_then put_of (Some (r, a))))
-put_formed f r Added = refl
-put_formed f r Modified = refl
-put_formed f r Deleted = refl
-
-puts_formed : (f : Form) (o : Option Entry) → first_of (option_and_then put_of (option_map (formed_entry f) o)) ≡ formed_at f (first_of (option_and_then put_of o))
-puts_formed f None = refl
-puts_formed f (Some (r, a)) = put_formed f r a
-
-pub copied_formed : (f : Form) (es : List Entry) → copied (map (in_form_mention f) es) ≡ in_form f (copied (map mention_of es))
-copied_formed f es = same_map keys_total exact_keys _ _ (λ q.
-    let plain = map (λ (m : Mention). (m.0, Added)) (map mention_of es) in
-    get-reg (map (λ (m : Mention). (m.0, Added)) (map (in_form_mention f) es)) q
-    ∙ ap (λ xs. first_of (option_and_then put_of (last xs q))) (added_formed f es)
-    ∙ ap (λ o. first_of (option_and_then put_of o)) (last_mapped (formed_entry f) (same_keys f) plain q)
-    ∙ puts_formed f (last plain q)
-    ∙ ap (formed_at f) (sym (get-reg plain q))
-    ∙ sym (get-in_form f (copied (map mention_of es)) q))
 
 -- ---- versions of a history that goes on
 
@@ -184,7 +118,7 @@ full_means h d held c is full takes = λ at known.
     let e : c ≡ record { copy = copied m.mentions; known = Some now } = same_Some _ _ (sym takes ∙ taken_is d held false m full t.meaning) in
     let so : now ≡ at = same_known c (copied m.mentions) at now e known in
     let copy : c.copy ≡ in_form f (reg g) =
-    ap (λ (c : Client). c.copy) e ∙ copied_formed f (mentioned all g) ∙ ap (λ es. in_form f (copied (map mention_of es))) (values-said_all g) ∙ ap (in_form f) (copy_law g) in
+    ap (λ (c : Client). c.copy) e ∙ copied_formed f (map mention_of (mentioned all g)) ∙ ap (λ es. in_form f (copied (map mention_of es))) (values-said_all g) ∙ ap (in_form f) (copy_law g) in
     (subst (λ (k : Known). k.version ≤ length h) so is.inside, copy ∙ ap (λ (k : Known). in_form k.form (reg (front h k.version))) so)
 
 -- ---- deltas
@@ -223,7 +157,7 @@ overlay_means h d old c k at is kind means known e m =
     (means k known).1 ∙ ap (λ f. in_form f (reg (front h k.version))) m.form ∙ ap (λ x. in_form f (reg x)) (sym (take-take k.version d.version h m.below)) in
     let within : k.version ≤ length g = omega (arith, m.below, t.now) in
     let copy : c.copy ≡ in_form f (reg g) =
-    ap (λ (c : Client). c.copy) e ∙ ap (λ s. overlay s (map (in_form_mention f) es)) there ∙ overlay_formed f (reg (front g k.version)) es ∙ ap (in_form f) (overlay_law g d.base k.version m.above within) in
+    ap (λ (c : Client). c.copy) e ∙ ap (λ s. overlay s (mentions_in f es)) there ∙ overlay_formed f (reg (front g k.version)) (map mention_of es) ∙ ap (in_form f) (overlay_law g d.base k.version m.above within) in
     (subst (λ (k : Known). k.version ≤ length h) m.now is.inside, copy ∙ ap (λ (k : Known). in_form k.form (reg (front h k.version))) m.now)
 
 pub delta_means : (h : List Entry) (d : Payload) (held : Option Client) (c : Client) → IsOf h d → is_delta d.key.query ≡ true → ((o : Client) → held ≡ Some o → MeansVersion h o) → taken d held ≡ Some c → MeansVersion h c

@@ -16,9 +16,8 @@ use Rattle.disco_registry.specs.declared.op.Applied.TheVariants as applied
 use Rattle.disco_registry.proofs.Histories.{accepts_after}
 use Rattle.disco_queue.specs.Timed.{Timed}
 use Rattle.disco_world.specs.Answers.{IsAnswer}
-use Rattle.disco_world.specs.Events.{Deed, World, clients_after, clients_done, in_full, loads, past_after, past_done, ran_out, writes, after_write, done}
+use Rattle.disco_world.specs.Events.{Deed, World, clients_after, clients_done, loads, past_after, past_done, ran_out, writes, after_write, done}
 use Rattle.disco_instance.specs.declared.form.Form.{Form}
-use Rattle.disco_instance.specs.declared.form.Form.TheVariants.{Full, Compact}
 use Rattle.disco_cache.specs.declared.key.DocKey.{DocKey}
 use Rattle.disco_world.specs.declared.clients.Client.{Client}
 use Rattle.disco_world.specs.declared.event.Reply.{Reply}
@@ -91,10 +90,6 @@ does_nothing s asked now f refused = λ w stands.
 pub clients_stay : (clients : ℕ → Option Client) (what : Deed) (r : Bool) → clients_done clients what ≡ clients → cond r clients (clients_done clients what) ≡ clients
 clients_stay clients what true same = refl
 clients_stay clients what false same = same
-
-pub in_full_stays : (clients : ℕ → Option Client) (f : Form) (k : Result DocKey Fault) → clients_done clients (in_full f (loads k)) ≡ clients
-in_full_stays clients Full k = refl
-in_full_stays clients Compact k = refl
 
 pub with_clients : (old new : State) (held : ℕ → Option Client) (w : World) (what : Deed) (r : Reply) → clients_done w.clients what ≡ w.clients → AreHeld held w
     → IsAnswer (rules_of old) w what r × StandsFor new (past_after (rules_of old) w.past what r)

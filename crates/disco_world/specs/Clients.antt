@@ -7,8 +7,7 @@ use Rattle.disco_instance.specs.declared.fault.Fault.{Fault}
 use Rattle.disco_instance.specs.declared.form.Form.{Form}
 use Rattle.disco_instance.specs.declared.form.Form.TheVariants.{Full, Compact}
 use Rattle.disco_history.specs.Change.{Entry, front}
-use Rattle.disco_history.specs.Chosen.{chosen}
-use Rattle.disco_history.specs.Forms.{formed}
+use Rattle.disco_history.specs.Forms.{in_form}
 use Rattle.disco_history.specs.Mentions.{copied, overlay}
 use Rattle.disco_history.specs.Registry.{reg}
 use Rattle.disco_wire.specs.Documents.{document_of}
@@ -61,10 +60,6 @@ pub record IsTold (d : Payload) (now : Option Client) (equal : Bool) (version : 
 abbrev pub shown : Option Client → List Holding
 shown None = []
 shown (Some c) = map (λ r. record { key = r.key; status = r.status }) (values c.copy)
-
--- the records in a form
-abbrev pub in_form : Form → FinMap key_cmp Row → FinMap key_cmp Row
-in_form f s = chosen (λ k. option_map (formed f) (get s k)) (keys s)
 
 -- a copy that is known at a version is exactly that version of a history, in its form
 abbrev pub MeansVersion : List Entry → Client → Type 0

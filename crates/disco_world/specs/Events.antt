@@ -7,7 +7,6 @@ use Rattle.disco_instance.specs.Text.{in_upper_case}
 use Rattle.disco_instance.specs.declared.fault.Fault.{Fault}
 use Rattle.disco_instance.specs.declared.fault.Fault.TheVariants.{MismatchedApp, NotFound}
 use Rattle.disco_instance.specs.declared.form.Form.{Form}
-use Rattle.disco_instance.specs.declared.form.Form.TheVariants.{Full, Compact}
 use Rattle.disco_instance.specs.declared.key.Key.{Key}
 use Rattle.disco_history.specs.Change.{Entry}
 use Rattle.disco_history.specs.Query.{by_id}
@@ -76,11 +75,6 @@ abbrev pub loaded_of : Option Row → Form → List Entry → Result DocKey Faul
 loaded_of None form h = Err NotFound
 loaded_of (Some r) form h = loaded true (doc_of_key r.key form) h
 
--- a document can be asked for in the full form alone
-abbrev pub in_full : Form → Deed → Deed
-in_full Full d = d
-in_full Compact d = bad
-
 -- a document of all apps, or a delta
 abbrev pub for_clients : Query → Bool
 for_clients query.Apps = true
@@ -110,8 +104,8 @@ deed rules w (Renew now app id) = writes now (Ok (renew (key_named app id)))
 deed rules w (SetStatus now app id status) = writes now (Ok (set_status (key_named app id) status))
 deed rules w (DropStatus now app id status) = writes now (Ok (drop_status (key_named app id) status))
 deed rules w (Metadata now app id entries) = writes now (Ok (add_metadata (key_named app id) entries))
-deed rules w (Load key) = in_full key.form (loads (loaded rules.delta (record { query = query_asked key.query; form = key.form }) (history w.past)))
-deed rules w (LoadById id form) = in_full form (loads (loaded_of (by_id (reg (history w.past)) id) form (history w.past)))
+deed rules w (Load key) = loads (loaded rules.delta (record { query = query_asked key.query; form = key.form }) (history w.past))
+deed rules w (LoadById id form) = loads (loaded_of (by_id (reg (history w.past)) id) form (history w.past))
 deed rules w (Clean now) = cleans now
 deed rules w (Take client event) = takes_any client (doc_of_event w.replies event)
 deed rules w (Show client) = shows client

@@ -1,8 +1,7 @@
-//! Documents that are served, and those that aren't.
-ghost use Rattle.std.specs.Prelude.{◌≡◌, IfOk, IfErr, IfNone, IfSome};
+//! Documents that are served.
+ghost use Rattle.std.specs.Prelude.{◌≡◌, IfOk, IfErr};
 ghost use Rattle.disco_instance.specs.declared.fault.Fault.TheVariants.{OutOfMemory};
-ghost use Rattle.disco_instance.specs.declared.form.Form.TheVariants.{Full};
-ghost use Rattle.disco_world.specs.Events.{World, bad, deed, query_asked};
+ghost use Rattle.disco_world.specs.Events.{deed, query_asked};
 ghost use Rattle.disco_world.specs.Steps.{Does, reply_of};
 ghost use Rattle.disco_world.specs.declared.event.Event.TheVariants as event;
 ghost use Rattle.disco_hub.specs.State.{rules_of};
@@ -37,8 +36,8 @@ fn served(loaded: Result<Arc<Payload, Global>, Fault>) -> Reply
     }
 }
 
-fn load_full(alloc: Global, hub: &Hub, key: &DocKey) -> Reply
-    requires { key.now.form ≡ Full }
+/// Answers a load, by a key whose app may be in any case.
+pub(crate) fn load(alloc: Global, hub: &Hub, key: &DocKey) -> Reply
     ensures { Does hub.now hub.now (λ w. deed (rules_of hub.now) w (event.Load key.now)) result }
 {
     match query_asked(alloc, &key.query) {
@@ -50,24 +49,9 @@ fn load_full(alloc: Global, hub: &Hub, key: &DocKey) -> Reply
     }
 }
 
-/// Answers a load, by a key whose app may be in any case; none in the compact form.
-pub(crate) fn load(alloc: Global, hub: &Hub, key: &DocKey) -> Option<Reply>
-    ensures is_bad { IfNone result ((w : World) → deed (rules_of hub.now) w (event.Load key.now) ≡ bad) }
-    ensures does { IfSome result (Does hub.now hub.now (λ w. deed (rules_of hub.now) w (event.Load key.now))) }
+/// Answers a load of the instance of an id.
+pub(crate) fn load_by_id(hub: &Hub, id: &Text, form: Form) -> Reply
+    ensures { Does hub.now hub.now (λ w. deed (rules_of hub.now) w (event.LoadById id.now form)) result }
 {
-    match key.form {
-        Form::Full => Some(load_full(alloc, hub, key)),
-        Form::Compact => None,
-    }
-}
-
-/// Answers a load of the instance of an id; none in the compact form.
-pub(crate) fn load_by_id(hub: &Hub, id: &Text, form: Form) -> Option<Reply>
-    ensures is_bad { IfNone result ((w : World) → deed (rules_of hub.now) w (event.LoadById id.now form) ≡ bad) }
-    ensures does { IfSome result (Does hub.now hub.now (λ w. deed (rules_of hub.now) w (event.LoadById id.now form))) }
-{
-    match form {
-        Form::Full => Some(served(hub.by_id(id.as_str(), form))),
-        Form::Compact => None,
-    }
+    served(hub.by_id(id.as_str(), form))
 }

@@ -25,10 +25,9 @@ use std::alloc::Global;
 use std::collections::BTreeMap;
 
 /// Runs the events in order from an empty registry, and answers each. Refused as `BadEvent`, with
-/// the number of the first such event counted from 1, where a document is asked for in another form
-/// than the full one, or a client is to take what is no earlier served document of all apps and no
-/// delta; and as `OutOfMemory` where no room for the replies is found. An event that finds no
-/// memory is answered so and changes nothing.
+/// the number of the first such event counted from 1, where a client is to take what is no earlier
+/// served document of all apps and no delta; and as `OutOfMemory` where no room for the replies is
+/// found. An event that finds no memory is answered so and changes nothing.
 pub fn run(alloc: Global, settings: &Settings, events: &[Event]) -> Result<Vec<Reply>, Fault>
     ensures each { IfOk result (λ replies. length replies.items ≡ length events.now) }
     ensures answers { IfOk result (λ replies. AreAnswers (rules settings.now) events.now replies.items) }
@@ -86,8 +85,8 @@ fn answer(
             id,
             entries,
         } => Some(write(hub, *now, add_metadata(alloc, app, id, entries))),
-        Event::Load { key } => load(alloc, hub, key),
-        Event::LoadById { id, form } => load_by_id(hub, id, *form),
+        Event::Load { key } => Some(load(alloc, hub, key)),
+        Event::LoadById { id, form } => Some(load_by_id(hub, id, *form)),
         Event::Clean { now } => Some(Reply::Cleaned(hub.clean(*now))),
         Event::Take { client, event } => match document(replies, *event) {
             Some(payload) => Some(took(take(alloc, clients, *client, payload))),

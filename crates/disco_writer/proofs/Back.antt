@@ -1,5 +1,5 @@
 -- A written tree tells what was written.
-use Rattle.std.proofs.Common.{◌≡◌, ℕ, ◌<◌, ◌^◌, Bool, true, false, ◌&&◌, nat_le, decimal, cond, List, codes, Option, Some, None, option_map, option_and_then, unwrap_or, Ok, refl, ap, arith}
+use Rattle.std.proofs.Common.{◌≡◌, ℕ, ◌<◌, ◌^◌, Bool, true, false, ◌&&◌, nat_le, decimal, cond, List, [], codes, Option, Some, None, option_map, option_and_then, unwrap_or, Ok, refl, ap, arith}
 use Rattle.std.specs.Option.{option_or}
 use Rattle.disco_instance.specs.declared.port.Port.{Port}
 use Rattle.disco_instance.specs.declared.status.Status.{Status}
@@ -10,7 +10,10 @@ use Rattle.disco_instance.specs.Text.{in_upper_case}
 use Rattle.disco_instance.specs.Instance.{key_at, key_by, row_at, action_at, lease_at}
 use Rattle.disco_instance.specs.Members.{not_empty, digits_number, port_at}
 use Rattle.disco_wire.specs.Meaning.{told_in}
+use Rattle.disco_instance.specs.declared.form.Form.{Form}
+use Rattle.disco_instance.specs.declared.form.Form.TheVariants.{Full, Compact}
 use Rattle.disco_history.specs.Change.{Entry}
+use Rattle.disco_history.specs.Forms.{default_lease, formed}
 use Rattle.disco_writer.specs.Trees.{instance_tree, port_tree, lease_tree}
 use Rattle.disco_writer.specs.Laws.{InstanceLaw}
 use Rattle.disco_writer.proofs.Again.{digits_again, in_range, flag_again, status_again, action_again, text_again, entries_again}
@@ -39,16 +42,17 @@ app_first : (a b : Option (List ℕ)) (s : List ℕ) → a ≡ Some s → option
 app_first None b s e = absurd (cc)
 app_first (Some x) b s e = refl
 
-instance_key : (e : Entry) (app : Option (List ℕ)) → IsWellFormed e.0 → key_at app (instance_tree e) ≡ Ok e.0.key
+instance_key : (f : Form) (e : Entry) (app : Option (List ℕ)) → IsWellFormed e.0 → key_at app (instance_tree f e) ≡ Ok e.0.key
 unfolding instance_tree
-instance_key e app is = rw (app_first (not_empty e.0.key.app) (option_and_then not_empty app) e.0.key.app (text_again e.0.key.app is.has_app)) (key_again e.0 is)
+instance_key Full e app is = rw (app_first (not_empty e.0.key.app) (option_and_then not_empty app) e.0.key.app (text_again e.0.key.app is.has_app)) (key_again e.0 is)
+instance_key Compact e app is = rw (app_first (not_empty e.0.key.app) (option_and_then not_empty app) e.0.key.app (text_again e.0.key.app is.has_app)) (key_again e.0 is)
 
 status_of : (s d : Status) → unwrap_or (option_map (λ t. unwrap_or (status_named (in_upper_case t)) Unknown) (Some (status_name s))) d ≡ s
 status_of s d = ap (λ o. unwrap_or o Unknown) (status_again s)
 
-instance_row : (e : Entry) → IsWellFormed e.0 → row_at (instance_tree e) e.0.key ≡ e.0
+instance_row : (f : Form) (e : Entry) → IsWellFormed e.0 → row_at (instance_tree f e) e.0.key ≡ formed f e.0
 unfolding instance_tree row_at
-instance_row e is =
+instance_row Full e is =
     let r = e.0 in
     λ i. record {
       key = r.key;
@@ -71,11 +75,35 @@ instance_row e is =
       vip_address = r.vip_address;
       status = status_of r.status Up i;
     }
+instance_row Compact e is =
+    let r = e.0 in
+    λ i. record {
+      key = r.key;
+      country_id = 1;
+      data_center = r.data_center;
+      health_check_url = [];
+      home_page_url = [];
+      status_page_url = [];
+      host_name = r.host_name;
+      ip_addr = r.ip_addr;
+      is_coordinating = false;
+      last_dirty = moment_again r.last_dirty is.last_dirty i;
+      last_updated = moment_again r.last_updated is.last_updated i;
+      lease = default_lease;
+      metadata = [];
+      overridden_status = status_of r.overridden_status Unknown i;
+      port = pub_port r.port 7001 true is.port i;
+      secure_port = pub_port r.secure_port 7002 false is.secure_port i;
+      secure_vip_address = r.secure_vip_address;
+      vip_address = r.vip_address;
+      status = status_of r.status Up i;
+    }
 
-instance_action : (e : Entry) → action_at (instance_tree e) ≡ Some e.1
+instance_action : (f : Form) (e : Entry) → action_at (instance_tree f e) ≡ Some e.1
 unfolding instance_tree
-instance_action e = action_again e.1
+instance_action Full e = action_again e.1
+instance_action Compact e = action_again e.1
 
 pub instance_law : InstanceLaw
 unfolding told_in
-instance_law e app is = rw (instance_key e app is, instance_row e is, instance_action e) refl
+instance_law f e app is = rw (instance_key f e app is, instance_row f e is, instance_action f e) refl

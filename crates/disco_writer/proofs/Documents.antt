@@ -6,16 +6,19 @@ use Rattle.serde_json.specs.Data.{Data}
 use Rattle.serde_json.specs.View.{items_of}
 use Rattle.disco_wire.specs.Meaning.{told_in, told_item, all_told, meaning_of, meant, list_of}
 use Rattle.disco_wire.specs.declared.wire.Shape.TheVariants.{App, One}
+use Rattle.disco_instance.specs.declared.form.Form.{Form}
+use Rattle.disco_instance.specs.declared.form.Form.TheVariants.{Full, Compact}
 use Rattle.disco_history.specs.Change.{Entry}
+use Rattle.disco_history.specs.Forms.{mention_in}
 use Rattle.disco_instance.specs.Row.{IsWellFormed}
 use Rattle.disco_writer.specs.Trees.{instance_tree, app_tree, document_tree, by_app, with_first, app_document, instance_document}
 use Rattle.disco_history.specs.Mentions.{mention_of}
 use Rattle.disco_writer.specs.Laws.{DocumentLaw}
-use Rattle.disco_writer.specs.Rows.{AreWellFormed}
+use Rattle.disco_writer.specs.Rows.{AreWellFormed, mentions_in}
 use Rattle.disco_writer.proofs.Again.{digits_again}
 use Rattle.disco_writer.proofs.Back.{instance_law}
 
-abbrev AreGroupsWellFormed : List (List ℕ × List Entry) → Type 0
+abbrev pub AreGroupsWellFormed : List (List ℕ × List Entry) → Type 0
 AreGroupsWellFormed gs = AllByRecursion (λ g. AreWellFormed g.1) gs
 
 abbrev flat : List (List ℕ × List Entry) → List Entry
@@ -44,7 +47,7 @@ fit_first : (e : Entry) (gs : List (List ℕ × List Entry)) → IsWellFormed e.
 fit_first e [] is all = ((is, tt), tt)
 fit_first e (g ∷ gs) is all = fit_put e g gs (bytes_eq g.0 e.0.key.app) is all
 
-fit_by_app : (es : List Entry) → AreWellFormed es → AreGroupsWellFormed (by_app es)
+pub fit_by_app : (es : List Entry) → AreWellFormed es → AreGroupsWellFormed (by_app es)
 fit_by_app [] all = tt
 fit_by_app (e ∷ es) all = fit_first e (by_app es) all.0 (fit_by_app es all.1)
 
@@ -54,31 +57,32 @@ list_of_items : (ds : List Data) → list_of (items_of ds) ≡ ds
 list_of_items [] = refl
 list_of_items (d ∷ ds) = ap (λ r. d ∷ r) (list_of_items ds)
 
-map_append : (xs ys : List Entry) → map mention_of (xs ++ ys) ≡ map mention_of xs ++ map mention_of ys
-map_append [] ys = refl
-map_append (x ∷ xs) ys = ap (λ r. mention_of x ∷ r) (map_append xs ys)
+mentions_append : (f : Form) (xs ys : List Entry) → mentions_in f (xs ++ ys) ≡ mentions_in f xs ++ mentions_in f ys
+mentions_append f [] ys = refl
+mentions_append f (x ∷ xs) ys = ap (λ r. mention_in f (mention_of x) ∷ r) (mentions_append f xs ys)
 
-instances_told : (app : Option (List ℕ)) (es : List Entry) → AreWellFormed es → all_told (told_in app) (map instance_tree es) ≡ Some (map mention_of es)
-instances_told app [] all = refl
-instances_told app (e ∷ es) all = rw (instance_law e app all.0, instances_told app es all.1) refl
+instances_told : (f : Form) (app : Option (List ℕ)) (es : List Entry) → AreWellFormed es → all_told (told_in app) (map (instance_tree f) es) ≡ Some (mentions_in f es)
+instances_told f app [] all = refl
+instances_told f app (e ∷ es) all = rw (instance_law f e app all.0, instances_told f app es all.1) refl
 
-app_told : (g : List ℕ × List Entry) → AreWellFormed g.1 → told_item (app_tree g) ≡ Some (map mention_of g.1)
-app_told g all = rw (list_of_items (map instance_tree g.1)) (instances_told (Some g.0) g.1 all)
+app_told : (f : Form) (g : List ℕ × List Entry) → AreWellFormed g.1 → told_item (app_tree f g) ≡ Some (mentions_in f g.1)
+app_told f g all = rw (list_of_items (map (instance_tree f) g.1)) (instances_told f (Some g.0) g.1 all)
 
-apps_told : (gs : List (List ℕ × List Entry)) → AreGroupsWellFormed gs → all_told told_item (map app_tree gs) ≡ Some (map mention_of (flat gs))
-apps_told [] all = refl
-apps_told (g ∷ gs) all = rw (app_told g all.0, apps_told gs all.1) (ap Some (sym (map_append g.1 (flat gs))))
+apps_told : (f : Form) (gs : List (List ℕ × List Entry)) → AreGroupsWellFormed gs → all_told told_item (map (app_tree f) gs) ≡ Some (mentions_in f (flat gs))
+apps_told f [] all = refl
+apps_told f (g ∷ gs) all = rw (app_told f g all.0, apps_told f gs all.1) (ap Some (sym (mentions_append f g.1 (flat gs))))
 
 pub document_law : DocumentLaw
 unfolding meaning_of document_tree
-document_law es hash version all small =
-    let apps = apps_told (by_app es) (fit_by_app es all) in
-    rw (list_of_items (map app_tree (by_app es)), apps, flat_by_app es, digits_again version small) refl
+document_law f es hash version all small =
+    let apps = apps_told f (by_app es) (fit_by_app es all) in
+    rw (list_of_items (map (app_tree f) (by_app es)), apps, flat_by_app es, digits_again version small) refl
 
-pub app_law : (name : List ℕ) (es : List Entry) → AreWellFormed es → meaning_of (app_document name es) ≡ Some (meant App None None (map mention_of es))
+pub app_law : (f : Form) (name : List ℕ) (es : List Entry) → AreWellFormed es → meaning_of (app_document f name es) ≡ Some (meant App None None (mentions_in f es))
 unfolding meaning_of app_document
-app_law name es all = rw (list_of_items (map instance_tree es), instances_told (Some name) es all) refl
+app_law f name es all = rw (list_of_items (map (instance_tree f) es), instances_told f (Some name) es all) refl
 
-pub one_law : (e : Entry) → IsWellFormed e.0 → meaning_of (instance_document (e ∷ [])) ≡ Some (meant One None None (mention_of e ∷ []))
+pub one_law : (f : Form) (e : Entry) → IsWellFormed e.0 → meaning_of (instance_document f (e ∷ [])) ≡ Some (meant One None None (mentions_in f (e ∷ [])))
 unfolding meaning_of instance_document instance_tree
-one_law e is = rw (instance_law e None is) refl
+one_law Full e is = rw (instance_law Full e None is) refl
+one_law Compact e is = rw (instance_law Compact e None is) refl

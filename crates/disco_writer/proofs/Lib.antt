@@ -1,8 +1,10 @@
+mod Adding
 mod Again
 pub mod Back
 pub mod Documents
-mod Instances
+mod Joins
 pub mod Metadata
-mod Runs
-mod Texts
+mod Plain
+mod Pushes
+mod Readable
 mod Written

@@ -1,11 +1,9 @@
 -- What a written document means, and what a true one is.
-use Rattle.std.specs.Prelude.{◌≡◌, ◌≤◌, ℕ, Bool, true, false, List, length, map, Option, Some, None, Ok}
+use Rattle.std.specs.Prelude.{◌≡◌, ◌≤◌, ℕ, Bool, true, false, List, length, Option, Some, None, Ok}
 use Rattle.std.specs.FinMap.{values}
 use Rattle.serde_json.specs.Written.{compact_text}
 use Rattle.disco_instance.specs.declared.form.Form.{Form}
-use Rattle.disco_instance.specs.declared.form.Form.TheVariants.{Full}
 use Rattle.disco_history.specs.Change.{Entry, front}
-use Rattle.disco_history.specs.Forms.{formed}
 use Rattle.disco_history.specs.Hash.{hash}
 use Rattle.disco_history.specs.Mentions.{delta}
 use Rattle.disco_history.specs.Query.{Asked, all, of_app, of_vip, of_secure_vip, of_key, is_absent, restrict}
@@ -14,6 +12,7 @@ use Rattle.disco_wire.specs.Documents.{document_of}
 use Rattle.disco_wire.specs.Meaning.{Meaning}
 use Rattle.disco_wire.specs.declared.wire.Shape.{Shape}
 use Rattle.disco_wire.specs.declared.wire.Shape.TheVariants.{Many, App, One}
+use Rattle.disco_writer.specs.Rows.{mentions_in}
 use Rattle.disco_writer.specs.Trees.{document_tree, tree_of}
 use Rattle.disco_writer.specs.declared.query.Query.{Query}
 use Rattle.disco_writer.specs.declared.query.Query.TheVariants as query
@@ -58,7 +57,7 @@ mentioned a h = values (said h (restrict (reg h) a))
 abbrev pub meaning_for : Asked → Form → List Entry → ℕ → Meaning
 meaning_for a f h v = record {
   shape = shape_of a;
-  mentions = map (λ e. (formed f e.0, Some e.1)) (mentioned a h);
+  mentions = mentions_in f (mentioned a h);
   hash = if_many (shape_of a) (hash (values (restrict (reg h) a)));
   version = if_many (shape_of a) v;
 }
@@ -84,10 +83,10 @@ pub record IsTrueFor (a : Asked) (text : List ℕ) (base version : ℕ) (f : For
   pub base_is : base ≡ version
   pub built : IsBuiltAt a f h version
 
--- what is written of a query after a history: nothing exactly where it is absent, else the compact text of its tree, which means what is asked for
-abbrev pub IsWritten : Asked → List Entry → Option (List ℕ) → Type 0
-IsWritten a h None = is_absent (reg h) a ≡ true
-IsWritten a h (Some text) = (is_absent (reg h) a ≡ false) × (text ≡ compact_text (tree_of a (mentioned a h) (length h))) × (document_of text ≡ Ok (meaning_for a Full h (length h)))
+-- what is written of a query in a form after a history: nothing exactly where it is absent, else the compact text of its tree, which means what is asked for
+abbrev pub IsWritten : Form → Asked → List Entry → Option (List ℕ) → Type 0
+IsWritten f a h None = is_absent (reg h) a ≡ true
+IsWritten f a h (Some text) = (is_absent (reg h) a ≡ false) × (text ≡ compact_text (tree_of f a (mentioned a h) (length h))) × (document_of text ≡ Ok (meaning_for a f h (length h)))
 
 -- ---- deltas
 
@@ -95,7 +94,7 @@ IsWritten a h (Some text) = (is_absent (reg h) a ≡ false) × (text ≡ compact
 abbrev pub delta_meaning : Form → List Entry → ℕ → Meaning
 delta_meaning f h base = record {
   shape = Many;
-  mentions = map (λ e. (formed f e.0, Some e.1)) (values (delta h base));
+  mentions = mentions_in f (values (delta h base));
   hash = Some (hash (values (reg h)));
   version = Some (length h);
 }
@@ -106,7 +105,7 @@ pub record IsTrueDelta (text : List ℕ) (base version : ℕ) (f : Form) (h : Li
   pub start : base ≤ version
   pub now : version ≡ length h
 
--- what is written of a delta: the compact text of its tree, which means it
-abbrev pub IsDeltaWritten : List Entry → ℕ → Option (List ℕ) → Type 0
-IsDeltaWritten h base None = ⊥
-IsDeltaWritten h base (Some text) = (text ≡ compact_text (document_tree (values (delta h base)) (hash (values (reg h))) (length h))) × (document_of text ≡ Ok (delta_meaning Full h base))
+-- what is written of a delta in a form: the compact text of its tree, which means it
+abbrev pub IsDeltaWritten : Form → List Entry → ℕ → Option (List ℕ) → Type 0
+IsDeltaWritten f h base None = ⊥
+IsDeltaWritten f h base (Some text) = (text ≡ compact_text (document_tree f (values (delta h base)) (hash (values (reg h))) (length h))) × (document_of text ≡ Ok (delta_meaning f h base))

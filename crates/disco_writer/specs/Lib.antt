@@ -1,5 +1,7 @@
 pub mod Documents
+pub mod Fields
+pub mod Joined
 pub mod Laws
-pub mod Parts
 pub mod Rows
+pub mod Tokens
 pub mod Trees

@@ -1,10 +1,12 @@
 -- Held records as the entries that are written.
-use Rattle.std.specs.Prelude.{ℕ, Bool, List, map}
+use Rattle.std.specs.Prelude.{List, map}
 use Rattle.std.specs.List.{AllByRecursion}
-use Rattle.std.specs.Str.{bytes_eq}
 use Rattle.disco_instance.specs.Row.{IsWellFormed, Row}
+use Rattle.disco_instance.specs.declared.form.Form.{Form}
 use Rattle.disco_history.specs.Change.{Entry}
+use Rattle.disco_history.specs.Forms.{mention_in}
 use Rattle.disco_history.specs.Held.{entry_of}
+use Rattle.disco_history.specs.Mentions.{Mention, mention_of}
 use Rattle.disco_history.specs.declared.held.Held.{Held}
 
 abbrev pub entries_of : List Held → List Entry
@@ -14,9 +16,9 @@ entries_of hs = map entry_of hs
 abbrev pub rows_in : List Entry → List Row
 rows_in es = map (λ e. e.0) es
 
--- it is of the app of that name
-abbrev pub is_of : List ℕ → Held → Bool
-is_of app h = bytes_eq h.rec.value.key.app app
+-- the mentions of these entries in a form
+abbrev pub mentions_in : Form → List Entry → List Mention
+mentions_in f es = map (mention_in f) (map mention_of es)
 
 abbrev pub AreWellFormed : List Entry → Type 0
 AreWellFormed es = AllByRecursion (λ e. IsWellFormed e.0) es

@@ -1,5 +1,5 @@
 -- The tree that is written for an instance, for an application and for a document (the JSON of Eureka's REST operations).
-use Rattle.std.specs.Prelude.{ℕ, List, [], ◌∷◌, map, codes, Bool, if◌then◌else◌, decimal}
+use Rattle.std.specs.Prelude.{ℕ, List, [], ◌∷◌, map, filter, codes, Bool, true, false, if◌then◌else◌, decimal}
 use Rattle.std.specs.Str.{bytes_eq}
 use Rattle.serde_json.specs.Data.{Data, number, string, array, object, Members, no_members, member, unsigned}
 use Rattle.serde_json.specs.View.{items_of}
@@ -7,6 +7,8 @@ use Rattle.disco_instance.specs.Action.{action_name}
 use Rattle.disco_instance.specs.Row.{LeaseNumbers}
 use Rattle.disco_instance.specs.Status.{status_name}
 use Rattle.disco_instance.specs.declared.data_center.DataCenter.{DataCenter}
+use Rattle.disco_instance.specs.declared.form.Form.{Form}
+use Rattle.disco_instance.specs.declared.form.Form.TheVariants.{Full, Compact}
 use Rattle.disco_instance.specs.declared.port.Port.{Port}
 use Rattle.disco_history.specs.Change.{Entry}
 use Rattle.disco_history.specs.Hash.{hash}
@@ -53,30 +55,47 @@ metadata_members es = in_order (map (λ e. (e.0, string e.1)) es)
 abbrev pub metadata_tree : List (List ℕ × List ℕ) → Data
 metadata_tree es = object (metadata_members es)
 
--- the members of an instance, in byte order of their names
-unfoldable pub instance_tree : Entry → Data
-instance_tree e = let r = e.0 in tree (
-    (codes "actionType", string (action_name e.1)) ∷
-    (codes "app", string r.key.app) ∷
-    (codes "countryId", whole r.country_id) ∷
-    (codes "dataCenterInfo", data_center_tree r.data_center) ∷
-    (codes "healthCheckUrl", string r.health_check_url) ∷
-    (codes "homePageUrl", string r.home_page_url) ∷
-    (codes "hostName", string r.host_name) ∷
-    (codes "instanceId", string r.key.id) ∷
-    (codes "ipAddr", string r.ip_addr) ∷
-    (codes "isCoordinatingDiscoveryServer", truth r.is_coordinating) ∷
-    (codes "lastDirtyTimestamp", digits r.last_dirty) ∷
-    (codes "lastUpdatedTimestamp", digits r.last_updated) ∷
-    (codes "leaseInfo", lease_tree r.lease) ∷
-    (codes "metadata", metadata_tree r.metadata) ∷
-    (codes "overriddenStatus", string (status_name r.overridden_status)) ∷
-    (codes "port", port_tree r.port) ∷
-    (codes "securePort", port_tree r.secure_port) ∷
-    (codes "secureVipAddress", string r.secure_vip_address) ∷
-    (codes "status", string (status_name r.status)) ∷
-    (codes "statusPageUrl", string r.status_page_url) ∷
-    (codes "vipAddress", string r.vip_address) ∷ [])
+-- a member, and whether the compact form has it
+abbrev pub Marked : Type 0
+Marked = Bool × (List ℕ × Data)
+
+-- a member of both forms
+abbrev pub both : List ℕ → Data → Marked
+both name d = (true, (name, d))
+
+-- a member of the full form alone
+abbrev pub full : List ℕ → Data → Marked
+full name d = (false, (name, d))
+
+-- the members that a form has
+abbrev pub members_in : Form → List Marked → List (List ℕ × Data)
+members_in Full ms = map (λ m. m.1) ms
+members_in Compact ms = map (λ m. m.1) (filter (λ m. m.0) ms)
+
+-- an instance in a form: its members in byte order of their names
+unfoldable pub instance_tree : Form → Entry → Data
+instance_tree f e = let r = e.0 in tree (members_in f (
+    both (codes "actionType") (string (action_name e.1)) ∷
+    both (codes "app") (string r.key.app) ∷
+    full (codes "countryId") (whole r.country_id) ∷
+    both (codes "dataCenterInfo") (data_center_tree r.data_center) ∷
+    full (codes "healthCheckUrl") (string r.health_check_url) ∷
+    full (codes "homePageUrl") (string r.home_page_url) ∷
+    both (codes "hostName") (string r.host_name) ∷
+    both (codes "instanceId") (string r.key.id) ∷
+    both (codes "ipAddr") (string r.ip_addr) ∷
+    full (codes "isCoordinatingDiscoveryServer") (truth r.is_coordinating) ∷
+    both (codes "lastDirtyTimestamp") (digits r.last_dirty) ∷
+    both (codes "lastUpdatedTimestamp") (digits r.last_updated) ∷
+    full (codes "leaseInfo") (lease_tree r.lease) ∷
+    full (codes "metadata") (metadata_tree r.metadata) ∷
+    both (codes "overriddenStatus") (string (status_name r.overridden_status)) ∷
+    both (codes "port") (port_tree r.port) ∷
+    both (codes "securePort") (port_tree r.secure_port) ∷
+    both (codes "secureVipAddress") (string r.secure_vip_address) ∷
+    both (codes "status") (string (status_name r.status)) ∷
+    full (codes "statusPageUrl") (string r.status_page_url) ∷
+    both (codes "vipAddress") (string r.vip_address) ∷ []))
 
 -- ---- applications and documents
 
@@ -93,8 +112,8 @@ by_app (e ∷ es) = with_first e (by_app es)
 abbrev pub app_of : List Data → List ℕ → Data
 app_of instances name = tree ((codes "instance", array (items_of instances)) ∷ (codes "name", string name) ∷ [])
 
-abbrev pub app_tree : List ℕ × List Entry → Data
-app_tree g = app_of (map instance_tree g.1) g.0
+abbrev pub app_tree : Form → List ℕ × List Entry → Data
+app_tree f g = app_of (map (instance_tree f) g.1) g.0
 
 abbrev pub many_tree : List Data → List ℕ → ℕ → Data
 many_tree apps hash version = tree ((
@@ -106,22 +125,22 @@ many_tree apps hash version = tree ((
 ) ∷ [])
 
 -- a document of many apps
-unfoldable pub document_tree : List Entry → List ℕ → ℕ → Data
-document_tree es hash version = many_tree (map app_tree (by_app es)) hash version
+unfoldable pub document_tree : Form → List Entry → List ℕ → ℕ → Data
+document_tree f es hash version = many_tree (map (app_tree f) (by_app es)) hash version
 
 -- the document of one app
-unfoldable pub app_document : List ℕ → List Entry → Data
-app_document name es = tree ((codes "application", app_tree (name, es)) ∷ [])
+unfoldable pub app_document : Form → List ℕ → List Entry → Data
+app_document f name es = tree ((codes "application", app_tree f (name, es)) ∷ [])
 
 -- the document of one instance
-unfoldable pub instance_document : List Entry → Data
-instance_document [] = tree []
-instance_document (e ∷ es) = tree ((codes "instance", instance_tree e) ∷ [])
+unfoldable pub instance_document : Form → List Entry → Data
+instance_document f [] = tree []
+instance_document f (e ∷ es) = tree ((codes "instance", instance_tree f e) ∷ [])
 
 -- the document of these instances, which are all that is asked for
-abbrev pub tree_of : Asked → List Entry → ℕ → Data
-tree_of all es version = document_tree es (hash (map (λ e. e.0) es)) version
-tree_of (of_app name) es version = app_document name es
-tree_of (of_vip vip) es version = document_tree es (hash (map (λ e. e.0) es)) version
-tree_of (of_secure_vip vip) es version = document_tree es (hash (map (λ e. e.0) es)) version
-tree_of (of_key k) es version = instance_document es
+abbrev pub tree_of : Form → Asked → List Entry → ℕ → Data
+tree_of f all es version = document_tree f es (hash (map (λ e. e.0) es)) version
+tree_of f (of_app name) es version = app_document f name es
+tree_of f (of_vip vip) es version = document_tree f es (hash (map (λ e. e.0) es)) version
+tree_of f (of_secure_vip vip) es version = document_tree f es (hash (map (λ e. e.0) es)) version
+tree_of f (of_key k) es version = instance_document f es

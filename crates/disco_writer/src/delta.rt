@@ -12,7 +12,7 @@ ghost use Rattle.disco_writer.specs.Rows.{entries_of};
 use crate::many::many_text;
 use disco_history::{Change, Held};
 use disco_index::Counts;
-use disco_instance::Fault;
+use disco_instance::{Fault, Form};
 use disco_queue::ChangedQueue;
 use disco_registry::Registry;
 use std::alloc::{AllocError, Global};
@@ -28,20 +28,21 @@ fn held_by(alloc: Global, changes: &[&Change]) -> Result<Vec<Held>, AllocError>
     Ok(list)
 }
 
-/// The document of the last change of each key that the queue keeps, with the hash code of all
+/// The document in a form of the last change of each key that the queue keeps, with the hash code of all
 /// records. Refused only as `OutOfMemory`.
 pub(crate) fn write_delta(
     alloc: Global,
+    form: Form,
     registry: &Registry,
     queue: &ChangedQueue,
     counts: &Counts,
 ) -> Result<Vec<u8>, Fault>
     requires { counts.now ≡ tally_in registry.now.held }
-    ensures written { IfOk result (λ v. (h : List Timed) → StandsFor registry.now (changes h) → Keeps queue.now h → IsDeltaWritten (changes h) queue.now.base (Some v.items)) }
+    ensures written { IfOk result (λ v. (h : List Timed) → StandsFor registry.now (changes h) → Keeps queue.now h → IsDeltaWritten form (changes h) queue.now.base (Some v.items)) }
     ensures memory { IfErr result (λ e. e ≡ OutOfMemory) }
 {
     let last = queue.last_changes(alloc)?;
     let held = held_by(alloc, last.as_slice())?;
     let hash = counts.text(alloc)?;
-    Ok(many_text(alloc, held.as_slice(), &hash, registry.version())?)
+    Ok(many_text(alloc, form, held.as_slice(), &hash, registry.version())?)
 }

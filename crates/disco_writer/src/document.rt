@@ -1,10 +1,10 @@
 //! The document that a query asks for.
-ghost use Rattle.std.specs.Prelude.{◌≡◌, ◌<◌, List, IfOk, IfErr, MatchOption, Ok, Some, true, false, length, map, option_map};
+ghost use Rattle.std.specs.Prelude.{◌≡◌, ◌<◌, List, IfOk, IfErr, MatchOption, Ok, Some, true, false, length, option_map};
 ghost use Rattle.serde_json.specs.Written.{compact_text};
 ghost use Rattle.disco_instance.specs.declared.fault.Fault.TheVariants.{OutOfMemory};
+ghost use Rattle.disco_instance.specs.declared.form.Form.TheVariants.{Full};
 ghost use Rattle.disco_history.specs.Change.{Entry};
 ghost use Rattle.disco_history.specs.Hash.{hash};
-ghost use Rattle.disco_history.specs.Mentions.{mention_of};
 ghost use Rattle.disco_history.specs.Query.{all, of_app, of_vip, of_secure_vip, of_key};
 ghost use Rattle.disco_index.specs.Tally.{tally_in};
 ghost use Rattle.disco_index.specs.Vips.{IsIndexOf};
@@ -15,25 +15,47 @@ ghost use Rattle.disco_wire.specs.Documents.{document_of};
 ghost use Rattle.disco_wire.specs.Meaning.{meant};
 ghost use Rattle.disco_wire.specs.declared.wire.Shape.TheVariants.{Many};
 ghost use Rattle.disco_writer.specs.Documents.{IsDeltaWritten, IsWritten, asked_by, is_delta};
-ghost use Rattle.disco_writer.specs.Rows.{entries_of, rows_in};
+ghost use Rattle.disco_writer.specs.Rows.{entries_of, mentions_in, rows_in};
 ghost use Rattle.disco_writer.specs.Trees.{document_tree};
 
 use crate::delta::write_delta;
-use crate::many::many_text;
+use crate::many::{app_text, many_text, one_text};
 use crate::query::Query;
 use crate::selected::{count, held_under_svip, held_under_vip};
-use crate::single::{app_text, instance_text};
 use disco_history::Held;
 use disco_index::{Counts, VipIndex};
-use disco_instance::{Fault, Key, Text};
+use disco_instance::{Fault, Form, Key, Text};
 use disco_queue::ChangedQueue;
 use disco_registry::Registry;
 use std::alloc::Global;
 
-/// The document that a query asks for, in the full form, as compact JSON; `None` exactly where the
-/// query is for an app, a vip, a secure vip or an instance, and no record is. A delta names what the
-/// queue keeps. The counts and the vips have to be those of the registry. Refused only as
-/// `OutOfMemory`.
+/// The document that a query asks for in a form, as compact JSON; `None` exactly where the query is
+/// for an app, a vip, a secure vip or an instance, and no record is. A delta names what the queue
+/// keeps. The counts and the vips have to be those of the registry. Refused only as `OutOfMemory`.
+pub fn write_document(
+    alloc: Global,
+    form: Form,
+    query: &Query,
+    registry: &Registry,
+    vips: &VipIndex,
+    queue: &ChangedQueue,
+    counts: &Counts,
+) -> Result<Option<Vec<u8>>, Fault>
+    requires counts { counts.now ≡ tally_in registry.now.held }
+    requires vips { IsIndexOf vips.now registry.now.held }
+    ensures written { IfOk result (λ o. is_delta query.now ≡ false
+        → (h : List Entry) → StandsFor registry.now h → IsWritten form (asked_by query.now) h (option_map (λ v. v.items) o)) }
+    ensures delta { IfOk result (λ o. is_delta query.now ≡ true
+        → (h : List Timed) → StandsFor registry.now (changes h) → Keeps queue.now h → IsDeltaWritten form (changes h) queue.now.base (option_map (λ v. v.items) o)) }
+    ensures memory { IfErr result (λ e. e ≡ OutOfMemory) }
+{
+    if query.is_delta() {
+        return Ok(Some(write_delta(alloc, form, registry, queue, counts)?));
+    }
+    Ok(write_held(alloc, form, query, registry, vips, counts)?)
+}
+
+/// The document that a query asks for in the full form, as [`write_document`] gives it.
 pub fn write_full(
     alloc: Global,
     query: &Query,
@@ -45,20 +67,18 @@ pub fn write_full(
     requires counts { counts.now ≡ tally_in registry.now.held }
     requires vips { IsIndexOf vips.now registry.now.held }
     ensures written { IfOk result (λ o. is_delta query.now ≡ false
-        → (h : List Entry) → StandsFor registry.now h → IsWritten (asked_by query.now) h (option_map (λ v. v.items) o)) }
+        → (h : List Entry) → StandsFor registry.now h → IsWritten Full (asked_by query.now) h (option_map (λ v. v.items) o)) }
     ensures delta { IfOk result (λ o. is_delta query.now ≡ true
-        → (h : List Timed) → StandsFor registry.now (changes h) → Keeps queue.now h → IsDeltaWritten (changes h) queue.now.base (option_map (λ v. v.items) o)) }
+        → (h : List Timed) → StandsFor registry.now (changes h) → Keeps queue.now h → IsDeltaWritten Full (changes h) queue.now.base (option_map (λ v. v.items) o)) }
     ensures memory { IfErr result (λ e. e ≡ OutOfMemory) }
 {
-    if query.is_delta() {
-        return Ok(Some(write_delta(alloc, registry, queue, counts)?));
-    }
-    Ok(write_held(alloc, query, registry, vips, counts)?)
+    write_document(alloc, Form::Full, query, registry, vips, queue, counts)
 }
 
 /// The document of the held records that a query asks for, where there are any.
 fn write_held(
     alloc: Global,
+    form: Form,
     query: &Query,
     registry: &Registry,
     vips: &VipIndex,
@@ -67,81 +87,107 @@ fn write_held(
     requires counts { counts.now ≡ tally_in registry.now.held }
     requires vips { IsIndexOf vips.now registry.now.held }
     requires no_delta { is_delta query.now ≡ false }
-    ensures written { IfOk result (λ o. (h : List Entry) → StandsFor registry.now h → IsWritten (asked_by query.now) h (option_map (λ v. v.items) o)) }
+    ensures written { IfOk result (λ o. (h : List Entry) → StandsFor registry.now h → IsWritten form (asked_by query.now) h (option_map (λ v. v.items) o)) }
     ensures memory { IfErr result (λ e. e ≡ OutOfMemory) }
 {
     match query {
-        Query::Apps => Ok(Some(write_apps(alloc, registry, counts)?)),
+        Query::Apps => Ok(Some(write_apps(alloc, form, registry, counts)?)),
         Query::Delta => Ok(None),
-        Query::App(name) => write_app(alloc, registry, name),
-        Query::Vip(vip) => write_vip(alloc, registry, vips, vip),
-        Query::Svip(svip) => write_svip(alloc, registry, svip),
-        Query::Instance(key) => write_instance(alloc, registry, key),
+        Query::App(name) => write_app(alloc, form, registry, name),
+        Query::Vip(vip) => write_vip(alloc, form, registry, vips, vip),
+        Query::Svip(svip) => write_svip(alloc, form, registry, svip),
+        Query::Instance(key) => write_instance(alloc, form, registry, key),
     }
 }
 
-fn write_apps(alloc: Global, registry: &Registry, counts: &Counts) -> Result<Vec<u8>, Fault>
+fn write_apps(
+    alloc: Global,
+    form: Form,
+    registry: &Registry,
+    counts: &Counts,
+) -> Result<Vec<u8>, Fault>
     requires { counts.now ≡ tally_in registry.now.held }
-    ensures written { IfOk result (λ v. (h : List Entry) → StandsFor registry.now h → IsWritten all h (Some v.items)) }
+    ensures written { IfOk result (λ v. (h : List Entry) → StandsFor registry.now h → IsWritten form all h (Some v.items)) }
     ensures memory { IfErr result (λ e. e ≡ OutOfMemory) }
 {
     let hash = counts.text(alloc)?;
-    Ok(many_text(alloc, registry.records(), &hash, registry.version())?)
+    Ok(many_text(alloc, form, registry.records(), &hash, registry.version())?)
 }
 
-fn write_app(alloc: Global, registry: &Registry, name: &Text) -> Result<Option<Vec<u8>>, Fault>
-    ensures written { IfOk result (λ o. (h : List Entry) → StandsFor registry.now h → IsWritten (of_app name.now) h (option_map (λ v. v.items) o)) }
+fn write_app(
+    alloc: Global,
+    form: Form,
+    registry: &Registry,
+    name: &Text,
+) -> Result<Option<Vec<u8>>, Fault>
+    ensures written { IfOk result (λ o. (h : List Entry) → StandsFor registry.now h → IsWritten form (of_app name.now) h (option_map (λ v. v.items) o)) }
     ensures memory { IfErr result (λ e. e ≡ OutOfMemory) }
 {
     let held = registry.of_app(name);
     if held.is_empty() {
         return Ok(None);
     }
-    Ok(Some(app_text(alloc, name, held)?))
+    Ok(Some(app_text(alloc, form, name, held)?))
 }
 
 /// The document of some records, with the hash code of these alone; none where there are none.
-fn write_some(alloc: Global, held: &[Held], version: u64) -> Result<Option<Vec<u8>>, Fault>
+fn write_some(
+    alloc: Global,
+    form: Form,
+    held: &[Held],
+    version: u64,
+) -> Result<Option<Vec<u8>>, Fault>
     ensures written { IfOk result (λ o. MatchOption o (length held.now ≡ 0) (λ v. (0 < length held.now)
-        × (v.items ≡ compact_text (document_tree (entries_of held.now) (hash (rows_in (entries_of held.now))) version))
-        × (document_of v.items ≡ Ok (meant Many (Some (hash (rows_in (entries_of held.now)))) (Some version) (map mention_of (entries_of held.now)))))) }
+        × (v.items ≡ compact_text (document_tree form (entries_of held.now) (hash (rows_in (entries_of held.now))) version))
+        × (document_of v.items ≡ Ok (meant Many (Some (hash (rows_in (entries_of held.now)))) (Some version) (mentions_in form (entries_of held.now)))))) }
     ensures memory { IfErr result (λ e. e ≡ OutOfMemory) }
 {
     if held.is_empty() {
         return Ok(None);
     }
     let hash = count(held).text(alloc)?;
-    Ok(Some(many_text(alloc, held, &hash, version)?))
+    Ok(Some(many_text(alloc, form, held, &hash, version)?))
 }
 
 fn write_vip(
     alloc: Global,
+    form: Form,
     registry: &Registry,
     vips: &VipIndex,
     vip: &Text,
 ) -> Result<Option<Vec<u8>>, Fault>
     requires { IsIndexOf vips.now registry.now.held }
-    ensures written { IfOk result (λ o. (h : List Entry) → StandsFor registry.now h → IsWritten (of_vip vip.now) h (option_map (λ v. v.items) o)) }
+    ensures written { IfOk result (λ o. (h : List Entry) → StandsFor registry.now h → IsWritten form (of_vip vip.now) h (option_map (λ v. v.items) o)) }
     ensures memory { IfErr result (λ e. e ≡ OutOfMemory) }
 {
     let held = held_under_vip(alloc, registry, vips, vip)?;
-    Ok(write_some(alloc, held.as_slice(), registry.version())?)
+    Ok(write_some(alloc, form, held.as_slice(), registry.version())?)
 }
 
-fn write_svip(alloc: Global, registry: &Registry, svip: &Text) -> Result<Option<Vec<u8>>, Fault>
-    ensures written { IfOk result (λ o. (h : List Entry) → StandsFor registry.now h → IsWritten (of_secure_vip svip.now) h (option_map (λ v. v.items) o)) }
+fn write_svip(
+    alloc: Global,
+    form: Form,
+    registry: &Registry,
+    svip: &Text,
+) -> Result<Option<Vec<u8>>, Fault>
+    ensures written { IfOk result (λ o. (h : List Entry) → StandsFor registry.now h → IsWritten form (of_secure_vip svip.now) h (option_map (λ v. v.items) o)) }
     ensures memory { IfErr result (λ e. e ≡ OutOfMemory) }
 {
     let held = held_under_svip(alloc, registry, svip)?;
-    Ok(write_some(alloc, held.as_slice(), registry.version())?)
+    Ok(write_some(alloc, form, held.as_slice(), registry.version())?)
 }
 
-fn write_instance(alloc: Global, registry: &Registry, key: &Key) -> Result<Option<Vec<u8>>, Fault>
-    ensures written { IfOk result (λ o. (h : List Entry) → StandsFor registry.now h → IsWritten (of_key key.now) h (option_map (λ v. v.items) o)) }
+fn write_instance(
+    alloc: Global,
+    form: Form,
+    registry: &Registry,
+    key: &Key,
+) -> Result<Option<Vec<u8>>, Fault>
+    ensures written { IfOk result (λ o. (h : List Entry) → StandsFor registry.now h → IsWritten form (of_key key.now) h (option_map (λ v. v.items) o)) }
     ensures memory { IfErr result (λ e. e ≡ OutOfMemory) }
 {
     match registry.held(key) {
-        Some(held) => Ok(Some(instance_text(alloc, held)?)),
+        Some(held) => Ok(Some(one_text(alloc, form, held)?)),
         None => Ok(None),
     }
 }

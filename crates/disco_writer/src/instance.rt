@@ -1,179 +1,158 @@
-//! The tree of an instance.
-ghost use Rattle.std.specs.Prelude.{◌≡◌, IfOk, OnOk};
-ghost use Rattle.serde_json.specs.Data.{string, put};
-ghost use Rattle.serde_json.specs.View.{view, members_view};
-ghost use Rattle.disco_instance.specs.Row.{row, numbers};
-ghost use Rattle.disco_writer.specs.Parts.{put_each, name_members, url_members, state_members, moment_members, place_members};
-ghost use Rattle.disco_writer.specs.Trees.{truth, digits, port_tree, data_center_tree, lease_tree, metadata_tree, instance_tree};
+//! The text of an instance.
+ghost use Rattle.std.specs.Prelude.{IfOk, OnOk};
+ghost use Rattle.json.specs.Tree.{json_tokens};
+ghost use Rattle.serde_json.specs.Written.{outline};
+ghost use Rattle.disco_instance.specs.Row.{row};
+ghost use Rattle.disco_instance.specs.declared.form.Form.TheVariants.{Full, Compact};
+ghost use Rattle.disco_writer.specs.Fields.{first_fields, from_moments, host_fields, moment_fields, state_fields, to_hosts, to_metadata, to_moments, to_urls, to_vips};
+ghost use Rattle.disco_writer.specs.Joined.{IsTextOf};
+ghost use Rattle.disco_writer.specs.Tokens.{Adds, Writes};
+ghost use Rattle.disco_writer.specs.Trees.{instance_tree};
 
-use disco_instance::{Action, DataCenter, Entries, Lease, Port, Record};
-use serde_json::{Map, Value, json};
+use crate::members::{
+    end, put_action, put_data_center, put_digits, put_lease, put_metadata, put_port, put_small,
+    put_status, put_text, put_truth, start,
+};
+use disco_instance::{Action, Form, Record, well_formed};
+use json::Writer;
 use std::alloc::{AllocError, Global};
 
-fn truth_value(alloc: Global, flag: bool) -> Result<Value, AllocError>
-    ensures { IfOk result (λ v. view v ≡ truth flag) }
+/// How many bytes are asked for at first: most instances have fewer.
+const USUAL: usize = 1024;
+
+// Groups of members that stand next to each other in both forms.
+
+fn put_first(out: &mut Writer, rec: &Record, action: Action) -> Result<(), AllocError>
+    ensures { Writes result out.old out.new (first_fields (row rec.now, action)) }
 {
-    Value::try_from_str(alloc, if flag { "true" } else { "false" })
+    put_action(out, "actionType", action)?;
+    put_text(out, "app", &rec.key.app)
 }
 
-pub(crate) fn digits_value(alloc: Global, number: u64) -> Result<Value, AllocError>
-    ensures { IfOk result (λ v. view v ≡ digits number) }
+fn put_host(out: &mut Writer, rec: &Record) -> Result<(), AllocError>
+    ensures { Writes result out.old out.new (host_fields (row rec.now)) }
 {
-    Ok(Value::String(format!(in alloc; "{number}")?))
+    put_text(out, "hostName", &rec.host_name)?;
+    put_text(out, "instanceId", &rec.key.id)?;
+    put_text(out, "ipAddr", &rec.ip_addr)
 }
 
-fn port_value(alloc: Global, port: Port) -> Result<Value, AllocError>
-    ensures { IfOk result (λ v. view v ≡ port_tree port) }
+fn put_moments(out: &mut Writer, rec: &Record) -> Result<(), AllocError>
+    ensures { Writes result out.old out.new (moment_fields (row rec.now)) }
 {
-    let enabled = truth_value(alloc, port.enabled)?;
-    json!(in alloc; {"$": port.number, "@enabled": enabled})
+    put_digits(out, "lastDirtyTimestamp", rec.last_dirty)?;
+    put_digits(out, "lastUpdatedTimestamp", rec.last_updated)
 }
 
-fn data_center_value(alloc: Global, center: &DataCenter) -> Result<Value, AllocError>
-    ensures { IfOk result (λ v. view v ≡ data_center_tree center.now) }
+fn put_state(out: &mut Writer, rec: &Record) -> Result<(), AllocError>
+    ensures { Writes result out.old out.new (state_fields (row rec.now)) }
 {
-    json!(in alloc; {"@class": center.class.as_str(), "name": center.name.as_str()})
+    put_status(out, "overriddenStatus", rec.overridden_status)?;
+    put_port(out, "port", rec.port)?;
+    put_port(out, "securePort", rec.secure_port)?;
+    put_text(out, "secureVipAddress", &rec.secure_vip_address)?;
+    put_status(out, "status", rec.status)
 }
 
-fn lease_value(alloc: Global, lease: Lease) -> Result<Value, AllocError>
-    ensures { IfOk result (λ v. view v ≡ lease_tree (numbers lease)) }
+// The full form.
+
+fn put_to_urls(out: &mut Writer, rec: &Record, action: Action) -> Result<(), AllocError>
+    ensures { Writes result out.old out.new (to_urls (row rec.now, action)) }
 {
-    json!(in alloc; {
-        "durationInSecs": lease.duration_secs,
-        "evictionTimestamp": lease.eviction,
-        "lastRenewalTimestamp": lease.last_renewal,
-        "registrationTimestamp": lease.registration,
-        "renewalIntervalInSecs": lease.renewal_interval_secs,
-        "serviceUpTimestamp": lease.service_up,
-    })
+    put_first(out, rec, action)?;
+    put_small(out, "countryId", rec.country_id)?;
+    put_data_center(out, &rec.data_center)?;
+    put_text(out, "healthCheckUrl", &rec.health_check_url)?;
+    put_text(out, "homePageUrl", &rec.home_page_url)
 }
 
-fn put_text(
-    map: &mut Map<String, Value>,
-    alloc: Global,
-    name: &str,
-    text: &str,
-) -> Result<(), AllocError>
-    ensures { OnOk result (members_view map.new.entries ≡ put name.now (string text.now) (members_view map.old.entries)) }
+fn put_to_moments(out: &mut Writer, rec: &Record) -> Result<(), AllocError>
+    ensures { Writes result out.old out.new (to_moments (row rec.now)) }
 {
-    let value = Value::try_from_str(alloc, text)?;
-    serde_json::put(map, alloc, name, value)
+    put_host(out, rec)?;
+    put_truth(out, "isCoordinatingDiscoveryServer", rec.is_coordinating)?;
+    put_moments(out, rec)
 }
 
-/// Who the instance is and where it is reached.
-fn put_names(map: &mut Map<String, Value>, alloc: Global, rec: &Record) -> Result<(), AllocError>
-    ensures { OnOk result (members_view map.new.entries ≡ put_each (name_members (row rec.now)) (members_view map.old.entries)) }
+fn put_to_metadata(out: &mut Writer, rec: &Record) -> Result<(), AllocError>
+    ensures { Writes result out.old out.new (to_metadata (row rec.now)) }
 {
-    put_text(map, alloc, "app", rec.key.app.as_str())?;
-    put_text(map, alloc, "instanceId", rec.key.id.as_str())?;
-    put_text(map, alloc, "hostName", rec.host_name.as_str())?;
-    put_text(map, alloc, "ipAddr", rec.ip_addr.as_str())?;
-    put_text(map, alloc, "vipAddress", rec.vip_address.as_str())?;
-    put_text(
-        map,
-        alloc,
-        "secureVipAddress",
-        rec.secure_vip_address.as_str(),
-    )
+    put_lease(out, rec.lease)?;
+    put_metadata(out, &rec.metadata)
 }
 
-fn put_urls(map: &mut Map<String, Value>, alloc: Global, rec: &Record) -> Result<(), AllocError>
-    ensures { OnOk result (members_view map.new.entries ≡ put_each (url_members (row rec.now)) (members_view map.old.entries)) }
+fn put_to_vips(out: &mut Writer, rec: &Record) -> Result<(), AllocError>
+    ensures { Writes result out.old out.new (to_vips (row rec.now)) }
 {
-    put_text(map, alloc, "healthCheckUrl", rec.health_check_url.as_str())?;
-    put_text(map, alloc, "homePageUrl", rec.home_page_url.as_str())?;
-    put_text(map, alloc, "statusPageUrl", rec.status_page_url.as_str())
+    put_state(out, rec)?;
+    put_text(out, "statusPageUrl", &rec.status_page_url)?;
+    put_text(out, "vipAddress", &rec.vip_address)
 }
 
-fn put_state(
-    map: &mut Map<String, Value>,
-    alloc: Global,
+fn put_full(out: &mut Writer, rec: &Record, action: Action) -> Result<(), AllocError>
+    ensures { OnOk result (Adds out.old out.new (json_tokens (outline (instance_tree Full (row rec.now, action))))) }
+{
+    start(out)?;
+    put_to_urls(out, rec, action)?;
+    put_to_moments(out, rec)?;
+    put_to_metadata(out, rec)?;
+    put_to_vips(out, rec)?;
+    end(out)
+}
+
+// The compact form.
+
+fn put_to_hosts(out: &mut Writer, rec: &Record, action: Action) -> Result<(), AllocError>
+    ensures { Writes result out.old out.new (to_hosts (row rec.now, action)) }
+{
+    put_first(out, rec, action)?;
+    put_data_center(out, &rec.data_center)?;
+    put_host(out, rec)
+}
+
+fn put_from_moments(out: &mut Writer, rec: &Record) -> Result<(), AllocError>
+    ensures { Writes result out.old out.new (from_moments (row rec.now)) }
+{
+    put_moments(out, rec)?;
+    put_state(out, rec)?;
+    put_text(out, "vipAddress", &rec.vip_address)
+}
+
+fn put_compact(out: &mut Writer, rec: &Record, action: Action) -> Result<(), AllocError>
+    ensures { OnOk result (Adds out.old out.new (json_tokens (outline (instance_tree Compact (row rec.now, action))))) }
+{
+    start(out)?;
+    put_to_hosts(out, rec, action)?;
+    put_from_moments(out, rec)?;
+    end(out)
+}
+
+fn put_instance(
+    out: &mut Writer,
+    form: Form,
     rec: &Record,
     action: Action,
 ) -> Result<(), AllocError>
-    ensures { OnOk result (members_view map.new.entries ≡ put_each (state_members (row rec.now, action)) (members_view map.old.entries)) }
+    ensures { OnOk result (Adds out.old out.new (json_tokens (outline (instance_tree form (row rec.now, action))))) }
 {
-    put_text(map, alloc, "actionType", action.name())?;
-    put_text(map, alloc, "status", rec.status.name())?;
-    put_text(map, alloc, "overriddenStatus", rec.overridden_status.name())
-}
-
-fn put_moments(map: &mut Map<String, Value>, alloc: Global, rec: &Record) -> Result<(), AllocError>
-    ensures { OnOk result (members_view map.new.entries ≡ put_each (moment_members (row rec.now)) (members_view map.old.entries)) }
-{
-    serde_json::put(
-        map,
-        alloc,
-        "lastDirtyTimestamp",
-        digits_value(alloc, rec.last_dirty)?,
-    )?;
-    serde_json::put(
-        map,
-        alloc,
-        "lastUpdatedTimestamp",
-        digits_value(alloc, rec.last_updated)?,
-    )?;
-    serde_json::put(map, alloc, "leaseInfo", lease_value(alloc, rec.lease)?)
-}
-
-fn put_place(map: &mut Map<String, Value>, alloc: Global, rec: &Record) -> Result<(), AllocError>
-    ensures { OnOk result (members_view map.new.entries ≡ put_each (place_members (row rec.now)) (members_view map.old.entries)) }
-{
-    serde_json::put(map, alloc, "countryId", Value::from(rec.country_id))?;
-    serde_json::put(
-        map,
-        alloc,
-        "dataCenterInfo",
-        data_center_value(alloc, &rec.data_center)?,
-    )?;
-    serde_json::put(
-        map,
-        alloc,
-        "isCoordinatingDiscoveryServer",
-        truth_value(alloc, rec.is_coordinating)?,
-    )?;
-    serde_json::put(
-        map,
-        alloc,
-        "metadata",
-        metadata_value(alloc, &rec.metadata)?,
-    )?;
-    serde_json::put(map, alloc, "port", port_value(alloc, rec.port)?)?;
-    serde_json::put(
-        map,
-        alloc,
-        "securePort",
-        port_value(alloc, rec.secure_port)?,
-    )
-}
-
-/// The tree of an instance.
-pub(crate) fn instance_value(
-    alloc: Global,
-    rec: &Record,
-    action: Action,
-) -> Result<Value, AllocError>
-    ensures { IfOk result (λ v. view v ≡ instance_tree (row rec.now, action)) }
-{
-    let mut map = Map::new(alloc);
-    put_names(&mut map, alloc, rec)?;
-    put_urls(&mut map, alloc, rec)?;
-    put_state(&mut map, alloc, rec, action)?;
-    put_moments(&mut map, alloc, rec)?;
-    put_place(&mut map, alloc, rec)?;
-    Ok(Value::Object(map))
-}
-
-/// The object of the entries of metadata.
-#[tactic(auto, using(crate::proofs::Metadata::all_put))]
-fn metadata_value(alloc: Global, entries: &Entries) -> Result<Value, AllocError>
-    ensures { IfOk result (λ v. view v ≡ metadata_tree entries.now) }
-{
-    entries.ordered();
-    let mut map = Map::new(alloc);
-    for (name, text) in entries.as_slice() {
-        let value = Value::try_from_str(alloc, text.as_str())?;
-        serde_json::put(&mut map, alloc, name.as_str(), value)?;
+    match form {
+        Form::Full => put_full(out, rec, action),
+        Form::Compact => put_compact(out, rec, action),
     }
-    Ok(Value::Object(map))
+}
+
+/// The text of an instance in a form, as compact JSON.
+pub(crate) fn instance_text(
+    alloc: Global,
+    form: Form,
+    rec: &Record,
+    action: Action,
+) -> Result<Vec<u8>, AllocError>
+    ensures { IfOk result (λ v. IsTextOf form v.items (row rec.now, action)) }
+{
+    well_formed(rec);
+    let _app = rec.key.app.as_str();
+    let mut out = Writer::new(Vec::with_capacity(alloc, USUAL)?);
+    put_instance(&mut out, form, rec, action)?;
+    Ok(out.into_inner())
 }

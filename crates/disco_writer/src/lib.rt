@@ -6,12 +6,12 @@
 mod delta;
 mod document;
 mod instance;
+mod join;
 pub mod laws;
 mod many;
+mod members;
 mod query;
 mod selected;
-mod single;
-mod text;
 
-pub use document::write_full;
+pub use document::{write_document, write_full};
 pub use query::Query;

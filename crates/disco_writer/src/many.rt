@@ -1,123 +1,81 @@
-//! Documents of many apps.
-ghost use Rattle.std.specs.Prelude.{◌≡◌, ◌≤◌, IfOk, Ok, Some, map, length};
-ghost use Rattle.std.specs.List.{prefix_len};
-ghost use Rattle.serde_json.specs.View.{view};
+//! Documents of held instances.
+ghost use Rattle.std.specs.Prelude.{◌≡◌, ◌∷◌, [], IfOk, None, Ok, Some};
 ghost use Rattle.serde_json.specs.Written.{compact_text};
-ghost use Rattle.disco_history.specs.Mentions.{mention_of};
+ghost use Rattle.disco_history.specs.Held.{entry_of};
 ghost use Rattle.disco_wire.specs.Documents.{document_of};
 ghost use Rattle.disco_wire.specs.Meaning.{meant};
-ghost use Rattle.disco_wire.specs.declared.wire.Shape.TheVariants.{Many};
-ghost use Rattle.disco_writer.specs.Rows.{entries_of, is_of, AreWellFormed};
-ghost use Rattle.disco_writer.specs.Trees.{instance_tree, app_tree, by_app, many_tree, document_tree, app_of};
+ghost use Rattle.disco_wire.specs.declared.wire.Shape.TheVariants.{Many, App, One};
+ghost use Rattle.disco_writer.specs.Joined.{AreTextsOf, IsTextOf, shown_by};
+ghost use Rattle.disco_writer.specs.Rows.{entries_of, mentions_in};
+ghost use Rattle.disco_writer.specs.Trees.{app_document, document_tree, instance_document};
 
-use crate::instance::{digits_value, instance_value};
-use crate::text::text_of_tree;
+use crate::instance::instance_text;
+use crate::join::{Piece, join_app, join_many, join_one};
 use disco_history::Held;
-use disco_instance::{Text, well_formed};
-use serde_json::{Value, json};
+use disco_instance::{Form, Text};
 use std::alloc::{AllocError, Global};
 
-/// The text of the document of these instances.
+fn held_text(alloc: Global, form: Form, held: &Held) -> Result<Vec<u8>, AllocError>
+    ensures { IfOk result (λ v. IsTextOf form v.items (entry_of held.now)) }
+{
+    instance_text(alloc, form, &held.rec, held.action)
+}
+
+fn piece_of(alloc: Global, form: Form, held: &Held) -> Result<Piece<'_>, AllocError>
+    ensures { IfOk result (λ p. (p.app.now ≡ (entry_of held.now).0.key.app) × IsTextOf form p.text.items (entry_of held.now)) }
+{
+    let text = held_text(alloc, form, held)?;
+    Ok(Piece {
+        app: &held.rec.key.app,
+        text,
+    })
+}
+
+/// The apps and the texts of these instances.
+fn pieces_of(alloc: Global, form: Form, held: &[Held]) -> Result<Vec<Piece<'_>>, AllocError>
+    ensures { IfOk result (λ v. AreTextsOf form (shown_by v.items) (entries_of held.now)) }
+{
+    let mut list = Vec::with_capacity(alloc, held.len())?;
+    for one in held {
+        list.push(piece_of(alloc, form, one)?)?;
+    }
+    Ok(list)
+}
+
+/// The text of the document of these instances in a form.
 pub(crate) fn many_text(
     alloc: Global,
+    form: Form,
     held: &[Held],
     hash: &Text,
     version: u64,
 ) -> Result<Vec<u8>, AllocError>
-    ensures text { IfOk result (λ v. v.items ≡ compact_text (document_tree (entries_of held.now) hash.now version)) }
-    ensures means { IfOk result (λ v. document_of v.items ≡ Ok (meant Many (Some hash.now) (Some version) (map mention_of (entries_of held.now)))) }
+    ensures text { IfOk result (λ v. v.items ≡ compact_text (document_tree form (entries_of held.now) hash.now version)) }
+    ensures means { IfOk result (λ v. document_of v.items ≡ Ok (meant Many (Some hash.now) (Some version) (mentions_in form (entries_of held.now)))) }
 {
-    let tree = document_value(alloc, held, hash, version)?;
-    Ok(text_of_tree(alloc, &tree)?)
+    let pieces = pieces_of(alloc, form, held)?;
+    Ok(join_many(alloc, pieces.as_slice(), hash, version)?)
 }
 
-#[tactic(auto, unfolding(crate::specs::Trees::document_tree))]
-fn document_value(
+/// The text of the document of an app with these instances in a form.
+pub(crate) fn app_text(
     alloc: Global,
+    form: Form,
+    name: &Text,
     held: &[Held],
-    hash: &Text,
-    version: u64,
-) -> Result<Value, AllocError>
-    ensures tree { IfOk result (λ v. view v ≡ document_tree (entries_of held.now) hash.now version) }
-    ensures rows { IfOk result (λ _. AreWellFormed (entries_of held.now)) }
+) -> Result<Vec<u8>, AllocError>
+    ensures text { IfOk result (λ v. v.items ≡ compact_text (app_document form name.now (entries_of held.now))) }
+    ensures means { IfOk result (λ v. document_of v.items ≡ Ok (meant App None None (mentions_in form (entries_of held.now)))) }
 {
-    let list = apps(alloc, held)?;
-    many_value(alloc, list, hash, version)
+    let pieces = pieces_of(alloc, form, held)?;
+    Ok(join_app(alloc, name, pieces.as_slice())?)
 }
 
-fn many_value(
-    alloc: Global,
-    list: Vec<Value>,
-    hash: &Text,
-    version: u64,
-) -> Result<Value, AllocError>
-    ensures { IfOk result (λ v. view v ≡ many_tree (map view list.items) hash.now version) }
+/// The text of the document of an instance in a form.
+pub(crate) fn one_text(alloc: Global, form: Form, held: &Held) -> Result<Vec<u8>, AllocError>
+    ensures text { IfOk result (λ v. v.items ≡ compact_text (instance_document form (entry_of held.now ∷ []))) }
+    ensures means { IfOk result (λ v. document_of v.items ≡ Ok (meant One None None (mentions_in form (entry_of held.now ∷ [])))) }
 {
-    let digits = digits_value(alloc, version)?;
-    json!(in alloc; {"applications": {
-        "application": list,
-        "apps__hashcode": hash.as_str(),
-        "versions__delta": digits,
-    }})
-}
-
-fn apps(alloc: Global, held: &[Held]) -> Result<Vec<Value>, AllocError>
-    ensures trees { IfOk result (λ v. map view v.items ≡ map app_tree (by_app (entries_of held.now))) }
-    ensures rows { IfOk result (λ _. AreWellFormed (entries_of held.now)) }
-{
-    let mut list = Vec::new(alloc);
-    let mut rest = held;
-    while let Some(first) = rest.first() {
-        let app = app_name(first);
-        let (group, after) = rest.split_at(run_len(rest, app));
-        list.push(app_value(alloc, app, group)?)?;
-        rest = after;
-    }
-    Ok(list)
-}
-
-fn app_name(held: &Held) -> &Text
-    ensures { result.now ≡ held.now.rec.value.key.app }
-{
-    &held.rec.key.app
-}
-
-/// How many records at the front are of the app.
-fn run_len(held: &[Held], app: &Text) -> usize
-    ensures run { result ≡ prefix_len (is_of app.now) held.now }
-    ensures within { result ≤ length held.now }
-{
-    for i in 0..held.len() {
-        if *app_name(&held[i]) != *app {
-            return i;
-        }
-    }
-    held.len()
-}
-
-/// The tree of an application of that name.
-pub(crate) fn app_value(alloc: Global, name: &Text, held: &[Held]) -> Result<Value, AllocError>
-    ensures tree { IfOk result (λ v. view v ≡ app_tree (name.now, entries_of held.now)) }
-    ensures rows { IfOk result (λ _. AreWellFormed (entries_of held.now)) }
-{
-    let list = instances(alloc, held)?;
-    one_app(alloc, name, list)
-}
-
-fn one_app(alloc: Global, name: &Text, list: Vec<Value>) -> Result<Value, AllocError>
-    ensures { IfOk result (λ v. view v ≡ app_of (map view list.items) name.now) }
-{
-    json!(in alloc; {"instance": list, "name": name.as_str()})
-}
-
-fn instances(alloc: Global, held: &[Held]) -> Result<Vec<Value>, AllocError>
-    ensures trees { IfOk result (λ v. map view v.items ≡ map instance_tree (entries_of held.now)) }
-    ensures rows { IfOk result (λ _. AreWellFormed (entries_of held.now)) }
-{
-    let mut list = Vec::new(alloc);
-    for one in held {
-        well_formed(&one.rec);
-        list.push(instance_value(alloc, &one.rec, one.action)?)?;
-    }
-    Ok(list)
+    let text = held_text(alloc, form, held)?;
+    Ok(join_one(alloc, text.as_slice())?)
 }

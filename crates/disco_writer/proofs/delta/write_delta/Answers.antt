@@ -6,14 +6,14 @@ use Rattle.disco_instance.specs.Key.{key_cmp}
 use Rattle.disco_history.specs.Change.{Entry, seen}
 use Rattle.disco_history.specs.declared.change.Change.{Change}
 use Rattle.disco_history.specs.Hash.{hash}
-use Rattle.disco_history.specs.Mentions.{delta, mention_of}
+use Rattle.disco_history.specs.Mentions.{delta}
 use Rattle.disco_history.specs.Registry.{reg}
 use Rattle.disco_history.proofs.Sets.{values-reg}
 use Rattle.disco_index.specs.Tally.{rows_of}
 use Rattle.disco_queue.specs.Timed.{changes}
 use Rattle.disco_wire.specs.Meaning.{meant}
 use Rattle.disco_wire.specs.declared.wire.Shape.TheVariants.{Many}
-use Rattle.disco_writer.specs.Rows.{entries_of}
+use Rattle.disco_writer.specs.Rows.{entries_of, mentions_in}
 use Rattle.disco_writer.specs.Trees.{document_tree}
 use Rattle.disco_writer.proofs.delta.write_delta.Goals as goal
 
@@ -26,6 +26,6 @@ returns-clause-written c = λ h stands keeps.
     let code : c.in_ok-hash.hash ≡ hash (values (reg hs)) =
     c.in_ok-hash.ensures.text (rows_of c.args.registry.now.held) c.requires ∙ ap (λ (m : FinMap key_cmp Entry). hash (rows_of m)) stands.held ∙ ap hash (sym (values-reg hs)) in
     let at : c.version.result ≡ length hs = c.version.ensures.version ∙ stands.version in (
-      c.in_ok-many_text.ensures.text ∙ (λ i. compact_text (document_tree (same i) (code i) (at i))),
-      c.in_ok-many_text.ensures.means ∙ (λ i. Ok (meant Many (Some (code i)) (Some (at i)) (map mention_of (same i)))),
+      c.in_ok-many_text.ensures.text ∙ (λ i. compact_text (document_tree c.args.form (same i) (code i) (at i))),
+      c.in_ok-many_text.ensures.means ∙ (λ i. Ok (meant Many (Some (code i)) (Some (at i)) (mentions_in c.args.form (same i)))),
     )

@@ -26,4 +26,4 @@ returns-clause-written c = λ h stands.
     let same = c.of_app-held.ensures ∙ ap (λ (m : FinMap key_cmp Entry). filter (is_of_app name) (values m)) stands.held ∙ sym (values-said_restrict h (of_app name)) in
     let some : 0 < length held = grind (arith, nat_tests, c.is_empty.ensures, c.if-is_empty.false) in
     let count : length (entries_of held) ≡ length held = length-map held entry_of in
-    some_written (of_app name) h (entries_of held) same (length h) _ refl (some_there (of_app name) h (entries_of held) same (omega (arith, some, count))) c.in_ok-app_text.ensures.text c.in_ok-app_text.ensures.means
+    some_written (of_app name) h (entries_of held) same c.args.form (length h) _ refl (some_there (of_app name) h (entries_of held) same (omega (arith, some, count))) c.in_ok-app_text.ensures.text c.in_ok-app_text.ensures.means

@@ -1,11 +1,10 @@
-use Rattle.std.proofs.Common.{◌≡◌, ◌<◌, List, ℕ, Some, Ok, length, map, ap, ◌∙◌, arith}
+use Rattle.std.proofs.Common.{◌≡◌, ◌<◌, List, ℕ, Some, Ok, length, ap, ◌∙◌, arith}
 use Rattle.std.proofs.lemmas.Bool.Decides.{nat_tests}
 use Rattle.serde_json.specs.Written.{compact_text}
 use Rattle.disco_history.specs.Hash.{hash}
-use Rattle.disco_history.specs.Mentions.{mention_of}
 use Rattle.disco_wire.specs.Meaning.{meant}
 use Rattle.disco_wire.specs.declared.wire.Shape.TheVariants.{Many}
-use Rattle.disco_writer.specs.Rows.{entries_of, rows_in}
+use Rattle.disco_writer.specs.Rows.{entries_of, mentions_in, rows_in}
 use Rattle.disco_writer.specs.Trees.{document_tree}
 use Rattle.disco_writer.proofs.document.write_some.Goals as goal
 
@@ -15,6 +14,6 @@ returns-clause-written c =
     let some : 0 < length c.args.held.now = grind (arith, nat_tests, c.is_empty.ensures, c.if-is_empty.false) in
     let code : c.in_ok-hash.hash ≡ hash (rows_in es) = c.in_ok-hash.ensures.text (rows_in es) c.count.ensures in (
       some,
-      c.in_ok-many_text.ensures.text ∙ ap (λ (t : List ℕ). compact_text (document_tree es t c.args.version)) code,
-      c.in_ok-many_text.ensures.means ∙ ap (λ (t : List ℕ). Ok (meant Many (Some t) (Some c.args.version) (map mention_of es))) code,
+      c.in_ok-many_text.ensures.text ∙ ap (λ (t : List ℕ). compact_text (document_tree c.args.form es t c.args.version)) code,
+      c.in_ok-many_text.ensures.means ∙ ap (λ (t : List ℕ). Ok (meant Many (Some t) (Some c.args.version) (mentions_in c.args.form es))) code,
     )

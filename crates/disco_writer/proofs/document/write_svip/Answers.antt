@@ -17,4 +17,4 @@ returns-clause-written c = λ h stands.
     let es = entries_of c.as_slice.result.now in
     let same : es ≡ mentioned (of_secure_vip svip) h =
     ap entries_of c.as_slice.ensures.value ∙ c.in_ok-held.ensures ∙ ap (λ (m : FinMap key_cmp Entry). filter (λ (e : Entry). asks_for (of_secure_vip svip) e.0) (values m)) stands.held ∙ sym (values-said_restrict h (of_secure_vip svip)) in
-    many_written _ (of_secure_vip svip) h es c.version.result _ c.in_ok-write_some.field-0 same (c.version.ensures.version ∙ stands.version) (sym (length-map c.as_slice.result.now entry_of)) refl refl refl c.in_ok-write_some.ensures.written
+    many_written _ c.args.form (of_secure_vip svip) h es c.version.result _ c.in_ok-write_some.field-0 same (c.version.ensures.version ∙ stands.version) (sym (length-map c.as_slice.result.now entry_of)) refl refl refl c.in_ok-write_some.ensures.written

@@ -25,4 +25,4 @@ returns-clause-written c = λ h stands.
     let keys = under_vip_law c.args.vips.now held (reg h) vip c.requires (λ k. sym (get-said_reg h k) ∙ ap (λ (m : FinMap key_cmp Entry). first_of (get m k)) (sym stands.held)) in
     let same : es ≡ mentioned (of_vip vip) h =
     ap entries_of c.as_slice.ensures.value ∙ c.in_ok-held.ensures.held ∙ ap (λ (m : FinMap key_cmp Entry). filter_map (get m) (under c.args.vips.now vip)) stands.held ∙ ap (λ (ks : List Key). filter_map (get (said h (reg h))) ks) keys ∙ found-restrict h (of_vip vip) in
-    many_written _ (of_vip vip) h es c.version.result _ c.in_ok-write_some.field-0 same (c.version.ensures.version ∙ stands.version) (sym (length-map c.as_slice.result.now entry_of)) refl refl refl c.in_ok-write_some.ensures.written
+    many_written _ c.args.form (of_vip vip) h es c.version.result _ c.in_ok-write_some.field-0 same (c.version.ensures.version ∙ stands.version) (sym (length-map c.as_slice.result.now entry_of)) refl refl refl c.in_ok-write_some.ensures.written

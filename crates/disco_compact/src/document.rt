@@ -1,0 +1,38 @@
+//! Documents in the compact form.
+ghost use Rattle.std.specs.Prelude.{◌≡◌, IfErr, IfOk, List, false, option_map, true};
+ghost use Rattle.disco_instance.specs.declared.fault.Fault.TheVariants.{OutOfMemory};
+ghost use Rattle.disco_instance.specs.declared.form.Form.TheVariants.{Compact};
+ghost use Rattle.disco_history.specs.Change.{Entry};
+ghost use Rattle.disco_index.specs.Tally.{tally_in};
+ghost use Rattle.disco_index.specs.Vips.{IsIndexOf};
+ghost use Rattle.disco_queue.specs.Queue.{Keeps};
+ghost use Rattle.disco_queue.specs.Timed.{Timed, changes};
+ghost use Rattle.disco_registry.specs.State.{StandsFor};
+ghost use Rattle.disco_writer.specs.Documents.{IsDeltaWritten, IsWritten, asked_by, is_delta};
+
+use disco_index::{Counts, VipIndex};
+use disco_instance::{Fault, Form};
+use disco_queue::ChangedQueue;
+use disco_registry::Registry;
+use disco_writer::{Query, write_document};
+use std::alloc::Global;
+
+/// The document that a query asks for in the compact form, as [`write_document`] gives it.
+pub fn write_compact(
+    alloc: Global,
+    query: &Query,
+    registry: &Registry,
+    vips: &VipIndex,
+    queue: &ChangedQueue,
+    counts: &Counts,
+) -> Result<Option<Vec<u8>>, Fault>
+    requires counts { counts.now ≡ tally_in registry.now.held }
+    requires vips { IsIndexOf vips.now registry.now.held }
+    ensures written { IfOk result (λ o. is_delta query.now ≡ false
+        → (h : List Entry) → StandsFor registry.now h → IsWritten Compact (asked_by query.now) h (option_map (λ v. v.items) o)) }
+    ensures delta { IfOk result (λ o. is_delta query.now ≡ true
+        → (h : List Timed) → StandsFor registry.now (changes h) → Keeps queue.now h → IsDeltaWritten Compact (changes h) queue.now.base (option_map (λ v. v.items) o)) }
+    ensures memory { IfErr result (λ e. e ≡ OutOfMemory) }
+{
+    write_document(alloc, Form::Compact, query, registry, vips, queue, counts)
+}

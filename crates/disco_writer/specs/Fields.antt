@@ -1,0 +1,75 @@
+-- The members of an instance in the groups in which they are written. Nothing here need be believed.
+use Rattle.std.specs.Prelude.{ℕ, List, [], ◌∷◌, ◌++◌, map, codes}
+use Rattle.serde_json.specs.Data.{Data, string}
+use Rattle.disco_instance.specs.Action.{action_name}
+use Rattle.disco_instance.specs.Row.{LeaseNumbers, Row}
+use Rattle.disco_instance.specs.Status.{status_name}
+use Rattle.disco_instance.specs.declared.data_center.DataCenter.{DataCenter}
+use Rattle.disco_instance.specs.declared.port.Port.{Port}
+use Rattle.disco_history.specs.Change.{Entry}
+use Rattle.disco_writer.specs.Trees.{truth, whole, digits, port_tree, data_center_tree, lease_tree, metadata_tree}
+
+abbrev pub Fields : Type 0
+Fields = List (List ℕ × Data)
+
+abbrev pub port_fields : Port → Fields
+port_fields p = (codes "$", whole p.number) ∷ (codes "@enabled", truth p.enabled) ∷ []
+
+abbrev pub center_fields : DataCenter → Fields
+center_fields c = (codes "@class", string c.class) ∷ (codes "name", string c.name) ∷ []
+
+abbrev pub lease_fields : LeaseNumbers → Fields
+lease_fields l = (codes "durationInSecs", whole l.duration_secs) ∷ (codes "evictionTimestamp", whole l.eviction) ∷ (codes "lastRenewalTimestamp", whole l.last_renewal)
+    ∷ (codes "registrationTimestamp", whole l.registration) ∷ (codes "renewalIntervalInSecs", whole l.renewal_interval_secs) ∷ (codes "serviceUpTimestamp", whole l.service_up) ∷ []
+
+abbrev pub entry_fields : List (List ℕ × List ℕ) → Fields
+entry_fields es = map (λ e. (e.0, string e.1)) es
+
+-- ---- groups of both forms
+
+abbrev pub first_fields : Entry → Fields
+first_fields e = (codes "actionType", string (action_name e.1)) ∷ (codes "app", string e.0.key.app) ∷ []
+
+abbrev pub center_field : Row → Fields
+center_field r = (codes "dataCenterInfo", data_center_tree r.data_center) ∷ []
+
+abbrev pub host_fields : Row → Fields
+host_fields r = (codes "hostName", string r.host_name) ∷ (codes "instanceId", string r.key.id) ∷ (codes "ipAddr", string r.ip_addr) ∷ []
+
+abbrev pub moment_fields : Row → Fields
+moment_fields r = (codes "lastDirtyTimestamp", digits r.last_dirty) ∷ (codes "lastUpdatedTimestamp", digits r.last_updated) ∷ []
+
+abbrev pub state_fields : Row → Fields
+state_fields r = (codes "overriddenStatus", string (status_name r.overridden_status)) ∷ (codes "port", port_tree r.port) ∷ (codes "securePort", port_tree r.secure_port)
+    ∷ (codes "secureVipAddress", string r.secure_vip_address) ∷ (codes "status", string (status_name r.status)) ∷ []
+
+abbrev pub vip_field : Row → Fields
+vip_field r = (codes "vipAddress", string r.vip_address) ∷ []
+
+-- ---- the full form
+
+abbrev pub to_urls : Entry → Fields
+to_urls e = let r = e.0 in first_fields e ++ ((codes "countryId", whole r.country_id) ∷ (center_field r ++ ((codes "healthCheckUrl", string r.health_check_url) ∷ (codes "homePageUrl", string r.home_page_url) ∷ [])))
+
+abbrev pub to_moments : Row → Fields
+to_moments r = host_fields r ++ ((codes "isCoordinatingDiscoveryServer", truth r.is_coordinating) ∷ moment_fields r)
+
+abbrev pub to_metadata : Row → Fields
+to_metadata r = (codes "leaseInfo", lease_tree r.lease) ∷ (codes "metadata", metadata_tree r.metadata) ∷ []
+
+abbrev pub to_vips : Row → Fields
+to_vips r = state_fields r ++ ((codes "statusPageUrl", string r.status_page_url) ∷ vip_field r)
+
+abbrev pub full_fields : Entry → Fields
+full_fields e = to_urls e ++ (to_moments e.0 ++ (to_metadata e.0 ++ to_vips e.0))
+
+-- ---- the compact form
+
+abbrev pub to_hosts : Entry → Fields
+to_hosts e = first_fields e ++ (center_field e.0 ++ host_fields e.0)
+
+abbrev pub from_moments : Row → Fields
+from_moments r = moment_fields r ++ (state_fields r ++ vip_field r)
+
+abbrev pub compact_fields : Entry → Fields
+compact_fields e = to_hosts e ++ from_moments e.0
