@@ -4,3 +4,4 @@ pub mod Loads
 pub mod Query
 pub mod Input
 pub mod Answers
+pub mod Steps

@@ -1,6 +1,6 @@
 -- Words of a line, with one space between them.
-use Rattle.std.specs.Prelude.{ℕ, Bool, List, Option, Some, None, ◌==◌, if◌then◌else◌, option_and_then, nat_lt, length}
-use Rattle.std.specs.List.{before_first, after_first, position_or_len}
+use Rattle.std.specs.Prelude.{ℕ, Bool, List, Option, Some, None, ◌==◌, if◌then◌else◌, option_and_then, nat_lt}
+use Rattle.std.specs.List.{join_with_byte, slice_split}
 use Rattle.std.specs.Str.{is_utf8}
 use Rattle.percent_encoding.specs.Percent.{percent_decode}
 use Rattle.disco_instance.specs.Members.{digits_number}
@@ -8,13 +8,13 @@ use Rattle.disco_instance.specs.Members.{digits_number}
 abbrev pub is_space : ℕ → Bool
 is_space b = b == 32
 
--- what stands before the first space, or all where there is none
-abbrev pub first_word : List ℕ → List ℕ
-first_word line = before_first is_space line
+-- the words of a line: what stands between its spaces, and before the first and behind the last
+abbrev pub words : List ℕ → List (List ℕ)
+words line = slice_split is_space line
 
--- what stands behind the first space, where there is one
-abbrev pub after_word : List ℕ → Option (List ℕ)
-after_word line = if nat_lt (position_or_len is_space line) (length line) then Some (after_first is_space line) else None
+-- words as they stand in their line
+abbrev pub joined : List (List ℕ) → List ℕ
+joined parts = join_with_byte 32 parts
 
 -- the text that a word spells: an escape stands for its byte, and bytes that are not UTF-8 spell none
 abbrev pub text_of_word : List ℕ → Option (List ℕ)

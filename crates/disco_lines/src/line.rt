@@ -1,12 +1,12 @@
 //! The event that a line means. `None` stands for a line that can't be read.
-ghost use Rattle.std.specs.Prelude.{◌≡◌, IfOk, IfErr, option_map};
+ghost use Rattle.std.specs.Prelude.{◌≡◌, IfOk, IfErr, Some};
 ghost use Rattle.disco_instance.specs.declared.fault.Fault.TheVariants.{OutOfMemory};
-ghost use Rattle.disco_lines.specs.Lines.{behind_target, cancellation, cleaning, event_of, metadata_change, override_removal, registration, renewal, showing, status_change, taking, target};
+ghost use Rattle.disco_lines.specs.Lines.{cancellation, cleaning, event_at, event_named, event_of, event_of_instance, metadata_change, override_removal, registration, renewal, showing, status_change, taking};
 ghost use Rattle.disco_lines.specs.Words.{client_of_word, moment_of_word};
 
-use crate::load::{last_text, load_of};
+use crate::load::load_of;
 use crate::query::entries_of_query;
-use crate::words::{split_word, text_of_word};
+use crate::words::{Words, text_of_word};
 use disco_instance::{Bytes, Fault, Text, number_of_digits};
 use disco_world::Event;
 use std::alloc::Global;
@@ -32,24 +32,27 @@ pub(crate) fn event_of(alloc: Global, line: &[u8]) -> Result<Option<Event>, Faul
     ensures value { IfOk result (λ found. found ≡ event_of line.now) }
     ensures memory { IfErr result (λ e. e ≡ OutOfMemory) }
 {
-    let (keyword, Some(rest)) = split_word(line) else {
+    let Some((keyword, words)) = Words::of(line).split() else {
         return Ok(None);
     };
-    let Some(keyword) = text_of_word(alloc, keyword)? else {
-        return Ok(None);
-    };
-    match keyword.as_str() {
-        "register" => register_of(alloc, rest),
-        "cancel" => cancel_of(alloc, rest),
-        "renew" => renew_of(alloc, rest),
-        "status" => status_of(alloc, rest),
-        "unstatus" => unstatus_of(alloc, rest),
-        "metadata" => metadata_of(alloc, rest),
-        "clean" => clean_of(alloc, rest),
-        "load" => load_of(alloc, rest),
-        "take" => take_of(alloc, rest),
-        "show" => show_of(alloc, rest),
-        _ => Ok(None),
+    match text_of_word(alloc, keyword)? {
+        Some(keyword) => event_named(alloc, keyword.as_str(), words),
+        None => Ok(None),
+    }
+}
+
+/// What a keyword and the words behind it mean.
+fn event_named(alloc: Global, keyword: &str, words: Words) -> Result<Option<Event>, Fault>
+    ensures value { IfOk result (λ found. found ≡ event_named keyword.now words.entry) }
+    ensures memory { IfErr result (λ e. e ≡ OutOfMemory) }
+{
+    match keyword {
+        "register" => register_of(alloc, words),
+        "clean" => clean_of(alloc, words),
+        "load" => load_of(alloc, words),
+        "take" => take_of(alloc, words),
+        "show" => show_of(alloc, words),
+        _ => event_of_instance(alloc, keyword, words),
     }
 }
 
@@ -63,16 +66,20 @@ fn moment_of_word(alloc: Global, word: &[u8]) -> Result<Option<u64>, Fault>
     }
 }
 
-fn register_of(alloc: Global, words: &[u8]) -> Result<Option<Event>, Fault>
-    ensures value { IfOk result (λ found. found ≡ registration words.now) }
+fn register_of(alloc: Global, words: Words) -> Result<Option<Event>, Fault>
+    ensures value { IfOk result (λ found. found ≡ registration words.entry) }
     ensures memory { IfErr result (λ e. e ≡ OutOfMemory) }
 {
-    let (now, Some(rest)) = split_word(words) else {
+    let Some((now, words)) = words.split() else {
         return Ok(None);
     };
-    let (app, Some(json)) = split_word(rest) else {
+    let Some((app, words)) = words.split() else {
         return Ok(None);
     };
+    if words.is_empty() {
+        return Ok(None);
+    }
+    let json = words.rest();
     let Some(now) = moment_of_word(alloc, now)? else {
         return Ok(None);
     };
@@ -83,15 +90,18 @@ fn register_of(alloc: Global, words: &[u8]) -> Result<Option<Event>, Fault>
     Ok(Some(Event::Register { now, app, json }))
 }
 
-/// The moment, the app and the id at the head of the words.
-fn target_of(alloc: Global, words: &[u8]) -> Result<Option<(u64, Text, Text)>, Fault>
-    ensures value { IfOk result (λ found. found ≡ target words.now) }
+/// What a keyword means behind which a moment, an app and an id stand.
+fn event_of_instance(alloc: Global, keyword: &str, words: Words) -> Result<Option<Event>, Fault>
+    ensures value { IfOk result (λ found. found ≡ event_of_instance keyword.now words.entry) }
     ensures memory { IfErr result (λ e. e ≡ OutOfMemory) }
 {
-    let (now, Some(rest)) = split_word(words) else {
+    let Some((now, words)) = words.split() else {
         return Ok(None);
     };
-    let (app, Some(rest)) = split_word(rest) else {
+    let Some((app, words)) = words.split() else {
+        return Ok(None);
+    };
+    let Some((id, words)) = words.split() else {
         return Ok(None);
     };
     let Some(now) = moment_of_word(alloc, now)? else {
@@ -100,102 +110,123 @@ fn target_of(alloc: Global, words: &[u8]) -> Result<Option<(u64, Text, Text)>, F
     let Some(app) = text_of_word(alloc, app)? else {
         return Ok(None);
     };
-    let Some(id) = text_of_word(alloc, split_word(rest).0)? else {
+    let Some(id) = text_of_word(alloc, id)? else {
         return Ok(None);
     };
-    Ok(Some((now, app, id)))
+    event_at(alloc, keyword, now, app, id, words)
 }
 
-/// What follows the space behind the third word.
-fn behind_target(words: &[u8]) -> Option<&[u8]>
-    ensures { option_map (λ rest. rest.now) result ≡ behind_target words.now }
-{
-    let (_, Some(rest)) = split_word(words) else {
-        return None;
-    };
-    let (_, Some(rest)) = split_word(rest) else {
-        return None;
-    };
-    split_word(rest).1
-}
-
-fn cancel_of(alloc: Global, words: &[u8]) -> Result<Option<Event>, Fault>
-    ensures value { IfOk result (λ found. found ≡ cancellation words.now) }
+/// What a keyword means for an instance, with the words behind its id.
+fn event_at(
+    alloc: Global,
+    keyword: &str,
+    now: u64,
+    app: Text,
+    id: Text,
+    words: Words,
+) -> Result<Option<Event>, Fault>
+    ensures value { IfOk result (λ found. found ≡ event_at keyword.now now app id words.entry) }
     ensures memory { IfErr result (λ e. e ≡ OutOfMemory) }
 {
-    if behind_target(words).is_some() {
+    match keyword {
+        "cancel" => Ok(cancel_of(now, app, id, words)),
+        "renew" => Ok(renew_of(now, app, id, words)),
+        "status" => status_of(alloc, now, app, id, words),
+        "unstatus" => unstatus_of(alloc, now, app, id, words),
+        "metadata" => metadata_of(alloc, now, app, id, words),
+        _ => Ok(None),
+    }
+}
+
+fn cancel_of(now: u64, app: Text, id: Text, words: Words) -> Option<Event>
+    ensures { result ≡ cancellation now app id words.entry }
+{
+    match words.split() {
+        None => Some(Event::Cancel { now, app, id }),
+        Some(_) => None,
+    }
+}
+
+fn renew_of(now: u64, app: Text, id: Text, words: Words) -> Option<Event>
+    ensures { result ≡ renewal now app id words.entry }
+{
+    match words.split() {
+        None => Some(Event::Renew { now, app, id }),
+        Some(_) => None,
+    }
+}
+
+fn status_of(
+    alloc: Global,
+    now: u64,
+    app: Text,
+    id: Text,
+    words: Words,
+) -> Result<Option<Event>, Fault>
+    ensures value { IfOk result (λ found. found ≡ status_change now app id words.entry) }
+    ensures memory { IfErr result (λ e. e ≡ OutOfMemory) }
+{
+    let Some((status, words)) = words.split() else {
+        return Ok(None);
+    };
+    if words.split().is_some() {
         return Ok(None);
     }
-    let Some((now, app, id)) = target_of(alloc, words)? else {
-        return Ok(None);
-    };
-    Ok(Some(Event::Cancel { now, app, id }))
+    match text_of_word(alloc, status)? {
+        Some(status) => Ok(Some(Event::SetStatus {
+            now,
+            app,
+            id,
+            status,
+        })),
+        None => Ok(None),
+    }
 }
 
-fn renew_of(alloc: Global, words: &[u8]) -> Result<Option<Event>, Fault>
-    ensures value { IfOk result (λ found. found ≡ renewal words.now) }
+fn unstatus_of(
+    alloc: Global,
+    now: u64,
+    app: Text,
+    id: Text,
+    words: Words,
+) -> Result<Option<Event>, Fault>
+    ensures value { IfOk result (λ found. found ≡ override_removal now app id words.entry) }
     ensures memory { IfErr result (λ e. e ≡ OutOfMemory) }
 {
-    if behind_target(words).is_some() {
+    let Some((status, words)) = words.split() else {
+        let status = None;
+        return Ok(Some(Event::DropStatus {
+            now,
+            app,
+            id,
+            status,
+        }));
+    };
+    if words.split().is_some() {
         return Ok(None);
     }
-    let Some((now, app, id)) = target_of(alloc, words)? else {
-        return Ok(None);
-    };
-    Ok(Some(Event::Renew { now, app, id }))
+    match text_of_word(alloc, status)? {
+        Some(status) => Ok(Some(Event::DropStatus {
+            now,
+            app,
+            id,
+            status: Some(status),
+        })),
+        None => Ok(None),
+    }
 }
 
-fn status_of(alloc: Global, words: &[u8]) -> Result<Option<Event>, Fault>
-    ensures value { IfOk result (λ found. found ≡ status_change words.now) }
+fn metadata_of(
+    alloc: Global,
+    now: u64,
+    app: Text,
+    id: Text,
+    words: Words,
+) -> Result<Option<Event>, Fault>
+    ensures value { IfOk result (λ found. found ≡ metadata_change now app id words.entry) }
     ensures memory { IfErr result (λ e. e ≡ OutOfMemory) }
 {
-    let Some(rest) = behind_target(words) else {
-        return Ok(None);
-    };
-    let Some((now, app, id)) = target_of(alloc, words)? else {
-        return Ok(None);
-    };
-    let Some(status) = last_text(alloc, rest)? else {
-        return Ok(None);
-    };
-    Ok(Some(Event::SetStatus {
-        now,
-        app,
-        id,
-        status,
-    }))
-}
-
-fn unstatus_of(alloc: Global, words: &[u8]) -> Result<Option<Event>, Fault>
-    ensures value { IfOk result (λ found. found ≡ override_removal words.now) }
-    ensures memory { IfErr result (λ e. e ≡ OutOfMemory) }
-{
-    let Some((now, app, id)) = target_of(alloc, words)? else {
-        return Ok(None);
-    };
-    let status = match behind_target(words) {
-        None => None,
-        Some(rest) => match last_text(alloc, rest)? {
-            Some(status) => Some(status),
-            None => return Ok(None),
-        },
-    };
-    Ok(Some(Event::DropStatus {
-        now,
-        app,
-        id,
-        status,
-    }))
-}
-
-fn metadata_of(alloc: Global, words: &[u8]) -> Result<Option<Event>, Fault>
-    ensures value { IfOk result (λ found. found ≡ metadata_change words.now) }
-    ensures memory { IfErr result (λ e. e ≡ OutOfMemory) }
-{
-    let Some((now, app, id)) = target_of(alloc, words)? else {
-        return Ok(None);
-    };
-    let entries = entries_of_query(alloc, behind_target(words).unwrap_or(&[]))?;
+    let entries = entries_of_query(alloc, words.rest())?;
     Ok(Some(Event::Metadata {
         now,
         app,
@@ -204,13 +235,16 @@ fn metadata_of(alloc: Global, words: &[u8]) -> Result<Option<Event>, Fault>
     }))
 }
 
-fn clean_of(alloc: Global, words: &[u8]) -> Result<Option<Event>, Fault>
-    ensures value { IfOk result (λ found. found ≡ cleaning words.now) }
+fn clean_of(alloc: Global, words: Words) -> Result<Option<Event>, Fault>
+    ensures value { IfOk result (λ found. found ≡ cleaning words.entry) }
     ensures memory { IfErr result (λ e. e ≡ OutOfMemory) }
 {
-    let (now, None) = split_word(words) else {
+    let Some((now, words)) = words.split() else {
         return Ok(None);
     };
+    if words.split().is_some() {
+        return Ok(None);
+    }
     match moment_of_word(alloc, now)? {
         Some(now) => Ok(Some(Event::Clean { now })),
         None => Ok(None),
@@ -228,16 +262,19 @@ fn client_of_word(alloc: Global, word: &[u8]) -> Result<Option<u32>, Fault>
     }
 }
 
-fn take_of(alloc: Global, words: &[u8]) -> Result<Option<Event>, Fault>
-    ensures value { IfOk result (λ found. found ≡ taking words.now) }
+fn take_of(alloc: Global, words: Words) -> Result<Option<Event>, Fault>
+    ensures value { IfOk result (λ found. found ≡ taking words.entry) }
     ensures memory { IfErr result (λ e. e ≡ OutOfMemory) }
 {
-    let (client, Some(rest)) = split_word(words) else {
+    let Some((client, words)) = words.split() else {
         return Ok(None);
     };
-    let (event, None) = split_word(rest) else {
+    let Some((event, words)) = words.split() else {
         return Ok(None);
     };
+    if words.split().is_some() {
+        return Ok(None);
+    }
     let Some(client) = client_of_word(alloc, client)? else {
         return Ok(None);
     };
@@ -247,13 +284,16 @@ fn take_of(alloc: Global, words: &[u8]) -> Result<Option<Event>, Fault>
     }
 }
 
-fn show_of(alloc: Global, words: &[u8]) -> Result<Option<Event>, Fault>
-    ensures value { IfOk result (λ found. found ≡ showing words.now) }
+fn show_of(alloc: Global, words: Words) -> Result<Option<Event>, Fault>
+    ensures value { IfOk result (λ found. found ≡ showing words.entry) }
     ensures memory { IfErr result (λ e. e ≡ OutOfMemory) }
 {
-    let (client, None) = split_word(words) else {
+    let Some((client, words)) = words.split() else {
         return Ok(None);
     };
+    if words.split().is_some() {
+        return Ok(None);
+    }
     match client_of_word(alloc, client)? {
         Some(client) => Ok(Some(Event::Show { client })),
         None => Ok(None),
