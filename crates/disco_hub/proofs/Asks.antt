@@ -239,6 +239,18 @@ module _ (s : registry.State) (v w : Leases) (p : Past) (now : ℕ) (c : Option 
   count_on (drop_status k text) is step_is moves = stays_count k (drops_status (status_given text) (record_at s.held k) now c is) step_is moves
   count_on (add_metadata k es) is step_is moves = let comes = adds_metadata (record_at s.held k) es now k c (own k) is in change_count (comes.row, Added) k comes.change moves
 
+  closed_on : (o : Option Entry) (k : Key) → Moves o k step now v w → w.closed ≡ v.closed
+  closed_on None k moves = moves.closed
+  closed_on (Some e) k moves = moves.closed
+
+  -- an operation closes no minute
+  same_closed : (most : ℕ) (ask : Ask) → p.closed ≡ (with_done most p now ask c).closed
+  same_closed most ask = change_closed most c
+    where
+      change_closed : (most : ℕ) (o : Option Entry) → p.closed ≡ (with_change most p now o).closed
+      change_closed most None = refl
+      change_closed most (Some e) = refl
+
   -- the leases are those of what has happened with what was asked
   pub leases_on : (most : ℕ) (ask : Ask) (k : Key) (t : registry.State) → registry.StandsFor t (history (with_done most p now ask c)) → AreLeased t.held w → accepts s ask now ≡ Ok c → k ≡ asked_key ask → step ≡ step_for ask → Moves c k step now v w
       → AreLeasesOf w (with_done most p now ask c)
@@ -249,6 +261,7 @@ module _ (s : registry.State) (v w : Leases) (p : Past) (now : ℕ) (c : Option 
         durations = λ q. leased q ∙ ap (λ m. rows_last (record_at m q)) after.held ∙ ap rows_last (get-said_reg (history (with_done most p now ask c)) q);
         marks = marks_on ask does moves_it;
         renewals = count_on ask does step_is moves_it ∙ ap (λ n. renewals_after n ask) agree.renewals;
+        closed = closed_on c k moves ∙ agree.closed ∙ same_closed most ask;
       }
 
 -- ---- a hub after what was asked
@@ -281,4 +294,5 @@ no_leases_of v is = record {
   durations = λ k. ap (λ (x : Leases). lasts (lease_at x k)) is ∙ ap (λ o. lasts (option_flatten o)) (get-empty key_cmp k) ∙ sym (ap rows_last (get-reg [] k));
   marks = λ k. ap (λ (x : Leases). mark_of (lease_at x k)) is ∙ ap (λ o. mark_of (option_flatten o)) (get-empty key_cmp k) ∙ sym (get-empty key_cmp k);
   renewals = ap (λ (x : Leases). x.renewals) is;
+  closed = ap (λ (x : Leases). x.closed) is;
 }

@@ -1,3 +1,5 @@
+mod Cancels
+mod Expiring
 mod Asks
 mod Ids
 mod Loads

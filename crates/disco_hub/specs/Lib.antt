@@ -1,3 +1,4 @@
+pub mod Expiry
 pub mod Moves
 pub mod Past
 pub mod Refusals

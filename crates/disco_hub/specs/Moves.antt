@@ -29,11 +29,13 @@ counted_by Touched n = n
 pub record GoesOn (k : Key) (step : Step) (now : ℕ) (old new : Leases) : Type 0 where
   pub leases : Sets k (option_map (extended now) (lease_at old k)) old new
   pub renewals : IsSome (lease_at old k) → new.renewals ≡ counted_by step old.renewals
+  pub closed : new.closed ≡ old.closed
 
 -- the change's key has the lease that the change gives
 pub record Follows (c : Entry) (now : ℕ) (old new : Leases) : Type 0 where
   pub leases : Sets (key_of c) (lease_by c now) old new
   pub renewals : new.renewals ≡ old.renewals
+  pub closed : new.closed ≡ old.closed
 
 -- the leases follow what is ready: its change, if there is one, else its step
 abbrev pub Moves : Option Entry → Key → Step → ℕ → Leases → Leases → Type 0

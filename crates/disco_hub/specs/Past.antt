@@ -1,26 +1,29 @@
 -- What has happened to a hub. Moments and durations are in milliseconds.
-use Rattle.std.specs.Prelude.{ℕ, ◌+◌, ◌*◌, List, [], ◌∷◌, ◌++◌, length, Option, Some, None}
-use Rattle.std.specs.FinMap.{FinMap, empty, get, insert, remove}
+use Rattle.std.specs.Prelude.{ℕ, ◌+◌, ◌*◌, List, [], ◌∷◌, ◌++◌, length, Option, Some, None, option_map}
+use Rattle.std.specs.FinMap.{FinMap, empty, get, insert, keys, len, remove}
 use Rattle.std.specs.Option.{option_map_or}
 use Rattle.disco_instance.specs.Key.{key_cmp}
 use Rattle.disco_instance.specs.declared.key.Key.{Key}
 use Rattle.disco_history.specs.Change.{Entry}
 use Rattle.disco_history.specs.Registry.{reg}
-use Rattle.disco_lease.specs.Leases.{counted}
+use Rattle.disco_lease.specs.Due.{taken}
+use Rattle.disco_lease.specs.Leases.{counted, no_minute}
+use Rattle.disco_lease.specs.declared.minute.Minute.{Minute}
 use Rattle.disco_queue.specs.Base.{base_after_change, base_after_cleaning}
 use Rattle.disco_queue.specs.Timed.{Timed, changes}
 use Rattle.disco_registry.specs.Op.{Ask, register, cancel, renew, set_status, drop_status, add_metadata}
 
--- the accepted changes with their moments, how many leading ones the queue dropped, the mark of each lease, and how many renewals were accepted
+-- the accepted changes with their moments, how many leading ones the queue dropped, the mark of each lease, how many renewals were accepted since the last closing of a minute, and what that closing kept
 pub record Past : Type 0 where
   pub timed : List Timed
   pub base : ℕ
   pub marks : FinMap key_cmp ℕ
   pub renewals : ℕ
+  pub closed : Minute
 
 -- nothing has happened so far
 abbrev pub nothing : Past
-nothing = record { timed = []; base = 0; marks = empty; renewals = 0 }
+nothing = record { timed = []; base = 0; marks = empty; renewals = 0; closed = no_minute }
 
 -- the changes without their moments
 abbrev pub history : Past → List Entry
@@ -56,3 +59,15 @@ with_done most p now ask c = record (with_change most p now c) { marks = marks_a
 -- the queue is cleaned of changes older than the retention
 abbrev pub cleaned : ℕ → Past → ℕ → Past
 cleaned retention p now = record p { base = base_after_cleaning now retention p.base p.timed }
+
+-- a minute is closed: the renewals since the last closing are kept and counted anew, and how many instances are held
+abbrev pub minute_closed : Past → Past
+minute_closed p = record p { renewals = 0; closed = record { renewals = p.renewals; instances = len (reg (history p)) } }
+
+-- when the lease of a key runs out, if it has one: its duration after its mark
+abbrev pub due_in : Past → Key → Option ℕ
+due_in p k = option_map (λ mark. mark + duration_at p k) (get p.marks k)
+
+-- the keys that one run takes at a moment, in their order
+abbrev pub taken_in : Past → ℕ → List Key
+taken_in p now = taken p.closed (due_in p) (keys p.marks) (len (reg (history p))) now

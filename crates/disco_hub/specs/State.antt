@@ -50,11 +50,12 @@ pub record Remembers (q : Queue) (p : Past) : Type 0 where
   pub kept : Keeps q p.timed
   pub base : q.base ≡ p.base
 
--- exactly the held instances have leases, each of its record's duration and with its mark, and each renewal was counted
+-- exactly the held instances have leases, each of its record's duration and with its mark, each renewal since the last closing was counted, and what that closing kept is kept
 pub record AreLeasesOf (v : Leases) (p : Past) : Type 0 where
   pub durations : (k : Key) → option_map (λ l. l.duration_secs) (lease_at v k) ≡ option_map (λ r. r.lease.duration_secs) (get (reg (history p)) k)
   pub marks : (k : Key) → option_map (λ l. l.mark) (lease_at v k) ≡ get p.marks k
   pub renewals : v.renewals ≡ p.renewals
+  pub closed : v.closed ≡ p.closed
 
 -- it holds what is left of what happened, keeps what is recent, and has the leases
 pub record StandsFor (s : State) (p : Past) : Type 0 where

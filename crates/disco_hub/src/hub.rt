@@ -1,5 +1,5 @@
 //! The hub: the registry and all that follows its changes.
-ghost use Rattle.std.specs.Prelude.{◌≡◌, ◌≢◌, ◌≤◌, List, IfErr, IfOk, OnErr, OnOk, Ok, Some, None, true, false, option_map};
+ghost use Rattle.std.specs.Prelude.{◌≡◌, ◌≢◌, ◌≤◌, List, IfErr, IfOk, OnErr, OnOk, Ok, Some, None, map, true, false, option_map};
 ghost use Rattle.std.specs.FinMap.{len};
 ghost use Rattle.disco_instance.specs.declared.fault.Fault.TheVariants.{OutOfMemory};
 ghost use Rattle.disco_history.specs.Change.{Entry, key_of, seen};
@@ -15,12 +15,14 @@ ghost use Rattle.disco_registry.specs.Op.{Ask, ask_of};
 ghost use Rattle.disco_registry.specs.State as registry;
 ghost use Rattle.disco_writer.specs.Documents.{IsDeltaWritten, IsWritten, asked_by, is_delta};
 ghost use Rattle.disco_cache.specs.Payloads.{IsTrue};
-ghost use Rattle.disco_hub.specs.Past.{Past, cleaned, history, nothing, with_done};
+ghost use Rattle.disco_hub.specs.Expiry.{Expires};
+ghost use Rattle.disco_hub.specs.Past.{Past, cleaned, history, minute_closed, nothing, taken_in, with_done};
 ghost use Rattle.disco_hub.specs.Refusals.{doc_of_id, doc_of_key, refusal_of, refusal_of_id};
 ghost use Rattle.disco_hub.specs.Moves.{Moves, OthersStay};
 ghost use Rattle.disco_hub.specs.State.{AddsNoPlaces, HasPlacesFor, HasRoomFor, IsFor, IsReady, IsSame, IsSwept, IsSweptAfter, StandsFor, change_in, moment_in, rules, rules_of};
 
 use crate::counts::count;
+use crate::expiry::{Expired, expire};
 use crate::leases::{Step, keep, step_of};
 use crate::recent::{remember, shared};
 use crate::settings::Settings;
@@ -30,7 +32,7 @@ use disco_compact::write_compact;
 use disco_history::Change;
 use disco_index::{Counts, VipIndex};
 use disco_instance::{Bytes, Fault, Form, Key};
-use disco_lease::LeaseBook;
+use disco_lease::{LeaseBook, Minute};
 use disco_queue::ChangedQueue;
 use disco_registry::{Applied, Op, Registry};
 use disco_writer::{Query, write_full};
@@ -275,6 +277,45 @@ impl Hub {
     {
         self.queue.clean(now, self.retention);
         self.queue.base()
+    }
+
+    /// Closes a minute: keeps how many renewals were accepted since the last closing, and how many
+    /// instances are held. Answers both. Takes no memory.
+    pub fn close_minute(&mut self) -> Minute
+        ensures kept { (p : Past) → StandsFor self.old p → result ≡ (minute_closed p).closed }
+        ensures registry { self.new.registry ≡ self.old.registry }
+        ensures rules { rules_of self.new ≡ rules_of self.old }
+        ensures history { (p : Past) → StandsFor self.old p → StandsFor self.new (minute_closed p) }
+    {
+        let instances = self.registry.len() as u64;
+        let renewals = self.leases.close_minute(instances);
+        Minute {
+            renewals,
+            instances,
+        }
+    }
+
+    /// The keys that one run takes at a moment in milliseconds: those whose leases have run out, the
+    /// earliest first, then by key, as far as 85 of 100 instances stay; none where too few renewals
+    /// came in the minute that was closed last. Refused only as `OutOfMemory`.
+    pub fn due(&self, now: u64) -> Result<Vec<&Key>, Fault>
+        ensures keys { IfOk result (λ found. (p : Past) → StandsFor self.now p → map (λ k. k.now) found.items ≡ taken_in p now) }
+        ensures memory { IfErr result (λ e. e ≡ OutOfMemory) }
+    {
+        Ok(
+            self.leases
+                .due(self.alloc, now, self.registry.len() as u64)?,
+        )
+    }
+
+    /// Cancels at a moment in milliseconds, one by one, the instances that [`Hub::due`] gives when it
+    /// begins. It stops before the first cancel that is refused, as `OutOfMemory` or
+    /// `VersionsSpent`; what it cancelled until then stays so.
+    pub fn expire(&mut self, now: u64) -> Expired
+        ensures history { Expires self.old self.new now (λ p. taken_in p now) result.gone result.stopped }
+        ensures rules { rules_of self.new ≡ rules_of self.old }
+    {
+        expire(self.alloc, self, now)
     }
 
     fn payload(&self, key: &DocKey, base: u64, text: Vec<u8>) -> Result<Arc<Payload, Global>, Fault>

@@ -32,6 +32,7 @@ fn start(leases: &mut LeaseBook, rec: &Record, now: u64)
     ensures lease { Sets rec.now.key (Some (marked rec.now.lease.duration_secs now)) leases.old leases.new }
     ensures there { lease_at leases.new rec.now.key ≡ Some (marked rec.now.lease.duration_secs now) }
     ensures renewals { leases.new.renewals ≡ leases.old.renewals }
+    ensures closed { leases.new.closed ≡ leases.old.closed }
 {
     leases.register(&rec.key, rec.lease.duration_secs, now);
 }
@@ -43,6 +44,7 @@ fn keep_going(leases: &mut LeaseBook, rec: &Record, now: u64)
     ensures lease { Sets rec.now.key (Some (extended now (marked rec.now.lease.duration_secs now))) leases.old leases.new }
     ensures there { lease_at leases.new rec.now.key ≡ Some (extended now (marked rec.now.lease.duration_secs now)) }
     ensures renewals { leases.new.renewals ≡ leases.old.renewals }
+    ensures closed { leases.new.closed ≡ leases.old.closed }
 {
     start(leases, rec, now);
     keep(leases, &rec.key, Step::Touched, now);
@@ -53,6 +55,7 @@ fn end(leases: &mut LeaseBook, key: &Key)
     ensures lease { Sets key.now None leases.old leases.new }
     ensures swept { IsFilled key.now leases.new }
     ensures renewals { leases.new.renewals ≡ leases.old.renewals }
+    ensures closed { leases.new.closed ≡ leases.old.closed }
 {
     let _ = leases.cancel(key);
     leases.sweep(key);

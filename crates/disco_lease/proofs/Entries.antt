@@ -15,7 +15,7 @@ abbrev Entries : Type 0
 Entries = List (Key × Option Lease)
 
 -- what a tree has at a key
-abbrev at_key : Entries → Key → Option (Option Lease)
+abbrev pub at_key : Entries → Key → Option (Option Lease)
 at_key es q = lookup (is_at (key_cmp q)) es
 
 abbrev seen_place : Option (Option Lease) → Option (Option leases.Lease)

@@ -1,2 +1,5 @@
+mod Collecting
+pub mod Due
 mod Entries
 mod Steps
+mod Ordered

@@ -4,19 +4,25 @@ use Rattle.std.specs.FinMap.{FinMap, empty, get}
 use Rattle.std.specs.Option.{option_flatten}
 use Rattle.disco_instance.specs.Key.{key_cmp, same_key}
 use Rattle.disco_instance.specs.declared.key.Key.{Key}
+use Rattle.disco_lease.specs.declared.minute.Minute.{Minute}
 
 -- how many seconds a lease lasts, and its mark, in milliseconds
 pub record Lease : Type 0 where
   pub duration_secs : ℕ
   pub mark : ℕ
 
--- a place for each of some keys, with a lease or empty, and the number of renewals so far
+-- a place for each of some keys, with a lease or empty, the number of renewals since the last closing of a minute, and what that closing kept
 pub record Leases : Type 0 where
   pub places : FinMap key_cmp (Option Lease)
   pub renewals : ℕ
+  pub closed : Minute
+
+-- what is kept before the first closing
+abbrev pub no_minute : Minute
+no_minute = record { renewals = 0; instances = 0 }
 
 abbrev pub no_leases : Leases
-no_leases = record { places = empty; renewals = 0 }
+no_leases = record { places = empty; renewals = 0; closed = no_minute }
 
 -- the lease of a key
 abbrev pub lease_at : Leases → Key → Option Lease
@@ -30,6 +36,7 @@ HasPlace v k = IsSome (get v.places k)
 pub record IsSame (old new : Leases) : Type 0 where
   pub leases : (q : Key) → lease_at new q ≡ lease_at old q
   pub renewals : new.renewals ≡ old.renewals
+  pub closed : new.closed ≡ old.closed
 
 -- each place stays
 abbrev pub KeepsPlaces : Leases → Leases → Type 0

@@ -1,8 +1,13 @@
--- What is stored, as plain data.
-use Rattle.std.specs.Prelude.{List, map, Option, option_map}
+-- What is stored, as plain data. Nothing here is to be believed: no public contract rests on it.
+use Rattle.std.specs.Borrow.{Bor}
+use Rattle.std.specs.Ordering.{eq_by_cmp, nat_cmp, ordering_then}
+use Rattle.std.specs.declared.cmp.Ordering.{Ordering}
+use Rattle.std.specs.Prelude.{ℕ, List, map, if◌then◌else◌, Option, Some, None, option_map}
+use Rattle.std.specs.List.{filter_map}
 use Rattle.std.specs.FinMap.{FinMap, from_entries}
 use Rattle.disco_instance.specs.Key.{key_cmp}
 use Rattle.disco_instance.specs.declared.key.Key.{Key}
+use Rattle.disco_lease.specs.Due.{due_cmp, due_moment, passed}
 use Rattle.disco_lease.specs.Leases as leases
 use Rattle.disco_lease.specs.declared.lease.Lease.{Lease}
 
@@ -12,3 +17,23 @@ seen l = record { duration_secs = l.duration_secs; mark = l.mark }
 -- the places that entries stand for
 abbrev pub seen_places : List (Key × Option Lease) → FinMap key_cmp (Option leases.Lease)
 seen_places es = from_entries (map (λ e. (e.0, option_map seen e.1)) es)
+
+-- the order in which they are stored
+abbrev pub stored_cmp : ℕ × Bor Key → ℕ × Bor Key → Ordering
+stored_cmp a b = ordering_then (nat_cmp a.0 b.0) (key_cmp a.1.now b.1.now)
+
+-- the due moments and keys that entries stand for
+abbrev pub seen_due : List ((ℕ × Bor Key) × Unit {0}) → FinMap due_cmp (Unit {0})
+seen_due es = from_entries (map (λ e. ((e.0.0, e.0.1.now), e.1)) es)
+
+-- of a place with a lease that has run out, its due moment and its key
+abbrev pub pair : ℕ → Key × Option Lease → Option ((ℕ × Key) × Unit {0})
+pair now e = option_map (λ m. ((m, e.0), tt)) (passed now (option_map due_moment (option_map seen e.1)))
+
+abbrev pub pairs : ℕ → List (Key × Option Lease) → List ((ℕ × Key) × Unit {0})
+pairs now es = filter_map (pair now) es
+
+-- what a pair has at a due moment and key, if it is there
+abbrev pub at_pair : ℕ × Key → Option ((ℕ × Key) × Unit {0}) → Option (Unit {0})
+at_pair q None = None
+at_pair q (Some e) = if eq_by_cmp due_cmp q e.0 then Some tt else None

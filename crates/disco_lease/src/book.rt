@@ -1,20 +1,26 @@
 //! The leases of all instances.
-ghost use Rattle.std.specs.Prelude.{◌≡◌, ◌↔◌, IfErr, None, OnErr, OnOk, Some, Err, option_map};
+ghost use Rattle.std.specs.Prelude.{◌≡◌, ◌↔◌, IfErr, IfOk, None, OnErr, OnOk, Some, Err, map, option_map};
 ghost use Rattle.disco_instance.specs.declared.fault.Fault.TheVariants.{NotFound, OutOfMemory};
+ghost use Rattle.std.specs.FinMap.{keys};
+ghost use Rattle.disco_lease.specs.Due.{due_at, taken};
 ghost use Rattle.disco_lease.specs.Leases.{HasPlace, IsFilled, IsSame, KeepsOtherPlaces, KeepsOthers, KeepsPlaces, Sets, counted, extended, lease_at, marked, no_leases};
 
 use crate::lease::Lease;
+use crate::minute::{Minute, most_taken};
 use crate::places::Places;
 use disco_instance::{Fault, Key};
 use std::alloc::Global;
 use std::marker::Model;
 
-/// The leases of all instances, and how many renewals there were. Moments are in milliseconds,
-/// durations in seconds.
+/// The leases of all instances, how many renewals were accepted since the last closing of a minute,
+/// and what that closing kept. Moments are in milliseconds, durations in seconds.
 #[derive(Drop)]
 pub struct LeaseBook {
     places: Places,
+    /// How many renewals were accepted since the last closing of a minute.
     renewals: u64,
+    /// What the last closing kept.
+    closed: Minute,
 }
 
 impl Model for LeaseBook {
@@ -26,7 +32,7 @@ impl Model for LeaseBook {
 
     ghost coded = { Prim.hlevel (codes, code) };
 
-    ghost view = { λ b. record { places = b.places; renewals = b.renewals } };
+    ghost view = { λ b. record { places = b.places; renewals = b.renewals; closed = b.closed } };
 }
 
 impl LeaseBook {
@@ -37,6 +43,7 @@ impl LeaseBook {
         LeaseBook {
             places: Places::new(alloc),
             renewals: 0,
+            closed: Minute::none(),
         }
     }
 
@@ -62,6 +69,7 @@ impl LeaseBook {
         ensures leases { Sets key.now (Some (marked duration_secs now)) self.old self.new }
         ensures places { KeepsPlaces self.old self.new }
         ensures renewals { self.new.renewals ≡ self.old.renewals }
+        ensures closed { self.new.closed ≡ self.old.closed }
     {
         self.places.put(key, Lease::marked(duration_secs, now));
     }
@@ -76,6 +84,7 @@ impl LeaseBook {
         ensures leases { OnOk result (Sets key.now (option_map (extended now) (lease_at self.old key.now)) self.old self.new) }
         ensures places { KeepsPlaces self.old self.new }
         ensures renewals { OnOk result (self.new.renewals ≡ counted self.old.renewals) }
+        ensures closed { self.new.closed ≡ self.old.closed }
     {
         self.touch(key, now)?;
         self.renewals = self.renewals.saturating_add(1);
@@ -92,6 +101,7 @@ impl LeaseBook {
         ensures leases { OnOk result (Sets key.now (option_map (extended now) (lease_at self.old key.now)) self.old self.new) }
         ensures places { KeepsPlaces self.old self.new }
         ensures renewals { self.new.renewals ≡ self.old.renewals }
+        ensures closed { self.new.closed ≡ self.old.closed }
     {
         let Some(lease) = self.places.lease(key) else {
             return Err(Fault::NotFound);
@@ -111,6 +121,7 @@ impl LeaseBook {
         ensures gone { OnOk result (HasPlace self.new key.now → ⊥) }
         ensures places { KeepsOtherPlaces key.now self.old self.new }
         ensures renewals { self.new.renewals ≡ self.old.renewals }
+        ensures closed { self.new.closed ≡ self.old.closed }
     {
         if self.places.lease(key).is_none() {
             return Err(Fault::NotFound);
@@ -129,5 +140,39 @@ impl LeaseBook {
             return;
         }
         self.places.close(key);
+    }
+
+    /// Closes a minute in which so many instances are held: keeps that number and how many renewals
+    /// were accepted since the last closing, and counts anew. Answers the renewals kept. Takes no
+    /// memory.
+    pub fn close_minute(&mut self, held: u64) -> u64
+        ensures renewals { result ≡ self.old.renewals }
+        ensures closed { self.new.closed ≡ record { renewals = self.old.renewals; instances = held } }
+        ensures anew { self.new.renewals ≡ 0 }
+        ensures places { self.new.places ≡ self.old.places }
+    {
+        let renewals = self.renewals;
+        self.closed = Minute {
+            renewals,
+            instances: held,
+        };
+        self.renewals = 0;
+        renewals
+    }
+
+    /// The keys of the leases that one run takes at a moment in milliseconds, where so many
+    /// instances are held: those that have run out, the earliest first, then by key, and no more of
+    /// them than leave 85 of 100 instances; none where too few renewals came in the minute that was
+    /// closed last. Refused only as `OutOfMemory`. A run that takes leases costs a pass over all.
+    pub fn due(&self, alloc: Global, now: u64, held: u64) -> Result<Vec<&Key>, Fault>
+        ensures keys { IfOk result (λ found. map (λ k. k.now) found.items ≡ taken self.now.closed (due_at self.now) (keys self.now.places) held now) }
+        ensures memory { IfErr result (λ e. e ≡ OutOfMemory) }
+    {
+        if !self.closed.lets_expire() {
+            return Ok(Vec::new(alloc));
+        }
+        let mut found = self.places.overdue(alloc, now)?;
+        found.truncate(most_taken(held) as usize);
+        Ok(found)
     }
 }

@@ -1,5 +1,6 @@
 //! A lease.
-ghost use Rattle.std.specs.Prelude.{◌≡◌};
+ghost use Rattle.std.specs.Prelude.{◌≡◌, ◌*◌, ◌<◌, ◌^◌};
+ghost use Rattle.disco_lease.specs.Due.{due_moment};
 ghost use Rattle.disco_lease.specs.Leases.{extended, marked};
 
 /// A lease: how many seconds it lasts, and its mark, in milliseconds.
@@ -7,6 +8,7 @@ ghost use Rattle.disco_lease.specs.Leases.{extended, marked};
 pub(crate) struct Lease {
     duration_secs: u32,
     mark: u128,
+    ghost mark_in_range: { mark < 2 ^ 65 },
 }
 
 impl Lease {
@@ -22,13 +24,27 @@ impl Lease {
         }
     }
 
+    /// How long it lasts, in milliseconds.
+    fn duration(self) -> u128
+        ensures { result ≡ self.duration_secs * 1000 }
+    {
+        u128::from(self.duration_secs) * 1000
+    }
+
     /// The lease with its mark one duration from now.
     pub(crate) fn extended(self, now: u64) -> Lease
         ensures { seen result ≡ extended now (seen self) }
     {
         Lease {
             duration_secs: self.duration_secs,
-            mark: u128::from(now) + u128::from(self.duration_secs) * 1000,
+            mark: u128::from(now) + self.duration(),
         }
+    }
+
+    /// When the lease runs out, in milliseconds.
+    pub(crate) fn due(self) -> u128
+        ensures { result ≡ due_moment (seen self) }
+    {
+        self.mark + self.duration()
     }
 }

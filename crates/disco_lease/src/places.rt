@@ -1,12 +1,14 @@
 //! Leases by key, with places that stand empty.
-ghost use Rattle.std.specs.Prelude.{◌≡◌, IsSome, None, OnErr, OnOk, Some, is_some, option_map};
+ghost use Rattle.std.specs.Prelude.{◌≡◌, IfOk, IsSome, None, OnErr, OnOk, Some, is_some, map, option_map};
 ghost use Rattle.std.specs.BTreeMap as tree;
 ghost use Rattle.std.specs.FinMap as finmap;
 ghost use Rattle.std.specs.Option.{option_flatten};
 ghost use Rattle.disco_instance.specs.Key.{key_cmp};
+ghost use Rattle.disco_lease.specs.Due.{due_moment, overdue};
 ghost use Rattle.disco_lease.specs.Seen.{seen};
 
 use crate::lease::Lease;
+use crate::overdue::overdue_keys;
 use disco_instance::Key;
 use std::alloc::{AllocError, Global};
 use std::collections::BTreeMap;
@@ -91,5 +93,13 @@ impl Places {
         ensures { self.new ≡ finmap.remove self.old key.now }
     {
         unset(&mut self.places, key);
+    }
+
+    /// The keys of the leases that have run out by a moment, by due moment and then by key. Costs a
+    /// pass over all leases, and a search in those that have run out for each of them.
+    pub(crate) fn overdue(&self, alloc: Global, now: u64) -> Result<Vec<&Key>, AllocError>
+        ensures { IfOk result (λ v. map (λ k. k.now) v.items ≡ map (λ d. d.1) (finmap.keys (overdue (λ k. option_map due_moment (option_flatten (finmap.get self.now k))) (finmap.keys self.now) now))) }
+    {
+        overdue_keys(alloc, &self.places, now)
     }
 }

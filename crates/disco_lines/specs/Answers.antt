@@ -1,5 +1,5 @@
 -- Answer lines (this project's own format).
-use Rattle.std.specs.Prelude.{ℕ, Bool, true, false, List, length, Option, Some, None, ◌++◌, codes, decimal}
+use Rattle.std.specs.Prelude.{ℕ, Bool, true, false, List, [], length, Option, Some, None, ◌++◌, codes, decimal}
 use Rattle.std.specs.List.{flat_map}
 use Rattle.std.specs.Arc.{arc_value}
 use Rattle.std.specs.declared.io.ErrorKind.{ErrorKind}
@@ -11,7 +11,7 @@ use Rattle.disco_cache.specs.declared.payload.Payload.{Payload}
 use Rattle.disco_instance.specs.Status.{status_name}
 use Rattle.disco_world.specs.declared.holding.Holding.{Holding}
 use Rattle.disco_world.specs.declared.event.Reply.{Reply}
-use Rattle.disco_world.specs.declared.event.Reply.TheVariants.{Changed, Same, Doc, Cleaned, Taken, Held, Refused}
+use Rattle.disco_world.specs.declared.event.Reply.TheVariants.{Changed, Same, Doc, Cleaned, Closed, Expired, Taken, Held, Refused}
 
 -- `doc BASE VERSION TEXT`
 abbrev pub document_line : Payload → List ℕ
@@ -36,11 +36,18 @@ version_or_dash (Some version) = decimal version
 abbrev pub holding_text : Holding → List ℕ
 holding_text h = codes " " ++ h.key.app ++ codes "/" ++ h.key.id ++ codes "=" ++ status_name h.status
 
+-- ` fault N`, where a run stopped
+abbrev pub stop_text : Option Fault → List ℕ
+stop_text None = []
+stop_text (Some fault) = codes " fault " ++ decimal (fault_number fault)
+
 abbrev pub answer_line : Reply → List ℕ
 answer_line (Changed version) = codes "ok " ++ decimal version ++ codes "\n"
 answer_line Same = codes "same\n"
 answer_line (Doc payload) = document_line (arc_value payload)
 answer_line (Cleaned base) = codes "base " ++ decimal base ++ codes "\n"
+answer_line (Closed minute) = codes "minute " ++ decimal minute.renewals ++ codes " " ++ decimal minute.instances ++ codes "\n"
+answer_line (Expired run) = codes "expired " ++ decimal run.gone ++ stop_text run.stopped ++ codes "\n"
 answer_line (Taken equal version) = codes "copy " ++ yes_or_no equal ++ codes " " ++ version_or_dash version ++ codes "\n"
 answer_line (Held holdings) = codes "held " ++ decimal (length holdings) ++ flat_map holding_text holdings ++ codes "\n"
 answer_line (Refused fault) = refusal_line fault

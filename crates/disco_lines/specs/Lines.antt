@@ -6,7 +6,7 @@ use Rattle.std.specs.Str.{bytes_eq}
 use Rattle.disco_instance.specs.declared.fault.Fault.{Fault}
 use Rattle.disco_instance.specs.declared.fault.Fault.TheVariants.{BadEvent}
 use Rattle.disco_world.specs.declared.event.Event.{Event}
-use Rattle.disco_world.specs.declared.event.Event.TheVariants.{Register, Cancel, Renew, SetStatus, DropStatus, Metadata, Clean, Take, Show}
+use Rattle.disco_world.specs.declared.event.Event.TheVariants.{Register, Cancel, Renew, SetStatus, DropStatus, Metadata, Clean, Minute, Expire, Take, Show}
 use Rattle.disco_lines.specs.Loads.{load}
 use Rattle.disco_lines.specs.Query.{entries_of_query}
 use Rattle.disco_lines.specs.Words.{words, joined, text_of_word, moment_of_word, client_of_word}
@@ -60,6 +60,16 @@ abbrev pub cleaning : List (List ℕ) → Option Event
 cleaning (now ∷ []) = option_map (λ n. Clean n) (moment_of_word now)
 cleaning _ = None
 
+-- no word
+abbrev pub closing : List (List ℕ) → Option Event
+closing [] = Some Minute
+closing _ = None
+
+-- `NOW`
+abbrev pub expiring : List (List ℕ) → Option Event
+expiring (now ∷ []) = option_map (λ n. Expire n) (moment_of_word now)
+expiring _ = None
+
 -- `CLIENT EVENT`
 abbrev pub taking : List (List ℕ) → Option Event
 taking (client ∷ event ∷ []) = option_and_then (λ c. option_map (λ e. Take c e) (moment_of_word event)) (client_of_word client)
@@ -75,9 +85,11 @@ abbrev pub event_named : List ℕ → List (List ℕ) → Option Event
 event_named keyword more =
     if bytes_eq keyword (codes "register") then registration more
     else (if bytes_eq keyword (codes "clean") then cleaning more
+    else (if bytes_eq keyword (codes "minute") then closing more
+    else (if bytes_eq keyword (codes "expire") then expiring more
     else (if bytes_eq keyword (codes "load") then load more
     else (if bytes_eq keyword (codes "take") then taking more
-    else (if bytes_eq keyword (codes "show") then showing more else event_of_instance keyword more))))
+    else (if bytes_eq keyword (codes "show") then showing more else event_of_instance keyword more))))))
 
 -- what the words of a line mean
 abbrev pub event_of_words : List (List ℕ) → Option Event

@@ -5,10 +5,11 @@ ghost use Rattle.std.specs.Io.KnownBytes.{Appends, append_known};
 ghost use Rattle.std.specs.IoError.{error_kind};
 ghost use Rattle.disco_lines.specs.Answers.{answer_line, answer_lines, document_line, holding_text, refusal_line, yes_or_no, write_fault};
 ghost use Rattle.std.specs.List.{flat_map};
+ghost use Rattle.disco_world.specs.declared.event.Reply.TheVariants as reply;
 ghost use Rattle.disco_world.specs.declared.event.Reply.TheVariants.{Taken, Held};
 
 use disco_instance::Fault;
-use disco_world::{Holding, Payload, Reply};
+use disco_world::{Expired, Holding, Minute, Payload, Reply};
 use std::alloc::Global;
 use std::io;
 use std::io::{ErrorKind, Write};
@@ -51,6 +52,26 @@ fn write_taken<W: Write>(equal: bool, version: Option<u64>, out: &mut W) -> io::
     }
 }
 
+fn write_closed<W: Write>(minute: &Minute, out: &mut W) -> io::Result<()>
+    ensures { OnOk result (Appends (W.contents out.old) (W.contents out.new) (answer_line (reply.Closed minute.now))) }
+{
+    let (renewals, instances) = (minute.renewals, minute.instances);
+    writeln!(out, "minute {renewals} {instances}")
+}
+
+fn write_expired<W: Write>(run: &Expired, out: &mut W) -> io::Result<()>
+    ensures { OnOk result (Appends (W.contents out.old) (W.contents out.new) (answer_line (reply.Expired run.now))) }
+{
+    let gone = run.gone;
+    match &run.stopped {
+        Some(fault) => {
+            let number = fault.number();
+            writeln!(out, "expired {gone} fault {number}")
+        }
+        None => writeln!(out, "expired {gone}"),
+    }
+}
+
 fn write_holding<W: Write>(holding: &Holding, out: &mut W) -> io::Result<()>
     ensures { OnOk result (Appends (W.contents out.old) (W.contents out.new) (holding_text holding.now)) }
 {
@@ -85,6 +106,8 @@ fn write_answer<W: Write>(reply: &Reply, out: &mut W) -> io::Result<()>
         Reply::Same => writeln!(out, "same"),
         Reply::Doc(payload) => write_document(payload, out),
         Reply::Cleaned(base) => writeln!(out, "base {base}"),
+        Reply::Closed(minute) => write_closed(minute, out),
+        Reply::Expired(run) => write_expired(run, out),
         Reply::Taken {
             hash_equal,
             version,

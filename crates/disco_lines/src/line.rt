@@ -1,7 +1,7 @@
 //! The event that a line means. `None` stands for a line that can't be read.
 ghost use Rattle.std.specs.Prelude.{◌≡◌, IfOk, IfErr, Some};
 ghost use Rattle.disco_instance.specs.declared.fault.Fault.TheVariants.{OutOfMemory};
-ghost use Rattle.disco_lines.specs.Lines.{cancellation, cleaning, event_at, event_named, event_of, event_of_instance, metadata_change, override_removal, registration, renewal, showing, status_change, taking};
+ghost use Rattle.disco_lines.specs.Lines.{cancellation, cleaning, closing, event_at, event_named, event_of, event_of_instance, expiring, metadata_change, override_removal, registration, renewal, showing, status_change, taking};
 ghost use Rattle.disco_lines.specs.Words.{client_of_word, moment_of_word};
 
 use crate::load::load_of;
@@ -22,6 +22,8 @@ use std::alloc::Global;
 /// - `metadata NOW APP ID`, or `metadata NOW APP ID QUERY`, where the query is the rest of the line
 ///   as it stands;
 /// - `clean NOW`;
+/// - `minute`;
+/// - `expire NOW`;
 /// - `load FORM QUERY`, where the form is `full` or `compact`, and the query `apps`, `delta`,
 ///   `app NAME`, `vip VIP`, `svip SVIP`, `one APP ID` or `id ID`;
 /// - `take CLIENT EVENT`, where the event is the number from 1 of the line that served a document;
@@ -49,6 +51,8 @@ fn event_named(alloc: Global, keyword: &str, words: Words) -> Result<Option<Even
     match keyword {
         "register" => register_of(alloc, words),
         "clean" => clean_of(alloc, words),
+        "minute" => Ok(minute_of(&words)),
+        "expire" => expire_of(alloc, words),
         "load" => load_of(alloc, words),
         "take" => take_of(alloc, words),
         "show" => show_of(alloc, words),
@@ -247,6 +251,31 @@ fn clean_of(alloc: Global, words: Words) -> Result<Option<Event>, Fault>
     }
     match moment_of_word(alloc, now)? {
         Some(now) => Ok(Some(Event::Clean { now })),
+        None => Ok(None),
+    }
+}
+
+fn minute_of(words: &Words) -> Option<Event>
+    ensures { result ≡ closing words.now }
+{
+    if !words.is_empty() {
+        return None;
+    }
+    Some(Event::Minute)
+}
+
+fn expire_of(alloc: Global, words: Words) -> Result<Option<Event>, Fault>
+    ensures value { IfOk result (λ found. found ≡ expiring words.entry) }
+    ensures memory { IfErr result (λ e. e ≡ OutOfMemory) }
+{
+    let Some((now, words)) = words.split() else {
+        return Ok(None);
+    };
+    if words.split().is_some() {
+        return Ok(None);
+    }
+    match moment_of_word(alloc, now)? {
+        Some(now) => Ok(Some(Event::Expire { now })),
         None => Ok(None),
     }
 }

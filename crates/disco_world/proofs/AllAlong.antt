@@ -6,24 +6,26 @@ use Rattle.std.proofs.lemmas.Option.{same_Some}
 use Rattle.disco_instance.specs.declared.fault.Fault.{Fault}
 use Rattle.disco_instance.specs.declared.form.Form.{Form}
 use Rattle.disco_history.specs.Change.{Entry}
-use Rattle.disco_registry.specs.Op.{Ask}
+use Rattle.disco_registry.specs.Op.{Ask, cancel}
+use Rattle.disco_instance.specs.declared.key.Key.{Key}
 use Rattle.disco_queue.specs.Timed.{Timed, changes}
 use Rattle.disco_writer.specs.Documents.{is_delta}
 use Rattle.disco_cache.specs.declared.key.DocKey.{DocKey}
 use Rattle.disco_cache.specs.declared.payload.Payload.{Payload}
-use Rattle.disco_hub.specs.Past.{Past, history}
+use Rattle.disco_hub.specs.Expiry.{after_cancel, after_next, cancel_of, cancelled}
+use Rattle.disco_hub.specs.Past.{Past, history, taken_in, with_done}
 use Rattle.disco_hub.specs.State.{Rules}
 use Rattle.disco_world.specs.Answers.{AreAnswers, AreKnown, IsAnswer}
 use Rattle.disco_world.specs.Clients.{MeansVersion, taken}
-use Rattle.disco_world.specs.Events.{Deed, World, writes, loads, cleans, takes, shows, bad, after, after_at, after_write, clients_done, deed, doc_in, doc_of_event, done, for_clients, past_after, past_done, ran_out, takes_any, world}
+use Rattle.disco_world.specs.Events.{Deed, World, writes, loads, cleans, closes, expires, takes, shows, bad, after, after_run, after_at, after_write, clients_done, deed, doc_in, doc_of_event, done, for_clients, past_after, past_done, ran_out, takes_any, world}
 use Rattle.disco_world.specs.Steps.{AreReadable}
 use Rattle.disco_world.specs.declared.clients.Client.{Client}
 use Rattle.disco_world.specs.declared.event.Event.{Event}
-use Rattle.disco_world.specs.declared.event.Event.TheVariants.{Register, Cancel, Renew, SetStatus, DropStatus, Metadata, Load, LoadById, Clean, Take, Show}
+use Rattle.disco_world.specs.declared.event.Event.TheVariants.{Register, Cancel, Renew, SetStatus, DropStatus, Metadata, Load, LoadById, Clean, Minute, Expire, Take, Show}
 use Rattle.disco_world.specs.declared.event.Reply.{Reply}
-use Rattle.disco_world.specs.declared.event.Reply.TheVariants.{Changed, Same, Doc, Cleaned, Taken, Held, Refused}
+use Rattle.disco_world.specs.declared.event.Reply.TheVariants.{Changed, Same, Doc, Cleaned, Closed, Expired, Taken, Held, Refused}
 use Rattle.disco_world.proofs.Histories.{Place, below, at, beyond, get_front, get_last, get_past, place_of}
-use Rattle.disco_world.proofs.Known.{Extends, IsOf, delta_means, extends_more, extends_same, full_means, means_on, of_now, of_on, readable}
+use Rattle.disco_world.proofs.Known.{Extends, IsOf, delta_means, extends_more, extends_on, extends_same, full_means, means_on, of_now, of_on, readable}
 
 -- ---- a history only grows
 
@@ -37,17 +39,48 @@ write_extends most p now (Ok ask) (Ok None) = extends_same (history p)
 write_extends most p now (Ok ask) (Err e) = extends_same (history p)
 write_extends most p now (Err e) result = extends_same (history p)
 
-done_extends : (rules : Rules) (p : Past) (what : Deed) → Extends (history p) (history (past_done rules p what))
-done_extends rules p (writes now asked) = write_extends rules.queue p now asked (done rules p now asked)
-done_extends rules p (loads k) = extends_same (history p)
-done_extends rules p (cleans now) = extends_same (history p)
-done_extends rules p (takes client d) = extends_same (history p)
-done_extends rules p (shows client) = extends_same (history p)
-done_extends rules p bad = extends_same (history p)
+done_by : (most : ℕ) (p : Past) (now : ℕ) (ask : Ask) (o : Option Entry) → Extends (history p) (history (with_done most p now ask o))
+done_by most p now ask (Some c) = subst (Extends (history p)) (sym (map_more p.timed (c, now))) (extends_more (history p) c)
+done_by most p now ask None = extends_same (history p)
 
-past_extends : (rules : Rules) (p : Past) (what : Deed) (r : Bool) → Extends (history p) (history (cond r p (past_done rules p what)))
-past_extends rules p what true = extends_same (history p)
-past_extends rules p what false = done_extends rules p what
+cancel_extends : (most : ℕ) (p : Past) (now : ℕ) (k : Key) (r : Result (Option Entry) Fault) → Extends (history p) (history (after_cancel most p now k r))
+cancel_extends most p now k (Ok o) = done_by most p now (cancel k) o
+cancel_extends most p now k (Err e) = extends_same (history p)
+
+next_extends : (rules : Rules) (p : Past) (now : ℕ) (o : Option Key) → Extends (history p) (history (after_next rules p now o))
+next_extends rules p now None = extends_same (history p)
+next_extends rules p now (Some k) = cancel_extends rules.queue p now k (cancel_of rules p now k)
+
+-- so it does by each of several cancels
+cancels_extend : (rules : Rules) (p : Past) (now : ℕ) (ks : List Key) (i : ℕ) → Extends (history p) (history (cancelled rules p now ks i))
+unfolding cancelled
+cancels_extend rules p now ks zero = extends_same (history p)
+cancels_extend rules p now ks (suc i) = extends_on _ _ _ (cancels_extend rules p now ks i) (next_extends rules (cancelled rules p now ks i) now (slice_get ks i))
+
+run_extends : (rules : Rules) (p : Past) (now : ℕ) (r : Reply) → Extends (history p) (history (after_run rules p now r))
+run_extends rules p now (Expired run) = cancels_extend rules p now (taken_in p now) run.gone
+run_extends rules p now (Changed v) = extends_same (history p)
+run_extends rules p now Same = extends_same (history p)
+run_extends rules p now (Doc d) = extends_same (history p)
+run_extends rules p now (Cleaned b) = extends_same (history p)
+run_extends rules p now (Closed minute) = extends_same (history p)
+run_extends rules p now (Taken equal version) = extends_same (history p)
+run_extends rules p now (Held holdings) = extends_same (history p)
+run_extends rules p now (Refused e) = extends_same (history p)
+
+done_extends : (rules : Rules) (p : Past) (what : Deed) (r : Reply) → Extends (history p) (history (past_done rules p what r))
+done_extends rules p closes r = extends_same (history p)
+done_extends rules p (expires now) r = run_extends rules p now r
+done_extends rules p (writes now asked) r = write_extends rules.queue p now asked (done rules p now asked)
+done_extends rules p (loads k) r = extends_same (history p)
+done_extends rules p (cleans now) r = extends_same (history p)
+done_extends rules p (takes client d) r = extends_same (history p)
+done_extends rules p (shows client) r = extends_same (history p)
+done_extends rules p bad r = extends_same (history p)
+
+past_extends : (rules : Rules) (p : Past) (what : Deed) (r : Reply) (b : Bool) → Extends (history p) (history (cond b p (past_done rules p what r)))
+past_extends rules p what r true = extends_same (history p)
+past_extends rules p what r false = done_extends rules p what r
 
 -- ---- what is true after each event
 
@@ -77,6 +110,8 @@ good rules w (Metadata now app id entries) holds = tt
 good rules w (Load key) holds = tt
 good rules w (LoadById id form) holds = tt
 good rules w (Clean now) holds = tt
+good rules w Minute holds = tt
+good rules w (Expire now) holds = tt
 good rules w (Take client event) holds = take_good (history w.past) client (doc_of_event w.replies event) (holds.docs event)
 good rules w (Show client) holds = tt
 
@@ -92,12 +127,16 @@ served_is rules w (loads k) (Doc p) d answer is =
     subst (IsOf (history w.past)) kind.1 (of_now (history w.past) p.value answer.0.true_now answer.1 kind.0)
 served_is rules w (writes now asked) (Doc p) d answer is = absurd answer
 served_is rules w (cleans now) (Doc p) d answer is = absurd answer
+served_is rules w closes (Doc p) d answer is = absurd answer
+served_is rules w (expires now) (Doc p) d answer is = absurd answer
 served_is rules w (takes client other) (Doc p) d answer is = absurd answer
 served_is rules w (shows client) (Doc p) d answer is = absurd answer
 served_is rules w bad (Doc p) d answer is = absurd answer
 served_is rules w what (Changed v) d answer is = absurd (cc)
 served_is rules w what Same d answer is = absurd (cc)
 served_is rules w what (Cleaned b) d answer is = absurd (cc)
+served_is rules w what (Closed minute) d answer is = absurd (cc)
+served_is rules w what (Expired run) d answer is = absurd (cc)
 served_is rules w what (Taken equal version) d answer is = absurd (cc)
 served_is rules w what (Held holdings) d answer is = absurd (cc)
 served_is rules w what (Refused e) d answer is = absurd (cc)
@@ -130,6 +169,8 @@ copies_done h clients (takes client d) q c is means e = one_of h clients client 
 copies_done h clients (writes now asked) q c is means e = means q c e
 copies_done h clients (loads k) q c is means e = means q c e
 copies_done h clients (cleans now) q c is means e = means q c e
+copies_done h clients closes q c is means e = means q c e
+copies_done h clients (expires now) q c is means e = means q c e
 copies_done h clients (shows client) q c is means e = means q c e
 copies_done h clients bad q c is means e = means q c e
 
@@ -143,7 +184,7 @@ copies_after h clients what false q c is means e = copies_done h clients what q 
 holds_after : (rules : Rules) (w : World) (e : Event) (r : Reply) → Holds w → IsAnswer rules w (deed rules w e) r → Holds (after rules w (deed rules w e) r)
 holds_after rules w e r holds answer =
     let what = deed rules w e in
-    let ext = past_extends rules w.past what (ran_out r) in
+    let ext = past_extends rules w.past what r (ran_out r) in
     record {
       docs = λ k d is. of_on (history w.past) (history (past_after rules w.past what r)) d ext (docs_after rules w what r holds answer k d is);
       copies = λ q c is. means_on (history w.past) (history (past_after rules w.past what r)) c ext (copies_after (history w.past) w.clients what (ran_out r) q c (good rules w e holds) holds.copies is);

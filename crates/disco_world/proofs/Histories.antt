@@ -7,7 +7,7 @@ use Rattle.disco_cache.specs.declared.payload.Payload.{Payload}
 use Rattle.disco_hub.specs.State.{Rules, State, StandsFor, rules_of}
 use Rattle.disco_world.specs.Answers.{AreAnswers, AreServed, IsAnswer, IsFirstBadEvent, IsServed}
 use Rattle.disco_instance.specs.declared.fault.Fault.TheVariants.{BadEvent}
-use Rattle.disco_world.specs.Events.{Deed, World, writes, loads, cleans, takes, shows, bad, after, after_at, clients_after, deed, past_after, world}
+use Rattle.disco_world.specs.Events.{Deed, World, writes, loads, cleans, closes, expires, takes, shows, bad, after, after_at, clients_after, deed, past_after, world}
 use Rattle.disco_world.specs.Steps.{AreHeld}
 use Rattle.disco_world.specs.declared.clients.Client.{Client}
 use Rattle.disco_world.specs.declared.event.Event.{Event}
@@ -127,6 +127,8 @@ kept : (rules : Rules) (w : World) (what : Deed) (d : Arc Payload Global) → Is
 kept rules w (loads asked) d is = is.0
 kept rules w (writes now asked) d is = absurd is
 kept rules w (cleans now) d is = absurd is
+kept rules w closes d is = absurd is
+kept rules w (expires now) d is = absurd is
 kept rules w (takes client p) d is = absurd is
 kept rules w (shows client) d is = absurd is
 kept rules w bad d is = absurd is

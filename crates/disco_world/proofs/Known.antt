@@ -48,6 +48,12 @@ extends_same h = record { longer = omega arith; begins = take_all (length h) h (
 pub extends_more : (h : List Entry) (c : Entry) → Extends h (h ++ c ∷ [])
 extends_more h c = record { longer = omega (arith, length-append h (c ∷ [])); begins = take-append-le (length h) h (c ∷ []) (omega arith) ∙ take_all (length h) h (omega arith) }
 
+pub extends_on : (h g f : List Entry) → Extends h g → Extends g f → Extends h f
+extends_on h g f one two = record {
+  longer = omega (arith, one.longer, two.longer);
+  begins = sym (take-take (length h) (length g) f one.longer) ∙ ap (take (length h)) two.begins ∙ one.begins;
+}
+
 same_version : (h g : List Entry) (v : ℕ) → Extends h g → v ≤ length h → front g v ≡ front h v
 same_version h g v ext le = sym (take-take v (length h) g le) ∙ ap (take v) ext.begins
 

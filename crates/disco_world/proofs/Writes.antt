@@ -56,7 +56,7 @@ stays rules p now asked f refused = one (fault_number f == 1) refl
     same (Ok ask) result e = ap (after_write rules.queue p now (Ok ask)) e
     same (Err g) result e = refl
 
-    one : (b : Bool) → (fault_number f == 1) ≡ b → cond b p (past_done rules p (writes now asked)) ≡ p
+    one : (b : Bool) → (fault_number f == 1) ≡ b → cond b p (past_done rules p (writes now asked) (Refused f)) ≡ p
     one true memory = refl
     one false memory = same asked (done rules p now asked) (refused (λ same. let bad = sym memory ∙ ap (λ x. fault_number x == 1) same in cc))
 

@@ -15,7 +15,8 @@ use Rattle.disco_registry.specs.Accept.{accept_after}
 use Rattle.disco_registry.specs.Op.{Ask, register, cancel, renew, set_status, drop_status, add_metadata}
 use Rattle.disco_wire.specs.Registration.{registration_of}
 use Rattle.disco_cache.specs.declared.key.DocKey.{DocKey}
-use Rattle.disco_hub.specs.Past.{Past, cleaned, history, nothing, with_done}
+use Rattle.disco_hub.specs.Expiry.{cancelled}
+use Rattle.disco_hub.specs.Past.{Past, cleaned, history, minute_closed, nothing, taken_in, with_done}
 use Rattle.disco_hub.specs.Refusals.{doc_of_key, refusal_of}
 use Rattle.disco_hub.specs.State.{Rules}
 use Rattle.disco_writer.specs.declared.query.Query.{Query}
@@ -24,9 +25,9 @@ use Rattle.disco_cache.specs.declared.payload.Payload.{Payload}
 use Rattle.disco_world.specs.Clients.{clients_with}
 use Rattle.disco_world.specs.declared.clients.Client.{Client}
 use Rattle.disco_world.specs.declared.event.Event.{Event}
-use Rattle.disco_world.specs.declared.event.Event.TheVariants.{Register, Cancel, Renew, SetStatus, DropStatus, Metadata, Load, LoadById, Clean, Take, Show}
+use Rattle.disco_world.specs.declared.event.Event.TheVariants.{Register, Cancel, Renew, SetStatus, DropStatus, Metadata, Load, LoadById, Clean, Minute, Expire, Take, Show}
 use Rattle.disco_world.specs.declared.event.Reply.{Reply}
-use Rattle.disco_world.specs.declared.event.Reply.TheVariants.{Doc, Refused}
+use Rattle.disco_world.specs.declared.event.Reply.TheVariants.{Doc, Expired, Refused}
 
 -- what has happened: to the registry, what each event answered, and the clients that have a copy
 pub record World : Type 0 where
@@ -34,11 +35,13 @@ pub record World : Type 0 where
   pub replies : List Reply
   pub clients : ℕ → Option Client
 
--- what an event is for: an operation at a moment in milliseconds, or why it is none; a document, or why it isn't served; a cleaning at a moment; a document for a client; a look at a client's copy; nothing that can be run
+-- what an event is for: an operation at a moment in milliseconds, or why it is none; a document, or why it isn't served; a cleaning at a moment; the closing of a minute; a run at a moment that cancels instances whose leases ran out; a document for a client; a look at a client's copy; nothing that can be run
 pub data Deed : Type 0 where
   writes : ℕ → Result Ask Fault → Deed
   loads : Result DocKey Fault → Deed
   cleans : ℕ → Deed
+  closes : Deed
+  expires : ℕ → Deed
   takes : ℕ → Payload → Deed
   shows : ℕ → Deed
   bad : Deed
@@ -107,6 +110,8 @@ deed rules w (Metadata now app id entries) = writes now (Ok (add_metadata (key_n
 deed rules w (Load key) = loads (loaded rules.delta (record { query = query_asked key.query; form = key.form }) (history w.past))
 deed rules w (LoadById id form) = loads (loaded_of (by_id (reg (history w.past)) id) form (history w.past))
 deed rules w (Clean now) = cleans now
+deed rules w Minute = closes
+deed rules w (Expire now) = expires now
 deed rules w (Take client event) = takes_any client (doc_of_event w.replies event)
 deed rules w (Show client) = shows client
 
@@ -121,11 +126,18 @@ after_write most p now (Ok ask) (Ok change) = with_done most p now ask change
 after_write most p now (Ok ask) (Err e) = p
 after_write most p now (Err e) result = p
 
--- what has happened to the registry after a deed that found memory
-abbrev pub past_done : Rules → Past → Deed → Past
-past_done rules p (writes now ask) = after_write rules.queue p now ask (done rules p now ask)
-past_done rules p (cleans now) = cleaned rules.retention p now
-past_done rules p _ = p
+-- what has happened after a run that says how many instances are gone: their cancels, in the order in which a run takes them
+abbrev pub after_run : Rules → Past → ℕ → Reply → Past
+after_run rules p now (Expired run) = cancelled rules p now (taken_in p now) run.gone
+after_run rules p now _ = p
+
+-- what has happened to the registry after a deed with that answer that found memory
+abbrev pub past_done : Rules → Past → Deed → Reply → Past
+past_done rules p (writes now ask) reply = after_write rules.queue p now ask (done rules p now ask)
+past_done rules p (cleans now) reply = cleaned rules.retention p now
+past_done rules p closes reply = minute_closed p
+past_done rules p (expires now) reply = after_run rules p now reply
+past_done rules p _ reply = p
 
 -- the clients' copies after a deed that found memory
 abbrev pub clients_done : (ℕ → Option Client) → Deed → ℕ → Option Client
@@ -138,7 +150,7 @@ ran_out (Refused e) = fault_number e == 1
 ran_out _ = false
 
 abbrev pub past_after : Rules → Past → Deed → Reply → Past
-past_after rules p what reply = if ran_out reply then p else past_done rules p what
+past_after rules p what reply = if ran_out reply then p else past_done rules p what reply
 
 abbrev pub clients_after : (ℕ → Option Client) → Deed → Reply → ℕ → Option Client
 clients_after clients what reply = if ran_out reply then clients else clients_done clients what

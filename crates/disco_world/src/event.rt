@@ -1,6 +1,7 @@
 //! Events and their replies.
 use crate::holding::Holdings;
 use disco_cache::{DocKey, Payload};
+use disco_hub::{Expired, Minute};
 use disco_instance::{Bytes, Entries, Fault, Form, Text};
 use std::alloc::Global;
 use std::sync::Arc;
@@ -61,6 +62,13 @@ pub enum Event {
     Clean {
         now: u64,
     },
+    /// A minute is closed: how many renewals were accepted in it, and how many instances are held,
+    /// decides whether leases run out.
+    Minute,
+    /// Instances whose leases have run out are cancelled.
+    Expire {
+        now: u64,
+    },
     /// A client is given the document that an earlier event answered, by the number of that event
     /// from 1: one of all apps, or a delta.
     Take {
@@ -83,6 +91,11 @@ pub enum Reply {
     Doc(Arc<Payload, Global>),
     /// The queue was cleaned: the version from which deltas start now.
     Cleaned(u64),
+    /// A minute was closed: what it keeps.
+    Closed(Minute),
+    /// Instances were cancelled whose leases had run out: how many, and why the run stopped before
+    /// the last one, if it did.
+    Expired(Expired),
     /// A client took a document: whether the copy's hash code is now the document's, and the
     /// version at which the copy is known, if it is known at one.
     Taken {

@@ -12,7 +12,7 @@ mod loads;
 mod runs;
 
 pub use disco_cache::{DocKey, Payload};
-pub use disco_hub::Settings;
+pub use disco_hub::{Expired, Minute, Settings};
 pub use disco_writer::Query;
 pub use event::{Event, Reply};
 pub use holding::{Holding, Holdings};

@@ -8,7 +8,7 @@ ghost use Rattle.disco_instance.specs.declared.fault.Fault.TheVariants.{OutOfMem
 ghost use Rattle.disco_registry.specs.Op.{Ask, ask_of};
 ghost use Rattle.disco_hub.specs.State.{StandsFor, rules, rules_of};
 ghost use Rattle.disco_world.specs.Answers.{AreAnswers, AreKnown, AreServed, IsAnswer, IsFirstBadEvent};
-ghost use Rattle.disco_world.specs.Events.{World, bad, deed, doc_in, doc_of_event, for_clients, past_after, clients_after, writes};
+ghost use Rattle.disco_world.specs.Events.{World, bad, deed, doc_in, doc_of_event, for_clients, past_after, clients_after, closes, expires, writes};
 ghost use Rattle.disco_world.specs.Steps.{AreHeld, AreReadable, Does, reply_to, reply_to_show, reply_to_take};
 
 use crate::asks::{add_metadata, cancel, drop_status, register, renew, set_status};
@@ -88,12 +88,30 @@ fn answer(
         Event::Load { key } => Some(load(alloc, hub, key)),
         Event::LoadById { id, form } => Some(load_by_id(hub, id, *form)),
         Event::Clean { now } => Some(Reply::Cleaned(hub.clean(*now))),
+        Event::Minute => Some(close(hub)),
+        Event::Expire { now } => Some(expire(hub, *now)),
         Event::Take { client, event } => match document(replies, *event) {
             Some(payload) => Some(took(take(alloc, clients, *client, payload))),
             None => None,
         },
         Event::Show { client } => Some(showed(show(alloc, clients, *client))),
     }
+}
+
+/// Closes a minute.
+fn close(hub: &mut Hub) -> Reply
+    ensures does { Does hub.old hub.new (λ _. closes) result }
+    ensures rules { rules_of hub.new ≡ rules_of hub.old }
+{
+    Reply::Closed(hub.close_minute())
+}
+
+/// Cancels the instances whose leases have run out.
+fn expire(hub: &mut Hub, now: u64) -> Reply
+    ensures does { Does hub.old hub.new (λ _. expires now) result }
+    ensures rules { rules_of hub.new ≡ rules_of hub.old }
+{
+    Reply::Expired(hub.expire(now))
 }
 
 fn for_clients(query: &Query) -> bool

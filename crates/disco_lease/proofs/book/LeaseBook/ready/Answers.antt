@@ -11,6 +11,7 @@ returns-in_ok-open-clause-same c =
     (record {
       leases = lease-open m c.open.new.self c.args.key.now (sym c.has.ensures ∙ c.if-not-has.true) (c.in_ok-open.ensures.ok ∙ ap (λ (k : Key). insert m k None) c.in_ok-clone.ensures.cases);
       renewals = refl;
+      closed = refl;
     })
 
 pub returns-in_ok-open-clause-place : goal.returns-in_ok-open-clause-place

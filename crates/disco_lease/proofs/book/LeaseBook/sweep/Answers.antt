@@ -15,7 +15,7 @@ returns-clause-same c =
     let m = c.self.inside.places in
     let k = c.args.key.now in
     let none : option_flatten (get m k) ≡ None = sym c.lease.ensures ∙ unseen c.lease.result (sym c.is_some.ensures ∙ c.if-is_some.false) in
-    rw (← c.self.view_is) (record { leases = lease-close m c.close.new.self k none c.close.ensures; renewals = refl })
+    rw (← c.self.view_is) (record { leases = lease-close m c.close.new.self k none c.close.ensures; renewals = refl; closed = refl })
 
 pub returns-clause-swept : goal.returns-clause-swept
 returns-clause-swept c = λ some. absurd (no-place (get c.close.new.self c.args.key.now) (none-out c.self.inside.places c.close.new.self c.args.key.now c.close.ensures) some)

@@ -1,0 +1,141 @@
+-- One cancel after another.
+use Rattle.std.proofs.Common.{◌≡◌, ℕ, zero, suc, ◌+◌, ◌<◌, List, length, Option, Some, None, Result, Ok, Err, IfErr, IfOk, IsOk, OnErr, OnOk, slice_get, refl, sym, ap, subst, ◌∙◌, arith, add-one}
+use Rattle.std.proofs.lemmas.Option.{same_Some}
+use Rattle.disco_instance.specs.declared.fault.Fault.{Fault}
+use Rattle.disco_instance.specs.declared.fault.Fault.TheVariants.{OutOfMemory}
+use Rattle.disco_instance.specs.declared.key.Key.{Key}
+use Rattle.disco_history.specs.Change.{Entry}
+use Rattle.disco_registry.specs.Accept.{Refuses, accepts}
+use Rattle.disco_registry.specs.Commit.{done_by}
+use Rattle.disco_registry.specs.Op.{cancel}
+use Rattle.disco_registry.specs.declared.op.Applied.{Applied}
+use Rattle.disco_registry.proofs.Histories.{accepts_after}
+use Rattle.disco_hub.specs.Expiry.{Cancels, Declines, Expires, IsExpired, after_cancel, after_next, cancel_of, cancelled}
+use Rattle.disco_hub.specs.Past.{Past, history, with_done}
+use Rattle.disco_hub.specs.State.{Rules, State, StandsFor, rules_of}
+
+-- a hub has cancelled the first so many of these keys
+pub record Did (old new : State) (now : ℕ) (ks : List Key) (gone : ℕ) : Type 0 where
+  pub stands : (p : Past) → StandsFor old p → StandsFor new (cancelled (rules_of old) p now ks gone)
+  pub accepted : (p : Past) → StandsFor old p → (i : ℕ) (k : Key) → i < gone → slice_get ks i ≡ Some k → IsOk (cancel_of (rules_of old) (cancelled (rules_of old) p now ks i) now k)
+  pub rules : rules_of new ≡ rules_of old
+
+none_yet : (rules : Rules) (p : Past) (now : ℕ) (ks : List Key) → p ≡ cancelled rules p now ks 0
+unfolding cancelled
+none_yet rules p now ks = refl
+
+pub did_nothing : (s : State) (now : ℕ) (ks : List Key) → Did s s now ks 0
+did_nothing s now ks = record {
+  stands = λ p stands. subst (StandsFor s) (none_yet (rules_of s) p now ks) stands;
+  accepted = λ p stands i k lt is. absurd (omega (arith, lt));
+  rules = refl;
+}
+
+one_more : (rules : Rules) (p : Past) (now : ℕ) (ks : List Key) (i : ℕ) → cancelled rules p now ks (i + 1) ≡ after_next rules (cancelled rules p now ks i) now (slice_get ks i)
+unfolding cancelled
+one_more rules p now ks i = ap (cancelled rules p now ks) (add-one i)
+
+was_ok : {A E : Type 0} (r : Result A E) (a : A) → r ≡ Ok a → IsOk r
+was_ok r a is = subst (λ (x : Result _ _). IsOk x) (sym is) refl
+
+-- an index of a longer front
+pub data Below (i n : ℕ) : Type 0 where
+  before : i < n → Below i n
+  last : i ≡ n → Below i n
+
+below_of : (i n : ℕ) → i < n + 1 → Below i n
+below_of zero zero lt = last refl
+below_of zero (suc n) lt = before (omega arith)
+below_of (suc i) zero lt = absurd (omega (arith, lt))
+below_of (suc i) (suc n) lt = by (below_of i n (omega (arith, lt)))
+  where
+    by : Below i n → Below (suc i) (suc n)
+    by (before l) = before (omega (arith, l))
+    by (last e) = last (ap suc e)
+
+module _ (old mid new : State) (now : ℕ) (ks : List Key) (i : ℕ) (k : Key) (there : slice_get ks i ≡ Some k) (did : Did old mid now ks i) where
+  abbrev so_far : Past → Past
+  so_far p = cancelled (rules_of old) p now ks i
+
+  says : (p : Past) (r : Result (Option Entry) Fault) → cancel_of (rules_of mid) (so_far p) now k ≡ r → cancel_of (rules_of old) (so_far p) now k ≡ r
+  says p r is = ap (λ l. cancel_of l (so_far p) now k) (sym did.rules) ∙ is
+
+  left : (p : Past) (c : Option Entry) → cancel_of (rules_of old) (so_far p) now k ≡ Ok c → after_cancel mid.queue.max (so_far p) now k (Ok c) ≡ cancelled (rules_of old) p now ks (i + 1)
+  left p c is =
+      ap (λ (l : Rules). after_cancel l.queue (so_far p) now k (Ok c)) did.rules
+      ∙ ap (after_cancel (rules_of old).queue (so_far p) now k) (sym is)
+      ∙ ap (after_next (rules_of old) (so_far p) now) (sym there)
+      ∙ sym (one_more (rules_of old) p now ks i)
+
+  accepted_too : Cancels mid new now k → (p : Past) → StandsFor old p → (j : ℕ) (q : Key) → Below j i → slice_get ks j ≡ Some q → IsOk (cancel_of (rules_of old) (cancelled (rules_of old) p now ks j) now q)
+  accepted_too cancels p stands j q (before lt) is = did.accepted p stands j q lt is
+  accepted_too cancels p stands j q (last e) is =
+      let does = cancels (so_far p) (did.stands p stands) in
+      let same : k ≡ q = same_Some k q (sym there ∙ ap (slice_get ks) (sym e) ∙ is) in
+      subst (λ (x : Key). IsOk (cancel_of (rules_of old) (cancelled (rules_of old) p now ks j) now x)) same
+      (subst (λ n. IsOk (cancel_of (rules_of old) (cancelled (rules_of old) p now ks n) now k)) (sym e) (was_ok _ does.0 (says p (Ok does.0) does.1)))
+
+  pub did_more : Cancels mid new now k → rules_of new ≡ rules_of mid → Did old new now ks (i + 1)
+  did_more cancels same = record {
+    stands = λ p stands. let does = cancels (so_far p) (did.stands p stands) in subst (StandsFor new) (left p does.0 (says p (Ok does.0) does.1)) does.2;
+    accepted = λ p stands j q lt is. accepted_too cancels p stands j q (below_of j i lt) is;
+    rules = same ∙ did.rules;
+  }
+
+  -- the next cancel is refused
+  pub stopped_at : (e : Fault) → i < length ks → Declines mid new now k e → Expires old new now (λ _. ks) i (Some e)
+  stopped_at e lt declines = λ p stands.
+      let none = declines (so_far p) (did.stands p stands) in (
+        record {
+          accepted = did.accepted p stands;
+          within = omega (arith, lt);
+          all = λ is. absurd (cc);
+          next = λ other. (k, there, says p (Err e) (none.1 other));
+        },
+        none.0,
+      )
+
+-- all of them are cancelled
+pub all_gone : (old new : State) (now : ℕ) (ks : List Key) (i : ℕ) → i ≡ length ks → Did old new now ks i → Expires old new now (λ _. ks) i None
+all_gone old new now ks i is did = λ p stands. (record { accepted = did.accepted p stands; within = omega (arith, is); all = λ _. is; next = tt }, did.stands p stands)
+
+-- no list was found
+pub none_gone : (s : State) (now : ℕ) (ks : Past → List Key) (e : Fault) → e ≡ OutOfMemory → Expires s s now ks 0 (Some e)
+none_gone s now ks e memory = λ p stands. (
+  record {
+    accepted = λ i k lt is. absurd (omega (arith, lt));
+    within = omega arith;
+    all = λ is. absurd (cc);
+    next = λ other. absurd (other memory);
+  },
+  (did_nothing s now (ks p)).stands p stands,
+)
+
+-- the list is the one of each past
+pub with_list : (old new : State) (now : ℕ) (ls : List Key) (ks : Past → List Key) (gone : ℕ) (stopped : Option Fault) → ((p : Past) → StandsFor old p → ls ≡ ks p) → Expires old new now (λ _. ls) gone stopped → Expires old new now ks gone stopped
+with_list old new now ls ks gone stopped same expires = λ p stands.
+    let is = expires p stands in
+    (subst (λ (l : List Key). IsExpired (rules_of old) p now l gone stopped) (same p stands) is.0, subst (λ (l : List Key). StandsFor new (cancelled (rules_of old) p now l gone)) (same p stands) is.1)
+
+-- ---- one cancel
+
+at_history : (s : State) (p : Past) (k : Key) (now : ℕ) → StandsFor s p → accepts s.registry (cancel k) now ≡ cancel_of (rules_of s) p now k
+at_history s p k now stands = accepts_after s.registry (history p) stands.registry (cancel k) now
+
+one_gone : (old new : State) (now : ℕ) (k key : Key) (c : Option Entry) → key ≡ k → accepts old.registry (cancel key) now ≡ Ok c → ((p : Past) → StandsFor old p → StandsFor new (with_done old.queue.max p now (cancel key) c)) → Cancels old new now k
+one_gone old new now k key c same done stands_on = λ p stands.
+    subst (λ (x : Key). (c : Option Entry) × (cancel_of (rules_of old) p now x ≡ Ok c) × StandsFor new (with_done old.queue.max p now (cancel x) c)) same
+    (c, sym (at_history old p key now stands) ∙ done, stands_on p stands)
+
+one_refused : (old new : State) (now : ℕ) (k key : Key) (e : Fault) → key ≡ k → Refuses old.registry (cancel key) now e → ((p : Past) → StandsFor old p → StandsFor new p) → Declines old new now k e
+one_refused old new now k key e same refused stays = λ p stands.
+    (stays p stands, λ other. ap (cancel_of (rules_of old) p now) (sym same) ∙ sym (at_history old p key now stands) ∙ refused other)
+
+pub all_done : (old new : State) (now : ℕ) (k key : Key) (r : Result Applied Fault) → key ≡ k → IfOk r (λ a. accepts old.registry (cancel key) now ≡ Ok (done_by a))
+    → IfOk r (λ a. (p : Past) → StandsFor old p → StandsFor new (with_done old.queue.max p now (cancel key) (done_by a))) → OnOk r (Cancels old new now k)
+all_done old new now k key (Ok a) same done stands_on = one_gone old new now k key (done_by a) same done stands_on
+all_done old new now k key (Err e) same done stands_on = tt
+
+pub all_refused : (old new : State) (now : ℕ) (k key : Key) (r : Result Applied Fault) → key ≡ k → IfErr r (Refuses old.registry (cancel key) now) → OnErr r ((p : Past) → StandsFor old p → StandsFor new p) → IfErr r (Declines old new now k)
+all_refused old new now k key (Ok a) same refused stays = tt
+all_refused old new now k key (Err e) same refused stays = one_refused old new now k key e same refused stays

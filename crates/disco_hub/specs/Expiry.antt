@@ -1,0 +1,47 @@
+-- What has happened after a run that cancels instances whose leases ran out. Moments are in milliseconds.
+use Rattle.std.specs.Prelude.{◌≡◌, ◌≢◌, ◌<◌, ◌≤◌, ℕ, zero, suc, List, length, Option, Some, None, IfSome, Result, Ok, Err, IsOk, slice_get}
+use Rattle.disco_instance.specs.declared.fault.Fault.{Fault}
+use Rattle.disco_instance.specs.declared.fault.Fault.TheVariants.{OutOfMemory}
+use Rattle.disco_instance.specs.declared.key.Key.{Key}
+use Rattle.disco_history.specs.Change.{Entry}
+use Rattle.disco_registry.specs.Accept.{accept_after}
+use Rattle.disco_registry.specs.Op.{cancel}
+use Rattle.disco_hub.specs.Past.{Past, history, with_done}
+use Rattle.disco_hub.specs.State.{Rules, State, StandsFor, rules_of}
+
+-- what a cancel does at a moment after what has happened: its change, or the first cause against it
+abbrev pub cancel_of : Rules → Past → ℕ → Key → Result (Option Entry) Fault
+cancel_of rules p now k = accept_after rules.limits (history p) (cancel k) now
+
+abbrev pub after_cancel : ℕ → Past → ℕ → Key → Result (Option Entry) Fault → Past
+after_cancel most p now k (Ok change) = with_done most p now (cancel k) change
+after_cancel most p now k (Err e) = p
+
+-- what has happened after the next cancel, if there is one
+abbrev pub after_next : Rules → Past → ℕ → Option Key → Past
+after_next rules p now None = p
+after_next rules p now (Some k) = after_cancel rules.queue p now k (cancel_of rules p now k)
+
+-- what has happened after the first i of these keys were cancelled at a moment, one after the other
+unfoldable pub cancelled : Rules → Past → ℕ → List Key → ℕ → Past
+cancelled rules p now ks zero = p
+cancelled rules p now ks (suc i) = after_next rules (cancelled rules p now ks i) now (slice_get ks i)
+
+-- so many of these keys are cancelled at a moment, in their order, each accepted, and all of them unless it stopped: the next cancel is refused so, or there was no memory for it
+pub record IsExpired (rules : Rules) (p : Past) (now : ℕ) (ks : List Key) (gone : ℕ) (stopped : Option Fault) : Type 0 where
+  pub accepted : (i : ℕ) (k : Key) → i < gone → slice_get ks i ≡ Some k → IsOk (cancel_of rules (cancelled rules p now ks i) now k)
+  pub within : gone ≤ length ks
+  pub all : stopped ≡ None → gone ≡ length ks
+  pub next : IfSome stopped (λ e. e ≢ OutOfMemory → (k : Key) × (slice_get ks gone ≡ Some k) × (cancel_of rules (cancelled rules p now ks gone) now k ≡ Err e))
+
+-- one cancel is accepted, and the hub then stands for what has happened with it
+abbrev pub Cancels : State → State → ℕ → Key → Type 0
+Cancels old new now k = (p : Past) → StandsFor old p → (c : Option Entry) × (cancel_of (rules_of old) p now k ≡ Ok c) × StandsFor new (with_done old.queue.max p now (cancel k) c)
+
+-- one cancel is refused, and the hub stands for what it stood for
+abbrev pub Declines : State → State → ℕ → Key → Fault → Type 0
+Declines old new now k e = (p : Past) → StandsFor old p → StandsFor new p × (e ≢ OutOfMemory → cancel_of (rules_of old) p now k ≡ Err e)
+
+-- a hub cancels these keys as far as it says, and then stands for what has happened with that
+abbrev pub Expires : State → State → ℕ → (Past → List Key) → ℕ → Option Fault → Type 0
+Expires old new now ks gone stopped = (p : Past) → StandsFor old p → IsExpired (rules_of old) p now (ks p) gone stopped × StandsFor new (cancelled (rules_of old) p now (ks p) gone)

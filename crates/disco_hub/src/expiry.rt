@@ -1,0 +1,82 @@
+//! Runs that cancel the instances whose leases ran out.
+ghost use Rattle.std.specs.Prelude.{◌≡◌, IfErr, IfOk, OnOk, map};
+ghost use Rattle.disco_instance.specs.declared.fault.Fault.TheVariants.{OutOfMemory};
+ghost use Rattle.disco_hub.specs.Expiry.{Cancels, Declines, Expires};
+ghost use Rattle.disco_hub.specs.Past.{Past, taken_in};
+ghost use Rattle.disco_hub.specs.State.{StandsFor, rules_of};
+
+use crate::hub::Hub;
+use disco_instance::{Fault, Key};
+use disco_registry::{Applied, Op};
+use std::alloc::{AllocError, Global};
+
+/// What a run did that cancels instances whose leases ran out.
+#[derive(Debug, Drop)]
+pub struct Expired {
+    /// How many instances are gone.
+    pub gone: u64,
+    /// Why it stopped before the last one that it takes, if it did.
+    pub stopped: Option<Fault>,
+}
+
+fn copies(alloc: Global, keys: &[&Key]) -> Result<Vec<Key>, AllocError>
+    ensures { IfOk result (λ v. v.items ≡ map (λ k. k.now) keys.now) }
+{
+    let mut copies = Vec::new(alloc);
+    for key in keys {
+        copies.push((*key).clone()?)?;
+    }
+    Ok(copies)
+}
+
+fn cancel(hub: &mut Hub, key: &Key, now: u64) -> Result<Applied, Fault>
+    ensures done { OnOk result (Cancels hub.old hub.new now key.now) }
+    ensures refused { IfErr result (Declines hub.old hub.new now key.now) }
+    ensures rules { rules_of hub.new ≡ rules_of hub.old }
+{
+    let key = key.clone()?;
+    hub.write(Op::Cancel(key), now)
+}
+
+fn cancel_all(hub: &mut Hub, keys: &[Key], now: u64) -> Expired
+    ensures history { Expires hub.old hub.new now (λ _. keys.now) result.gone result.stopped }
+    ensures rules { rules_of hub.new ≡ rules_of hub.old }
+{
+    let mut gone = 0;
+    for key in keys {
+        if let Err(fault) = cancel(hub, key, now) {
+            return Expired {
+                gone,
+                stopped: Some(fault),
+            };
+        }
+        gone += 1;
+    }
+    Expired {
+        gone,
+        stopped: None,
+    }
+}
+
+/// The keys that a run at a moment takes, of which the hub's leases are not the owner.
+fn taken(alloc: Global, hub: &Hub, now: u64) -> Result<Vec<Key>, Fault>
+    ensures keys { IfOk result (λ v. (p : Past) → StandsFor hub.now p → v.items ≡ taken_in p now) }
+    ensures memory { IfErr result (λ e. e ≡ OutOfMemory) }
+{
+    let due = hub.due(now)?;
+    Ok(copies(alloc, due.as_slice())?)
+}
+
+/// Does the run at a moment.
+pub(crate) fn expire(alloc: Global, hub: &mut Hub, now: u64) -> Expired
+    ensures history { Expires hub.old hub.new now (λ p. taken_in p now) result.gone result.stopped }
+    ensures rules { rules_of hub.new ≡ rules_of hub.old }
+{
+    match taken(alloc, hub, now) {
+        Ok(keys) => cancel_all(hub, keys.as_slice(), now),
+        Err(fault) => Expired {
+            gone: 0,
+            stopped: Some(fault),
+        },
+    }
+}
