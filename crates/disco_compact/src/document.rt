@@ -1,5 +1,5 @@
 //! Documents in the compact form.
-ghost use Rattle.std.specs.Prelude.{◌≡◌, IfErr, IfOk, List, false, option_map, true};
+ghost use Rattle.std.specs.Prelude.{◌≡◌, length, IfErr, IfOk, List, false, option_map, true};
 ghost use Rattle.disco_instance.specs.declared.fault.Fault.TheVariants.{OutOfMemory};
 ghost use Rattle.disco_instance.specs.declared.form.Form.TheVariants.{Compact};
 ghost use Rattle.disco_history.specs.Change.{Entry};
@@ -8,7 +8,7 @@ ghost use Rattle.disco_index.specs.Vips.{IsIndexOf};
 ghost use Rattle.disco_queue.specs.Queue.{Keeps};
 ghost use Rattle.disco_queue.specs.Timed.{Timed, changes};
 ghost use Rattle.disco_registry.specs.State.{StandsFor};
-ghost use Rattle.disco_writer.specs.Documents.{IsDeltaWritten, IsWritten, asked_by, is_delta};
+ghost use Rattle.disco_writer.specs.Documents.{IsWritten, is_delta};
 
 use disco_index::{Counts, VipIndex};
 use disco_instance::{Fault, Form};
@@ -29,9 +29,9 @@ pub fn write_compact(
     requires counts { counts.now ≡ tally_in registry.now.held }
     requires vips { IsIndexOf vips.now registry.now.held }
     ensures written { IfOk result (λ o. is_delta query.now ≡ false
-        → (h : List Entry) → StandsFor registry.now h → IsWritten Compact (asked_by query.now) h (option_map (λ v. v.items) o)) }
+        → (h : List Entry) → StandsFor registry.now h → IsWritten Compact query.now h (length h) (option_map (λ v. v.items) o)) }
     ensures delta { IfOk result (λ o. is_delta query.now ≡ true
-        → (h : List Timed) → StandsFor registry.now (changes h) → Keeps queue.now h → IsDeltaWritten Compact (changes h) queue.now.base (option_map (λ v. v.items) o)) }
+        → (h : List Timed) → StandsFor registry.now (changes h) → Keeps queue.now h → IsWritten Compact query.now (changes h) queue.now.base (option_map (λ v. v.items) o)) }
     ensures memory { IfErr result (λ e. e ≡ OutOfMemory) }
 {
     write_document(alloc, Form::Compact, query, registry, vips, queue, counts)

@@ -1,5 +1,5 @@
 //! The hub: the registry and all that follows its changes.
-ghost use Rattle.std.specs.Prelude.{◌≡◌, ◌≢◌, ◌≤◌, List, IfErr, IfOk, OnErr, OnOk, Ok, Some, None, map, true, false, option_map};
+ghost use Rattle.std.specs.Prelude.{◌≡◌, ◌≢◌, ◌≤◌, List, IfErr, IfOk, OnErr, OnOk, Ok, Some, None, length, map, true, false, option_map};
 ghost use Rattle.std.specs.FinMap.{len};
 ghost use Rattle.disco_instance.specs.declared.fault.Fault.TheVariants.{OutOfMemory};
 ghost use Rattle.disco_history.specs.Change.{Entry, key_of, seen};
@@ -13,7 +13,7 @@ ghost use Rattle.disco_registry.specs.Commit as commit;
 ghost use Rattle.disco_registry.specs.Commit.{Takes, changes_properly, done_by, held_after};
 ghost use Rattle.disco_registry.specs.Op.{Ask, ask_of};
 ghost use Rattle.disco_registry.specs.State as registry;
-ghost use Rattle.disco_writer.specs.Documents.{IsDeltaWritten, IsWritten, asked_by, is_delta};
+ghost use Rattle.disco_writer.specs.Documents.{IsWritten, is_delta};
 ghost use Rattle.disco_cache.specs.Payloads.{IsTrue};
 ghost use Rattle.disco_hub.specs.Expiry.{Expires};
 ghost use Rattle.disco_hub.specs.Past.{Past, cleaned, history, minute_closed, nothing, taken_in, with_done};
@@ -333,9 +333,9 @@ impl Hub {
 
     fn text_of(&self, key: &DocKey) -> Result<Option<Vec<u8>>, Fault>
         ensures written { IfOk result (λ o. is_delta key.now.query ≡ false
-            → (h : List Entry) → registry.StandsFor self.now.registry h → IsWritten key.now.form (asked_by key.now.query) h (option_map (λ v. v.items) o)) }
+            → (h : List Entry) → registry.StandsFor self.now.registry h → IsWritten key.now.form key.now.query h (length h) (option_map (λ v. v.items) o)) }
         ensures delta { IfOk result (λ o. is_delta key.now.query ≡ true
-            → (p : Past) → StandsFor self.now p → IsDeltaWritten key.now.form (history p) self.now.queue.base (option_map (λ v. v.items) o)) }
+            → (p : Past) → StandsFor self.now p → IsWritten key.now.form key.now.query (history p) self.now.queue.base (option_map (λ v. v.items) o)) }
         ensures memory { IfErr result (λ e. e ≡ OutOfMemory) }
     {
         let (registry, vips, queue) = (&self.registry, &self.vips, &self.queue);

@@ -24,11 +24,11 @@ use Rattle.disco_history.specs.Query.{all}
 use Rattle.disco_history.proofs.Restrictions.{values-said_all}
 use Rattle.disco_wire.specs.Documents.{document_of}
 use Rattle.disco_wire.specs.Meaning.{Meaning}
-use Rattle.disco_writer.specs.Documents.{IsTrueDelta, IsTrueFor, asked_by, delta_meaning, is_delta, meaning_for, mentioned}
+use Rattle.disco_writer.specs.Documents.{IsTrueFor, is_delta, meaning_for, mentioned}
 use Rattle.disco_writer.specs.Rows.{mentions_in}
 use Rattle.disco_writer.specs.declared.query.Query.{Query}
 use Rattle.disco_writer.specs.declared.query.Query.TheVariants as query
-use Rattle.disco_cache.specs.Payloads.{IsTrue, IsTrueBy}
+use Rattle.disco_cache.specs.Payloads.{IsTrue}
 use Rattle.disco_cache.specs.declared.payload.Payload.{Payload}
 use Rattle.disco_world.specs.Clients.{MeansVersion, moved, same_form, taken, taken_by, taken_from}
 use Rattle.disco_world.specs.Events.{for_clients}
@@ -84,21 +84,30 @@ of_now h d is version kind = record {
 
 -- ---- what such a document means
 
-all_asked : (q : Query) → for_clients q ≡ true → asked_by q ≡ all
-all_asked query.Apps e = refl
-all_asked query.Delta e = refl
-all_asked (query.App name) e = absurd (cc)
-all_asked (query.Vip vip) e = absurd (cc)
-all_asked (query.Svip svip) e = absurd (cc)
-all_asked (query.Instance key) e = absurd (cc)
+all_apps : (q : Query) → for_clients q ≡ true → is_delta q ≡ false → q ≡ query.Apps
+all_apps query.Apps e f = refl
+all_apps query.Delta e f = absurd (cc)
+all_apps (query.App name) e f = absurd (cc)
+all_apps (query.Vip vip) e f = absurd (cc)
+all_apps (query.Svip svip) e f = absurd (cc)
+all_apps (query.Instance key) e f = absurd (cc)
 
-true_full : (h : List Entry) (d : Payload) → IsOf h d → is_delta d.key.query ≡ false → IsTrueFor all d.text d.base d.version d.key.form (front h d.version)
-true_full h d is full =
-    let for_query : IsTrueFor (asked_by d.key.query) d.text d.base d.version d.key.form (front h d.version) = subst (λ b. IsTrueBy b d (front h d.version)) full is.true_then in
-    subst (λ a. IsTrueFor a d.text d.base d.version d.key.form (front h d.version)) (all_asked d.key.query is.kind) for_query
+changes_alone : (q : Query) → is_delta q ≡ true → q ≡ query.Delta
+changes_alone query.Apps e = absurd (cc)
+changes_alone query.Delta e = refl
+changes_alone (query.App name) e = absurd (cc)
+changes_alone (query.Vip vip) e = absurd (cc)
+changes_alone (query.Svip svip) e = absurd (cc)
+changes_alone (query.Instance key) e = absurd (cc)
 
-true_delta : (h : List Entry) (d : Payload) → IsOf h d → is_delta d.key.query ≡ true → IsTrueDelta d.text d.base d.version d.key.form (front h d.version)
-true_delta h d is kind = subst (λ b. IsTrueBy b d (front h d.version)) kind is.true_then
+true_of : (h : List Entry) (d : Payload) (q : Query) → IsOf h d → d.key.query ≡ q → IsTrueFor q d.text d.base d.version d.key.form (front h d.version)
+true_of h d q is same = subst (λ q. IsTrueFor q d.text d.base d.version d.key.form (front h d.version)) same is.true_then
+
+true_full : (h : List Entry) (d : Payload) → IsOf h d → is_delta d.key.query ≡ false → IsTrueFor query.Apps d.text d.base d.version d.key.form (front h d.version)
+true_full h d is full = true_of h d query.Apps is (all_apps d.key.query is.kind full)
+
+true_delta : (h : List Entry) (d : Payload) → IsOf h d → is_delta d.key.query ≡ true → IsTrueFor query.Delta d.text d.base d.version d.key.form (front h d.version)
+true_delta h d is kind = true_of h d query.Delta is (changes_alone d.key.query kind)
 
 pub readable : (h : List Entry) (d : Payload) → IsOf h d → IsReadable d
 readable h d is = by (is_delta d.key.query) refl
@@ -118,7 +127,7 @@ full_means h d held c is full takes = λ at known.
     let f = d.key.form in
     let v = d.version in
     let g = front h v in
-    let m = meaning_for all f g v in
+    let m = meaning_for query.Apps f g d.base v in
     let t = true_full h d is full in
     let now : Known = record { form = f; version = v } in
     let e : c ≡ record { copy = copied m.mentions; known = Some now } = same_Some _ _ (sym takes ∙ taken_is d held false m full t.meaning) in
@@ -152,7 +161,7 @@ moves k f o b at = by (same_form k.form f) refl (nat_le o k.version) refl (nat_l
     by true form true above false below is = absurd (cc)
 
 overlay_means : (h : List Entry) (d : Payload) (old : Client) (c : Client) (k at : Known) → IsOf h d → is_delta d.key.query ≡ true → MeansVersion h old → old.known ≡ Some k
-    → c ≡ record { copy = overlay old.copy (delta_meaning d.key.form (front h d.version) d.base).mentions; known = moved old.known d.key.form d.base d.version } → Moves k d.key.form d.base d.version at
+    → c ≡ record { copy = overlay old.copy (meaning_for query.Delta d.key.form (front h d.version) d.base d.version).mentions; known = moved old.known d.key.form d.base d.version } → Moves k d.key.form d.base d.version at
     → (at.version ≤ length h) × (c.copy ≡ in_form at.form (reg (front h at.version)))
 overlay_means h d old c k at is kind means known e m =
     let f = d.key.form in
@@ -161,19 +170,19 @@ overlay_means h d old c k at is kind means known e m =
     let es = values (delta g d.base) in
     let there : old.copy ≡ in_form f (reg (front g k.version)) =
     (means k known).1 ∙ ap (λ f. in_form f (reg (front h k.version))) m.form ∙ ap (λ x. in_form f (reg x)) (sym (take-take k.version d.version h m.below)) in
-    let within : k.version ≤ length g = omega (arith, m.below, t.now) in
+    let within : k.version ≤ length g = omega (arith, m.below, t.now refl) in
     let copy : c.copy ≡ in_form f (reg g) =
     ap (λ (c : Client). c.copy) e ∙ ap (λ s. overlay s (mentions_in f es)) there ∙ overlay_formed f (reg (front g k.version)) (map mention_of es) ∙ ap (in_form f) (overlay_law g d.base k.version m.above within) in
     (subst (λ (k : Known). k.version ≤ length h) m.now is.inside, copy ∙ ap (λ (k : Known). in_form k.form (reg (front h k.version))) m.now)
 
 pub delta_means : (h : List Entry) (d : Payload) (held : Option Client) (c : Client) → IsOf h d → is_delta d.key.query ≡ true → ((o : Client) → held ≡ Some o → MeansVersion h o) → taken d held ≡ Some c → MeansVersion h c
-delta_means h d None c is kind means takes = absurd (let bad = sym takes ∙ taken_is d None true (delta_meaning d.key.form (front h d.version) d.base) kind (true_delta h d is kind).meaning in cc)
+delta_means h d None c is kind means takes = absurd (let bad = sym takes ∙ taken_is d None true (meaning_for query.Delta d.key.form (front h d.version) d.base d.version) kind (true_delta h d is kind).meaning in cc)
 delta_means h d (Some old) c is kind means takes = λ at known.
-    let m = delta_meaning d.key.form (front h d.version) d.base in
+    let m = meaning_for query.Delta d.key.form (front h d.version) d.base d.version in
     let e : c ≡ record { copy = overlay old.copy m.mentions; known = moved old.known d.key.form d.base d.version } = same_Some _ _ (sym takes ∙ taken_is d (Some old) true m kind (true_delta h d is kind).meaning) in
     by at e old.known refl (sym (ap (λ (c : Client). c.known) e) ∙ known)
   where
-    by : (at : Known) → c ≡ record { copy = overlay old.copy (delta_meaning d.key.form (front h d.version) d.base).mentions; known = moved old.known d.key.form d.base d.version }
+    by : (at : Known) → c ≡ record { copy = overlay old.copy (meaning_for query.Delta d.key.form (front h d.version) d.base d.version).mentions; known = moved old.known d.key.form d.base d.version }
         → (o : Option Known) → old.known ≡ o → moved old.known d.key.form d.base d.version ≡ Some at → (at.version ≤ length h) × (c.copy ≡ in_form at.form (reg (front h at.version)))
     by at e None none goes = absurd (let bad = ap (λ o. moved o d.key.form d.base d.version) (sym none) ∙ goes in cc)
     by at e (Some k) some goes = overlay_means h d old c k at is kind (means old refl) some e (moves k d.key.form d.base d.version at (ap (λ o. moved o d.key.form d.base d.version) (sym some) ∙ goes))

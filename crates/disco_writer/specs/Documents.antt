@@ -1,5 +1,5 @@
 -- What a written document means, and what a true one is.
-use Rattle.std.specs.Prelude.{◌≡◌, ◌≤◌, ℕ, Bool, true, false, List, length, Option, Some, None, Ok}
+use Rattle.std.specs.Prelude.{◌≡◌, ◌≤◌, ℕ, Bool, true, false, List, if◌then◌else◌, length, Option, Some, None, Ok}
 use Rattle.std.specs.FinMap.{values}
 use Rattle.serde_json.specs.Written.{compact_text}
 use Rattle.disco_instance.specs.declared.form.Form.{Form}
@@ -13,35 +13,33 @@ use Rattle.disco_wire.specs.Meaning.{Meaning}
 use Rattle.disco_wire.specs.declared.wire.Shape.{Shape}
 use Rattle.disco_wire.specs.declared.wire.Shape.TheVariants.{Many, App, One}
 use Rattle.disco_writer.specs.Rows.{mentions_in}
-use Rattle.disco_writer.specs.Trees.{document_tree, tree_of}
+use Rattle.disco_writer.specs.Trees.{tree_of}
 use Rattle.disco_writer.specs.declared.query.Query.{Query}
 use Rattle.disco_writer.specs.declared.query.Query.TheVariants as query
 
+-- a kind of document: of which records it is, its shape, whether it names what changed in place of them, and whether it is kept while other changes come
+pub record Kind : Type 0 where
+  pub asked : Asked
+  pub shape : Shape
+  pub delta : Bool
+  pub kept : Bool
+
+-- the table of queries
+abbrev pub kind : Query → Kind
+kind query.Apps = record { asked = all; shape = Many; delta = false; kept = false }
+kind query.Delta = record { asked = all; shape = Many; delta = true; kept = false }
+kind (query.App name) = record { asked = of_app name; shape = App; delta = false; kept = true }
+kind (query.Vip vip) = record { asked = of_vip vip; shape = Many; delta = false; kept = true }
+kind (query.Svip vip) = record { asked = of_secure_vip vip; shape = Many; delta = false; kept = true }
+kind (query.Instance key) = record { asked = of_key key; shape = One; delta = false; kept = false }
+
 -- which records a query asks for; a delta is of all of them
 abbrev pub asked_by : Query → Asked
-asked_by query.Apps = all
-asked_by query.Delta = all
-asked_by (query.App name) = of_app name
-asked_by (query.Vip vip) = of_vip vip
-asked_by (query.Svip vip) = of_secure_vip vip
-asked_by (query.Instance key) = of_key key
+asked_by q = (kind q).asked
 
 -- the query asks for what changed
 abbrev pub is_delta : Query → Bool
-is_delta query.Apps = false
-is_delta query.Delta = true
-is_delta (query.App name) = false
-is_delta (query.Vip vip) = false
-is_delta (query.Svip vip) = false
-is_delta (query.Instance key) = false
-
--- the shape of the document that answers a query
-abbrev pub shape_of : Asked → Shape
-shape_of all = Many
-shape_of (of_app name) = App
-shape_of (of_vip vip) = Many
-shape_of (of_secure_vip vip) = Many
-shape_of (of_key k) = One
+is_delta q = (kind q).delta
 
 -- a document of many apps has a hash code and a version, another one neither
 abbrev pub if_many : {X : Type 0} → Shape → X → Option X
@@ -49,63 +47,38 @@ if_many Many x = Some x
 if_many App x = None
 if_many One x = None
 
--- the mentions that are asked for after a history, by app, then id
+-- the mentions of the records that are asked for after a history, by app, then id
 abbrev pub mentioned : Asked → List Entry → List Entry
 mentioned a h = values (said h (restrict (reg h) a))
 
--- what a document in a form means after a history that was built at a version
-abbrev pub meaning_for : Asked → Form → List Entry → ℕ → Meaning
-meaning_for a f h v = record {
-  shape = shape_of a;
-  mentions = mentions_in f (mentioned a h);
-  hash = if_many (shape_of a) (hash (values (restrict (reg h) a)));
-  version = if_many (shape_of a) v;
+-- the mentions of a query's document: the last changes from the base on, or those of the records
+abbrev pub told : Query → List Entry → ℕ → List Entry
+told q h base = if is_delta q then values (delta h base) else mentioned (asked_by q) h
+
+-- the hash code of the records that are asked for: a delta's is that of all
+abbrev pub hash_of : Query → List Entry → List ℕ
+hash_of q h = hash (values (restrict (reg h) (asked_by q)))
+
+-- what a document in a form means after a history, from a base, where it was built at a version
+abbrev pub meaning_for : Query → Form → List Entry → ℕ → ℕ → Meaning
+meaning_for q f h base v = record {
+  shape = (kind q).shape;
+  mentions = mentions_in f (told q h base);
+  hash = if_many (kind q).shape (hash_of q h);
+  version = if_many (kind q).shape v;
 }
 
--- a document of an app or of vips is kept while other changes come
-abbrev pub is_kept : Asked → Bool
-is_kept all = false
-is_kept (of_app name) = true
-is_kept (of_vip vip) = true
-is_kept (of_secure_vip vip) = true
-is_kept (of_key k) = false
-
--- it was built at the history's end, or, where it is kept, at an earlier version since which nothing that is asked for has changed
-pub record IsBuiltAt (a : Asked) (f : Form) (h : List Entry) (v : ℕ) : Type 0 where
-  pub past : v ≤ length h
-  pub same : meaning_for a f (front h v) v ≡ meaning_for a f h v
-  pub now : is_kept a ≡ false → v ≡ length h
-
--- a true document after a history: its text, its base and its version
-pub record IsTrueFor (a : Asked) (text : List ℕ) (base version : ℕ) (f : Form) (h : List Entry) : Type 0 where
-  pub meaning : document_of text ≡ Ok (meaning_for a f h version)
-  pub there : is_absent (reg h) a ≡ false
-  pub base_is : base ≡ version
-  pub built : IsBuiltAt a f h version
-
--- what is written of a query in a form after a history: nothing exactly where it is absent, else the compact text of its tree, which means what is asked for
-abbrev pub IsWritten : Form → Asked → List Entry → Option (List ℕ) → Type 0
-IsWritten f a h None = is_absent (reg h) a ≡ true
-IsWritten f a h (Some text) = (is_absent (reg h) a ≡ false) × (text ≡ compact_text (tree_of f a (mentioned a h) (length h))) × (document_of text ≡ Ok (meaning_for a f h (length h)))
-
--- ---- deltas
-
--- what a delta in a form means after a history: the last changes from the base on, with the hash code of all records
-abbrev pub delta_meaning : Form → List Entry → ℕ → Meaning
-delta_meaning f h base = record {
-  shape = Many;
-  mentions = mentions_in f (values (delta h base));
-  hash = Some (hash (values (reg h)));
-  version = Some (length h);
-}
-
--- a true delta after a history: its text, its base and its version
-pub record IsTrueDelta (text : List ℕ) (base version : ℕ) (f : Form) (h : List Entry) : Type 0 where
-  pub meaning : document_of text ≡ Ok (delta_meaning f h base)
+-- a true document after a history: a delta from its base to now; another one of now, or, where it is kept, of an earlier version since which nothing that is asked for has changed
+pub record IsTrueFor (q : Query) (text : List ℕ) (base version : ℕ) (f : Form) (h : List Entry) : Type 0 where
+  pub meaning : document_of text ≡ Ok (meaning_for q f h base version)
+  pub there : is_absent (reg h) (asked_by q) ≡ false
   pub start : base ≤ version
-  pub now : version ≡ length h
+  pub whole : is_delta q ≡ false → base ≡ version
+  pub past : version ≤ length h
+  pub now : (kind q).kept ≡ false → version ≡ length h
+  pub same : meaning_for q f (front h version) base version ≡ meaning_for q f h base version
 
--- what is written of a delta in a form: the compact text of its tree, which means it
-abbrev pub IsDeltaWritten : Form → List Entry → ℕ → Option (List ℕ) → Type 0
-IsDeltaWritten f h base None = ⊥
-IsDeltaWritten f h base (Some text) = (text ≡ compact_text (document_tree f (values (delta h base)) (hash (values (reg h))) (length h))) × (document_of text ≡ Ok (delta_meaning f h base))
+-- what is written of a query in a form after a history, a delta from a base: nothing exactly where it is absent, else the compact text of its tree, which means what is asked for
+abbrev pub IsWritten : Form → Query → List Entry → ℕ → Option (List ℕ) → Type 0
+IsWritten f q h base None = is_absent (reg h) (asked_by q) ≡ true
+IsWritten f q h base (Some text) = (is_absent (reg h) (asked_by q) ≡ false) × (text ≡ compact_text (tree_of f (asked_by q) (told q h base) (hash_of q h) (length h))) × (document_of text ≡ Ok (meaning_for q f h base (length h)))

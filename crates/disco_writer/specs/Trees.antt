@@ -11,7 +11,6 @@ use Rattle.disco_instance.specs.declared.form.Form.{Form}
 use Rattle.disco_instance.specs.declared.form.Form.TheVariants.{Full, Compact}
 use Rattle.disco_instance.specs.declared.port.Port.{Port}
 use Rattle.disco_history.specs.Change.{Entry}
-use Rattle.disco_history.specs.Hash.{hash}
 use Rattle.disco_history.specs.Query.{Asked, all, of_app, of_vip, of_secure_vip, of_key}
 
 -- members in this order
@@ -137,10 +136,10 @@ unfoldable pub instance_document : Form → List Entry → Data
 instance_document f [] = tree []
 instance_document f (e ∷ es) = tree ((codes "instance", instance_tree f e) ∷ [])
 
--- the document of these instances, which are all that is asked for
-abbrev pub tree_of : Form → Asked → List Entry → ℕ → Data
-tree_of f all es version = document_tree f es (hash (map (λ e. e.0) es)) version
-tree_of f (of_app name) es version = app_document f name es
-tree_of f (of_vip vip) es version = document_tree f es (hash (map (λ e. e.0) es)) version
-tree_of f (of_secure_vip vip) es version = document_tree f es (hash (map (λ e. e.0) es)) version
-tree_of f (of_key k) es version = instance_document f es
+-- the document of these instances, with this hash code where it is of many apps
+abbrev pub tree_of : Form → Asked → List Entry → List ℕ → ℕ → Data
+tree_of f all es hash version = document_tree f es hash version
+tree_of f (of_app name) es hash version = app_document f name es
+tree_of f (of_vip vip) es hash version = document_tree f es hash version
+tree_of f (of_secure_vip vip) es hash version = document_tree f es hash version
+tree_of f (of_key k) es hash version = instance_document f es

@@ -6,8 +6,9 @@ ghost use Rattle.disco_index.specs.Tally.{tally_in};
 ghost use Rattle.disco_queue.specs.Queue.{Keeps};
 ghost use Rattle.disco_queue.specs.Timed.{Timed, changes};
 ghost use Rattle.disco_registry.specs.State.{StandsFor};
-ghost use Rattle.disco_writer.specs.Documents.{IsDeltaWritten};
+ghost use Rattle.disco_writer.specs.Documents.{IsWritten};
 ghost use Rattle.disco_writer.specs.Rows.{entries_of};
+ghost use Rattle.disco_writer.specs.declared.query.Query.TheVariants as query;
 
 use crate::many::many_text;
 use disco_history::{Change, Held};
@@ -38,7 +39,7 @@ pub(crate) fn write_delta(
     counts: &Counts,
 ) -> Result<Vec<u8>, Fault>
     requires { counts.now ≡ tally_in registry.now.held }
-    ensures written { IfOk result (λ v. (h : List Timed) → StandsFor registry.now (changes h) → Keeps queue.now h → IsDeltaWritten form (changes h) queue.now.base (Some v.items)) }
+    ensures written { IfOk result (λ v. (h : List Timed) → StandsFor registry.now (changes h) → Keeps queue.now h → IsWritten form query.Delta (changes h) queue.now.base (Some v.items)) }
     ensures memory { IfErr result (λ e. e ≡ OutOfMemory) }
 {
     let last = queue.last_changes(alloc)?;

@@ -5,7 +5,6 @@ ghost use Rattle.disco_instance.specs.declared.fault.Fault.TheVariants.{OutOfMem
 ghost use Rattle.disco_instance.specs.declared.form.Form.TheVariants.{Full};
 ghost use Rattle.disco_history.specs.Change.{Entry};
 ghost use Rattle.disco_history.specs.Hash.{hash};
-ghost use Rattle.disco_history.specs.Query.{all, of_app, of_vip, of_secure_vip, of_key};
 ghost use Rattle.disco_index.specs.Tally.{tally_in};
 ghost use Rattle.disco_index.specs.Vips.{IsIndexOf};
 ghost use Rattle.disco_queue.specs.Queue.{Keeps};
@@ -14,9 +13,10 @@ ghost use Rattle.disco_registry.specs.State.{StandsFor};
 ghost use Rattle.disco_wire.specs.Documents.{document_of};
 ghost use Rattle.disco_wire.specs.Meaning.{meant};
 ghost use Rattle.disco_wire.specs.declared.wire.Shape.TheVariants.{Many};
-ghost use Rattle.disco_writer.specs.Documents.{IsDeltaWritten, IsWritten, asked_by, is_delta};
+ghost use Rattle.disco_writer.specs.Documents.{IsWritten, is_delta};
 ghost use Rattle.disco_writer.specs.Rows.{entries_of, mentions_in, rows_in};
 ghost use Rattle.disco_writer.specs.Trees.{document_tree};
+ghost use Rattle.disco_writer.specs.declared.query.Query.TheVariants as query;
 
 use crate::delta::write_delta;
 use crate::many::{app_text, many_text, one_text};
@@ -44,9 +44,9 @@ pub fn write_document(
     requires counts { counts.now ≡ tally_in registry.now.held }
     requires vips { IsIndexOf vips.now registry.now.held }
     ensures written { IfOk result (λ o. is_delta query.now ≡ false
-        → (h : List Entry) → StandsFor registry.now h → IsWritten form (asked_by query.now) h (option_map (λ v. v.items) o)) }
+        → (h : List Entry) → StandsFor registry.now h → IsWritten form query.now h (length h) (option_map (λ v. v.items) o)) }
     ensures delta { IfOk result (λ o. is_delta query.now ≡ true
-        → (h : List Timed) → StandsFor registry.now (changes h) → Keeps queue.now h → IsDeltaWritten form (changes h) queue.now.base (option_map (λ v. v.items) o)) }
+        → (h : List Timed) → StandsFor registry.now (changes h) → Keeps queue.now h → IsWritten form query.now (changes h) queue.now.base (option_map (λ v. v.items) o)) }
     ensures memory { IfErr result (λ e. e ≡ OutOfMemory) }
 {
     if query.is_delta() {
@@ -67,9 +67,9 @@ pub fn write_full(
     requires counts { counts.now ≡ tally_in registry.now.held }
     requires vips { IsIndexOf vips.now registry.now.held }
     ensures written { IfOk result (λ o. is_delta query.now ≡ false
-        → (h : List Entry) → StandsFor registry.now h → IsWritten Full (asked_by query.now) h (option_map (λ v. v.items) o)) }
+        → (h : List Entry) → StandsFor registry.now h → IsWritten Full query.now h (length h) (option_map (λ v. v.items) o)) }
     ensures delta { IfOk result (λ o. is_delta query.now ≡ true
-        → (h : List Timed) → StandsFor registry.now (changes h) → Keeps queue.now h → IsDeltaWritten Full (changes h) queue.now.base (option_map (λ v. v.items) o)) }
+        → (h : List Timed) → StandsFor registry.now (changes h) → Keeps queue.now h → IsWritten Full query.now (changes h) queue.now.base (option_map (λ v. v.items) o)) }
     ensures memory { IfErr result (λ e. e ≡ OutOfMemory) }
 {
     write_document(alloc, Form::Full, query, registry, vips, queue, counts)
@@ -87,7 +87,7 @@ fn write_held(
     requires counts { counts.now ≡ tally_in registry.now.held }
     requires vips { IsIndexOf vips.now registry.now.held }
     requires no_delta { is_delta query.now ≡ false }
-    ensures written { IfOk result (λ o. (h : List Entry) → StandsFor registry.now h → IsWritten form (asked_by query.now) h (option_map (λ v. v.items) o)) }
+    ensures written { IfOk result (λ o. (h : List Entry) → StandsFor registry.now h → IsWritten form query.now h (length h) (option_map (λ v. v.items) o)) }
     ensures memory { IfErr result (λ e. e ≡ OutOfMemory) }
 {
     match query {
@@ -107,7 +107,7 @@ fn write_apps(
     counts: &Counts,
 ) -> Result<Vec<u8>, Fault>
     requires { counts.now ≡ tally_in registry.now.held }
-    ensures written { IfOk result (λ v. (h : List Entry) → StandsFor registry.now h → IsWritten form all h (Some v.items)) }
+    ensures written { IfOk result (λ v. (h : List Entry) → StandsFor registry.now h → IsWritten form query.Apps h (length h) (Some v.items)) }
     ensures memory { IfErr result (λ e. e ≡ OutOfMemory) }
 {
     let hash = counts.text(alloc)?;
@@ -120,7 +120,7 @@ fn write_app(
     registry: &Registry,
     name: &Text,
 ) -> Result<Option<Vec<u8>>, Fault>
-    ensures written { IfOk result (λ o. (h : List Entry) → StandsFor registry.now h → IsWritten form (of_app name.now) h (option_map (λ v. v.items) o)) }
+    ensures written { IfOk result (λ o. (h : List Entry) → StandsFor registry.now h → IsWritten form (query.App name.now) h (length h) (option_map (λ v. v.items) o)) }
     ensures memory { IfErr result (λ e. e ≡ OutOfMemory) }
 {
     let held = registry.of_app(name);
@@ -157,7 +157,7 @@ fn write_vip(
     vip: &Text,
 ) -> Result<Option<Vec<u8>>, Fault>
     requires { IsIndexOf vips.now registry.now.held }
-    ensures written { IfOk result (λ o. (h : List Entry) → StandsFor registry.now h → IsWritten form (of_vip vip.now) h (option_map (λ v. v.items) o)) }
+    ensures written { IfOk result (λ o. (h : List Entry) → StandsFor registry.now h → IsWritten form (query.Vip vip.now) h (length h) (option_map (λ v. v.items) o)) }
     ensures memory { IfErr result (λ e. e ≡ OutOfMemory) }
 {
     let held = held_under_vip(alloc, registry, vips, vip)?;
@@ -170,7 +170,7 @@ fn write_svip(
     registry: &Registry,
     svip: &Text,
 ) -> Result<Option<Vec<u8>>, Fault>
-    ensures written { IfOk result (λ o. (h : List Entry) → StandsFor registry.now h → IsWritten form (of_secure_vip svip.now) h (option_map (λ v. v.items) o)) }
+    ensures written { IfOk result (λ o. (h : List Entry) → StandsFor registry.now h → IsWritten form (query.Svip svip.now) h (length h) (option_map (λ v. v.items) o)) }
     ensures memory { IfErr result (λ e. e ≡ OutOfMemory) }
 {
     let held = held_under_svip(alloc, registry, svip)?;
@@ -183,7 +183,7 @@ fn write_instance(
     registry: &Registry,
     key: &Key,
 ) -> Result<Option<Vec<u8>>, Fault>
-    ensures written { IfOk result (λ o. (h : List Entry) → StandsFor registry.now h → IsWritten form (of_key key.now) h (option_map (λ v. v.items) o)) }
+    ensures written { IfOk result (λ o. (h : List Entry) → StandsFor registry.now h → IsWritten form (query.Instance key.now) h (length h) (option_map (λ v. v.items) o)) }
     ensures memory { IfErr result (λ e. e ≡ OutOfMemory) }
 {
     match registry.held(key) {

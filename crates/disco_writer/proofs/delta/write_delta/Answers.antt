@@ -1,7 +1,6 @@
-use Rattle.std.proofs.Common.{◌≡◌, Ok, Some, map, length, ap, sym, ◌∙◌}
+use Rattle.std.proofs.Common.{◌≡◌, map, ap, sym, ◌∙◌}
 use Rattle.std.specs.Borrow.{Bor}
 use Rattle.std.specs.FinMap.{FinMap, values}
-use Rattle.serde_json.specs.Written.{compact_text}
 use Rattle.disco_instance.specs.Key.{key_cmp}
 use Rattle.disco_history.specs.Change.{Entry, seen}
 use Rattle.disco_history.specs.declared.change.Change.{Change}
@@ -11,10 +10,9 @@ use Rattle.disco_history.specs.Registry.{reg}
 use Rattle.disco_history.proofs.Sets.{values-reg}
 use Rattle.disco_index.specs.Tally.{rows_of}
 use Rattle.disco_queue.specs.Timed.{changes}
-use Rattle.disco_wire.specs.Meaning.{meant}
-use Rattle.disco_wire.specs.declared.wire.Shape.TheVariants.{Many}
-use Rattle.disco_writer.specs.Rows.{entries_of, mentions_in}
-use Rattle.disco_writer.specs.Trees.{document_tree}
+use Rattle.disco_writer.specs.Rows.{entries_of}
+use Rattle.disco_writer.specs.declared.query.Query.TheVariants as query
+use Rattle.disco_writer.proofs.Written.{all_asked, all_there, some_written}
 use Rattle.disco_writer.proofs.delta.write_delta.Goals as goal
 
 pub returns-clause-written : goal.returns-clause-written
@@ -25,7 +23,4 @@ returns-clause-written c = λ h stands keeps.
     ap entries_of c.as_slice-2.ensures.value ∙ c.in_ok-held.ensures ∙ ap (map (λ (x : Bor Change). seen x.now)) c.as_slice.ensures.value ∙ c.in_ok-last.ensures.history h keeps in
     let code : c.in_ok-hash.hash ≡ hash (values (reg hs)) =
     c.in_ok-hash.ensures.text (rows_of c.args.registry.now.held) c.requires ∙ ap (λ (m : FinMap key_cmp Entry). hash (rows_of m)) stands.held ∙ ap hash (sym (values-reg hs)) in
-    let at : c.version.result ≡ length hs = c.version.ensures.version ∙ stands.version in (
-      c.in_ok-many_text.ensures.text ∙ (λ i. compact_text (document_tree c.args.form (same i) (code i) (at i))),
-      c.in_ok-many_text.ensures.means ∙ (λ i. Ok (meant Many (Some (code i)) (Some (at i)) (mentions_in c.args.form (same i)))),
-    )
+    some_written c.args.form query.Delta hs c.args.queue.now.base es c.in_ok-hash.hash c.version.result _ same (code ∙ ap hash (sym (all_asked hs))) (c.version.ensures.version ∙ stands.version) (all_there hs) c.in_ok-many_text.ensures.text c.in_ok-many_text.ensures.means

@@ -6,6 +6,7 @@ use Rattle.disco_history.specs.Query.{of_key}
 use Rattle.disco_history.proofs.Restrictions.{listed, values-said_key}
 use Rattle.disco_history.specs.Held.{entry_of}
 use Rattle.disco_writer.specs.Documents.{mentioned}
+use Rattle.disco_writer.specs.declared.query.Query.TheVariants as query
 use Rattle.disco_writer.proofs.Written.{none_written, some_there, some_written}
 use Rattle.disco_writer.proofs.document.write_instance.Goals as goal
 
@@ -14,7 +15,7 @@ returns-in_ok-one_text-in-Some-clause-written c = λ h stands.
     let key = c.args.key.now in
     let es : List Entry = entry_of c.in-Some.held.now ∷ [] in
     let same : es ≡ mentioned (of_key key) h = ap listed (c.in-Some.ensures.found ∙ ap (λ (m : FinMap key_cmp Entry). get m key) stands.held) ∙ sym (values-said_key h key) in
-    some_written (of_key key) h es same c.args.form (length h) _ refl (some_there (of_key key) h es same (omega arith)) c.in_ok-one_text-in-Some.ensures.text c.in_ok-one_text-in-Some.ensures.means
+    some_written c.args.form (query.Instance key) h (length h) es _ (length h) _ same refl refl (some_there (of_key key) h es same (omega arith)) c.in_ok-one_text-in-Some.ensures.text c.in_ok-one_text-in-Some.ensures.means
 
 pub returns-in-None-clause-written : goal.returns-in-None-clause-written
 returns-in-None-clause-written c = λ h stands.
