@@ -1,3 +1,3 @@
 mod Drops
-mod Orders
+pub mod Orders
 mod Puts

@@ -1,5 +1,5 @@
 //! The documents that are kept until a change names them.
-ghost use Rattle.std.specs.Prelude.{◌≡◌, ◌≤◌, ◌||◌, IfErr, IfOk, OnErr, false, if◌then◌else◌, length, map, nat_lt, option_map};
+ghost use Rattle.std.specs.Prelude.{◌≡◌, ◌≤◌, ◌||◌, IfErr, IfOk, IfSome, OnErr, false, if◌then◌else◌, length, map, nat_lt, option_map};
 ghost use Rattle.std.specs.Option.{option_map_or};
 ghost use Rattle.std.specs.List as list;
 ghost use Rattle.std.specs.FinMap as finmap;
@@ -103,7 +103,8 @@ impl DocCache {
 
     /// The document of a key, if it is kept. Takes no memory.
     pub fn get(&self, key: &DocKey) -> Option<&Arc<Payload, Global>>
-        ensures { option_map (λ d. d.now.value) result ≡ finmap.get self.now.docs key.now }
+        ensures found { option_map (λ d. d.now.value) result ≡ finmap.get self.now.docs key.now }
+        ensures same_key { IfSome result (λ d. d.now.value.key ≡ key.now) }
     {
         match place(&self.docs, key) {
             Ok(i) => Some(&self.docs[i]),

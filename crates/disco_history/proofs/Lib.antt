@@ -9,5 +9,5 @@ mod Runs
 pub mod Sets
 pub mod Sorted
 pub mod SortedBy
-mod Untouched
+pub mod Untouched
 mod Worked

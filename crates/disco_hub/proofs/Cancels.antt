@@ -11,8 +11,9 @@ use Rattle.disco_registry.specs.Op.{cancel}
 use Rattle.disco_registry.specs.declared.op.Applied.{Applied}
 use Rattle.disco_registry.proofs.Histories.{accepts_after}
 use Rattle.disco_hub.specs.Expiry.{Cancels, Declines, Expires, IsExpired, after_cancel, after_next, cancel_of, cancelled}
-use Rattle.disco_hub.specs.Past.{Past, history, with_done}
-use Rattle.disco_hub.specs.State.{Rules, State, StandsFor, rules_of}
+use Rattle.disco_core.specs.Past.{Past, history, with_done}
+use Rattle.disco_core.specs.State.{Rules}
+use Rattle.disco_hub.specs.State.{State, StandsFor, rules_of}
 
 -- a hub has cancelled the first so many of these keys
 pub record Did (old new : State) (now : ℕ) (ks : List Key) (gone : ℕ) : Type 0 where
@@ -60,7 +61,7 @@ module _ (old mid new : State) (now : ℕ) (ks : List Key) (i : ℕ) (k : Key) (
   says : (p : Past) (r : Result (Option Entry) Fault) → cancel_of (rules_of mid) (so_far p) now k ≡ r → cancel_of (rules_of old) (so_far p) now k ≡ r
   says p r is = ap (λ l. cancel_of l (so_far p) now k) (sym did.rules) ∙ is
 
-  left : (p : Past) (c : Option Entry) → cancel_of (rules_of old) (so_far p) now k ≡ Ok c → after_cancel mid.queue.max (so_far p) now k (Ok c) ≡ cancelled (rules_of old) p now ks (i + 1)
+  left : (p : Past) (c : Option Entry) → cancel_of (rules_of old) (so_far p) now k ≡ Ok c → after_cancel (rules_of mid).queue (so_far p) now k (Ok c) ≡ cancelled (rules_of old) p now ks (i + 1)
   left p c is =
       ap (λ (l : Rules). after_cancel l.queue (so_far p) now k (Ok c)) did.rules
       ∙ ap (after_cancel (rules_of old).queue (so_far p) now k) (sym is)
@@ -119,23 +120,23 @@ with_list old new now ls ks gone stopped same expires = λ p stands.
 
 -- ---- one cancel
 
-at_history : (s : State) (p : Past) (k : Key) (now : ℕ) → StandsFor s p → accepts s.registry (cancel k) now ≡ cancel_of (rules_of s) p now k
-at_history s p k now stands = accepts_after s.registry (history p) stands.registry (cancel k) now
+at_history : (s : State) (p : Past) (k : Key) (now : ℕ) → StandsFor s p → accepts s.core.registry (cancel k) now ≡ cancel_of (rules_of s) p now k
+at_history s p k now stands = accepts_after s.core.registry (history p) stands.core.registry (cancel k) now
 
-one_gone : (old new : State) (now : ℕ) (k key : Key) (c : Option Entry) → key ≡ k → accepts old.registry (cancel key) now ≡ Ok c → ((p : Past) → StandsFor old p → StandsFor new (with_done old.queue.max p now (cancel key) c)) → Cancels old new now k
+one_gone : (old new : State) (now : ℕ) (k key : Key) (c : Option Entry) → key ≡ k → accepts old.core.registry (cancel key) now ≡ Ok c → ((p : Past) → StandsFor old p → StandsFor new (with_done (rules_of old).queue p now (cancel key) c)) → Cancels old new now k
 one_gone old new now k key c same done stands_on = λ p stands.
-    subst (λ (x : Key). (c : Option Entry) × (cancel_of (rules_of old) p now x ≡ Ok c) × StandsFor new (with_done old.queue.max p now (cancel x) c)) same
+    subst (λ (x : Key). (c : Option Entry) × (cancel_of (rules_of old) p now x ≡ Ok c) × StandsFor new (with_done (rules_of old).queue p now (cancel x) c)) same
     (c, sym (at_history old p key now stands) ∙ done, stands_on p stands)
 
-one_refused : (old new : State) (now : ℕ) (k key : Key) (e : Fault) → key ≡ k → Refuses old.registry (cancel key) now e → ((p : Past) → StandsFor old p → StandsFor new p) → Declines old new now k e
+one_refused : (old new : State) (now : ℕ) (k key : Key) (e : Fault) → key ≡ k → Refuses old.core.registry (cancel key) now e → ((p : Past) → StandsFor old p → StandsFor new p) → Declines old new now k e
 one_refused old new now k key e same refused stays = λ p stands.
     (stays p stands, λ other. ap (cancel_of (rules_of old) p now) (sym same) ∙ sym (at_history old p key now stands) ∙ refused other)
 
-pub all_done : (old new : State) (now : ℕ) (k key : Key) (r : Result Applied Fault) → key ≡ k → IfOk r (λ a. accepts old.registry (cancel key) now ≡ Ok (done_by a))
-    → IfOk r (λ a. (p : Past) → StandsFor old p → StandsFor new (with_done old.queue.max p now (cancel key) (done_by a))) → OnOk r (Cancels old new now k)
+pub all_done : (old new : State) (now : ℕ) (k key : Key) (r : Result Applied Fault) → key ≡ k → IfOk r (λ a. accepts old.core.registry (cancel key) now ≡ Ok (done_by a))
+    → IfOk r (λ a. (p : Past) → StandsFor old p → StandsFor new (with_done (rules_of old).queue p now (cancel key) (done_by a))) → OnOk r (Cancels old new now k)
 all_done old new now k key (Ok a) same done stands_on = one_gone old new now k key (done_by a) same done stands_on
 all_done old new now k key (Err e) same done stands_on = tt
 
-pub all_refused : (old new : State) (now : ℕ) (k key : Key) (r : Result Applied Fault) → key ≡ k → IfErr r (Refuses old.registry (cancel key) now) → OnErr r ((p : Past) → StandsFor old p → StandsFor new p) → IfErr r (Declines old new now k)
+pub all_refused : (old new : State) (now : ℕ) (k key : Key) (r : Result Applied Fault) → key ≡ k → IfErr r (Refuses old.core.registry (cancel key) now) → OnErr r ((p : Past) → StandsFor old p → StandsFor new p) → IfErr r (Declines old new now k)
 all_refused old new now k key (Ok a) same refused stays = tt
 all_refused old new now k key (Err e) same refused stays = one_refused old new now k key e same refused stays

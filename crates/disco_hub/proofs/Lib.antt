@@ -1,7 +1,2 @@
 mod Cancels
-mod Expiring
-mod Asks
-mod Ids
-mod Loads
-mod Marks
-mod Ties
+mod Documents

@@ -6,8 +6,9 @@ use Rattle.disco_instance.specs.declared.key.Key.{Key}
 use Rattle.disco_history.specs.Change.{Entry}
 use Rattle.disco_registry.specs.Accept.{accept_after}
 use Rattle.disco_registry.specs.Op.{cancel}
-use Rattle.disco_hub.specs.Past.{Past, history, with_done}
-use Rattle.disco_hub.specs.State.{Rules, State, StandsFor, rules_of}
+use Rattle.disco_core.specs.Past.{Past, history, with_done}
+use Rattle.disco_core.specs.State.{Rules}
+use Rattle.disco_hub.specs.State.{State, StandsFor, rules_of}
 
 -- what a cancel does at a moment after what has happened: its change, or the first cause against it
 abbrev pub cancel_of : Rules → Past → ℕ → Key → Result (Option Entry) Fault
@@ -36,7 +37,7 @@ pub record IsExpired (rules : Rules) (p : Past) (now : ℕ) (ks : List Key) (gon
 
 -- one cancel is accepted, and the hub then stands for what has happened with it
 abbrev pub Cancels : State → State → ℕ → Key → Type 0
-Cancels old new now k = (p : Past) → StandsFor old p → (c : Option Entry) × (cancel_of (rules_of old) p now k ≡ Ok c) × StandsFor new (with_done old.queue.max p now (cancel k) c)
+Cancels old new now k = (p : Past) → StandsFor old p → (c : Option Entry) × (cancel_of (rules_of old) p now k ≡ Ok c) × StandsFor new (with_done (rules_of old).queue p now (cancel k) c)
 
 -- one cancel is refused, and the hub stands for what it stood for
 abbrev pub Declines : State → State → ℕ → Key → Fault → Type 0

@@ -1,6 +1,3 @@
 pub mod Expiry
-pub mod Moves
-pub mod Past
-pub mod Refusals
+pub mod Kept
 pub mod State
-pub mod Tied

@@ -2,7 +2,7 @@
 ghost use Rattle.std.specs.Prelude.{◌≡◌, IfErr, IfOk, OnOk, map};
 ghost use Rattle.disco_instance.specs.declared.fault.Fault.TheVariants.{OutOfMemory};
 ghost use Rattle.disco_hub.specs.Expiry.{Cancels, Declines, Expires};
-ghost use Rattle.disco_hub.specs.Past.{Past, taken_in};
+ghost use Rattle.disco_core.specs.Past.{Past, taken_in};
 ghost use Rattle.disco_hub.specs.State.{StandsFor, rules_of};
 
 use crate::hub::Hub;

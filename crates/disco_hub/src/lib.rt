@@ -1,15 +1,10 @@
-//! One state behind all documents: the registry with what is kept beside it.
+//! One state behind all documents, with the documents that are kept until a change names them.
 #![tactic(auto)]
 
-mod counts;
 mod expiry;
 mod hub;
-mod leases;
-mod recent;
-mod settings;
-mod vips;
+mod keeping;
 
-pub use disco_lease::Minute;
+pub use disco_core::{Minute, Ready, Settings};
 pub use expiry::Expired;
-pub use hub::{Hub, Ready};
-pub use settings::Settings;
+pub use hub::Hub;

@@ -1,4 +1,4 @@
-use Rattle.disco_hub.specs.Past.{taken_in}
+use Rattle.disco_core.specs.Past.{taken_in}
 use Rattle.disco_hub.proofs.Cancels.{none_gone}
 use Rattle.disco_hub.proofs.expiry.expire.Goals as goal
 

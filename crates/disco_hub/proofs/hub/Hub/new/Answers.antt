@@ -1,14 +1,9 @@
-use Rattle.disco_hub.proofs.Asks.{no_leases_of}
-use Rattle.disco_hub.proofs.Ties.{tied_new}
+use Rattle.std.proofs.Common.{sym, subst}
+use Rattle.disco_cache.specs.Docs.{Docs}
+use Rattle.disco_core.specs.Past.{nothing}
+use Rattle.disco_hub.specs.State.{AreKept}
+use Rattle.disco_hub.proofs.Documents.{none_kept}
 use Rattle.disco_hub.proofs.hub.Hub.new.Goals as goal
 
-pub invariant_of-result : goal.invariant_of-result
-invariant_of-result c =
-    tied_new c.new.result c.new-2.result c.new-3.result c.new-4.result c.new-5.result c.new.ensures.empty c.new-2.ensures c.new-3.ensures c.new-4.ensures c.new-5.ensures.history
-
 pub returns-clause-empty : goal.returns-clause-empty
-returns-clause-empty c = record {
-  registry = c.new.ensures.empty;
-  queue = record { kept = c.new-5.ensures.history; base = c.new-5.ensures.base };
-  leases = no_leases_of c.new-4.result c.new-4.ensures;
-}
+returns-clause-empty c = record { core = c.new.ensures.empty; docs = subst (λ (d : Docs). AreKept d.docs nothing) (sym c.new-2.ensures) (none_kept nothing) }

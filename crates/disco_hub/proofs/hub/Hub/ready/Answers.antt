@@ -1,41 +1,7 @@
-use Rattle.std.proofs.Common.{refl, subst}
-use Rattle.disco_hub.specs.State.{AddsNoPlaces, State}
-use Rattle.disco_hub.proofs.Marks.{on_err}
-use Rattle.disco_hub.proofs.Ties.{same_from, tied_same}
+use Rattle.std.proofs.Common.{OnErr, subst}
+use Rattle.disco_core.specs.State.{AddsNoPlaces}
+use Rattle.disco_hub.specs.State.{State}
 use Rattle.disco_hub.proofs.hub.Hub.ready.Goals as goal
 
-pub invariant_of-self-in_err-open_places : goal.invariant_of-self-in_err-open_places
-invariant_of-self-in_err-open_places c =
-    tied_same c.self.inside.registry c.ready.new.self c.self.inside.counts c.self.inside.vips c.open_places.new.index c.self.inside.leases c.open_places.new.book c.self.inside.queue c.open_places.new.queue
-    c.self.invariant c.ready.ensures.same c.open_places.ensures.vips c.open_places.ensures.leases c.open_places.ensures.queue
-
-pub invariant_of-self-2 : goal.invariant_of-self-2
-invariant_of-self-2 c =
-    tied_same c.self.inside.registry c.ready.new.self c.self.inside.counts c.self.inside.vips c.open_places.new.index c.self.inside.leases c.open_places.new.book c.self.inside.queue c.open_places.new.queue
-    c.self.invariant c.ready.ensures.same c.open_places.ensures.vips c.open_places.ensures.leases c.open_places.ensures.queue
-
-pub returns-in_err-open_places-clause-same : goal.returns-in_err-open_places-clause-same
-returns-in_err-open_places-clause-same c = same_from _ _ _ c.self.view_is (record {
-  registry = c.ready.ensures.same;
-  vips = c.open_places.ensures.vips;
-  leases = c.open_places.ensures.leases;
-  queue = c.open_places.ensures.queue;
-  retention = refl;
-  delta = refl;
-})
-
-pub returns-clause-same : goal.returns-clause-same
-returns-clause-same c = same_from _ _ _ c.self.view_is (record {
-  registry = c.ready.ensures.same;
-  vips = c.open_places.ensures.vips;
-  leases = c.open_places.ensures.leases;
-  queue = c.open_places.ensures.queue;
-  retention = refl;
-  delta = refl;
-})
-
-pub returns-in_err-open_places-clause-given_back :
-    goal.returns-in_err-open_places-clause-given_back
-returns-in_err-open_places-clause-given_back c =
-    on_err c.from_residual-in_err-open_places.result _
-    (subst (λ (s : State). AddsNoPlaces s.vips s.leases c.open_places.new.index c.open_places.new.book) c.self.view_is c.in_err-open_places.ensures.given_back)
+pub returns-clause-given_back : goal.returns-clause-given_back
+returns-clause-given_back c = subst (λ (s : State). OnErr c.ready.result (AddsNoPlaces s.core.vips s.core.leases c.ready.new.self.vips c.ready.new.self.leases)) c.self.view_is c.ready.ensures.given_back

@@ -1,0 +1,6 @@
+mod Expiring
+mod Asks
+mod Ids
+mod Loads
+mod Marks
+mod Ties

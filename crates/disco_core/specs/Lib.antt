@@ -1,0 +1,5 @@
+pub mod Moves
+pub mod Past
+pub mod Refusals
+pub mod State
+pub mod Tied

@@ -1,0 +1,125 @@
+-- What a core is, and what its commits need.
+use Rattle.std.specs.Prelude.{◌≡◌, ℕ, Bool, true, Option, Some, None, Ok, IfSome, option_map}
+use Rattle.std.specs.FinMap.{FinMap, get}
+use Rattle.disco_instance.specs.Key.{key_cmp}
+use Rattle.disco_instance.specs.declared.key.Key.{Key}
+use Rattle.disco_history.specs.Change.{Entry, is_proper, key_of, seen}
+use Rattle.disco_history.specs.Registry.{put_of, reg}
+use Rattle.disco_index.specs.Vips as vips
+use Rattle.disco_index.specs.Vips.{Adds, HasNoneEmpty, HasPlaces, VipKeys}
+use Rattle.disco_lease.specs.Leases as leases
+use Rattle.disco_lease.specs.Leases.{HasPlace, IsFilled, Leases, lease_at}
+use Rattle.disco_queue.specs.Queue as queue
+use Rattle.disco_queue.specs.Queue.{HasRoom, Keeps, Queue}
+use Rattle.disco_registry.specs.Commit as commit
+use Rattle.disco_registry.specs.State as registry
+use Rattle.disco_registry.specs.Accept.{Limits, accepts, limits_of}
+use Rattle.disco_registry.specs.Op.{Ask, asked_key}
+use Rattle.disco_core.specs.Moves.{step_for}
+use Rattle.disco_core.specs.Past.{Past, history}
+use Rattle.disco_core.specs.declared.registered.Ready.{Ready}
+use Rattle.disco_core.specs.declared.settings.Settings.{Settings}
+
+abbrev pub limits : Settings → Limits
+limits s = record { versions = s.versions; instances = s.instances }
+
+-- the registry, beside it the vips and the leases with their places, the recent changes, how long these are kept, and whether deltas are served
+pub record State : Type 0 where
+  pub registry : registry.State
+  pub vips : VipKeys
+  pub leases : Leases
+  pub queue : Queue
+  pub retention : ℕ
+  pub delta : Bool
+
+-- the limits and choices that answers depend on
+pub record Rules : Type 0 where
+  pub limits : Limits
+  pub queue : ℕ
+  pub retention : ℕ
+  pub delta : Bool
+
+abbrev pub rules : Settings → Rules
+rules s = record { limits = limits s; queue = s.queue; retention = s.retention; delta = s.delta }
+
+abbrev pub rules_of : State → Rules
+rules_of s = record { limits = limits_of s.registry; queue = s.queue.max; retention = s.retention; delta = s.delta }
+
+-- the queue keeps what happened from its base on
+pub record Remembers (q : Queue) (p : Past) : Type 0 where
+  pub kept : Keeps q p.timed
+  pub base : q.base ≡ p.base
+
+-- exactly the held instances have leases, each of its record's duration and with its mark, each renewal since the last closing was counted, and what that closing kept is kept
+pub record AreLeasesOf (v : Leases) (p : Past) : Type 0 where
+  pub durations : (k : Key) → option_map (λ l. l.duration_secs) (lease_at v k) ≡ option_map (λ r. r.lease.duration_secs) (get (reg (history p)) k)
+  pub marks : (k : Key) → option_map (λ l. l.mark) (lease_at v k) ≡ get p.marks k
+  pub renewals : v.renewals ≡ p.renewals
+  pub closed : v.closed ≡ p.closed
+
+-- it holds what is left of what happened, keeps what is recent, and has the leases
+pub record StandsFor (s : State) (p : Past) : Type 0 where
+  pub registry : registry.StandsFor s.registry (history p)
+  pub queue : Remembers s.queue p
+  pub leases : AreLeasesOf s.leases p
+
+-- the same but for places and room, which no answer shows
+pub record IsSame (old new : State) : Type 0 where
+  pub registry : registry.IsSame old.registry new.registry
+  pub vips : vips.IsSame old.vips new.vips
+  pub leases : leases.IsSame old.leases new.leases
+  pub queue : queue.IsSame old.queue new.queue
+  pub retention : new.retention ≡ old.retention
+  pub delta : new.delta ≡ old.delta
+
+-- there is a place under each vip of what a change puts
+abbrev pub HasVipPlaces : VipKeys → Option Entry → Type 0
+HasVipPlaces v None = Unit {0}
+HasVipPlaces v (Some e) = HasPlaces v e.0
+
+-- the index with what a change puts, if it puts something
+abbrev pub AddsAny : Option Entry → VipKeys → VipKeys → Type 0
+AddsAny None old new = vips.IsSame old new
+AddsAny (Some e) old new = Adds e.0 old new
+
+-- no place of the entry stands empty
+abbrev pub IsSwept : VipKeys → Option Entry → Type 0
+IsSwept v None = Unit {0}
+IsSwept v (Some e) = HasNoneEmpty v e.0
+
+-- there are places for what a change puts, if there is one
+abbrev pub HasPlacesFor : VipKeys → Leases → Option Entry → Type 0
+HasPlacesFor v l None = Unit {0}
+HasPlacesFor v l (Some c) = HasVipPlaces v (put_of c) × HasPlace l (key_of c)
+
+-- there is room for a change in the queue, if there is one
+abbrev pub HasRoomFor : Queue → Option Entry → Type 0
+HasRoomFor q None = Unit {0}
+HasRoomFor q (Some c) = HasRoom q
+
+-- no place of what a change found, and none of its key's lease, stands empty after it, if there is one
+abbrev pub IsSweptAfter : FinMap key_cmp Entry → Option Entry → VipKeys → Leases → Type 0
+IsSweptAfter held None v l = Unit {0}
+IsSweptAfter held (Some c) v l = IsSwept v (get held (key_of c)) × IsFilled (key_of c) l
+
+-- there is no place of a vip or a lease that was not there
+abbrev pub AddsNoPlaces : VipKeys → Leases → VipKeys → Leases → Type 0
+AddsNoPlaces v l w m = vips.KeepsPlaces w v × leases.KeepsPlaces m l
+
+-- the change that is ready, if there is one
+abbrev pub change_in : Ready → Option Entry
+change_in r = r.ready
+
+-- the moment at which it was made ready
+abbrev pub moment_in : Ready → ℕ
+moment_in r = r.moment
+
+-- the core can commit it without memory
+abbrev pub IsReady : State → Ready → Type 0
+IsReady s r = commit.IsReady s.registry r.ready × HasPlacesFor s.vips s.leases (change_in r) × HasRoomFor s.queue (change_in r) × (option_map seen r.kept ≡ change_in r) × IfSome r.kept (λ c. is_proper c ≡ true)
+
+-- what is ready is what was asked of the core, which accepts it
+pub record IsFor (s : State) (r : Ready) (ask : Ask) : Type 0 where
+  pub accepted : accepts s.registry ask (moment_in r) ≡ Ok (change_in r)
+  pub key : r.key ≡ asked_key ask
+  pub step : r.step ≡ step_for ask

@@ -1,0 +1,88 @@
+//! How the leases follow a change, and an operation without one.
+ghost use Rattle.std.specs.Prelude.{◌≡◌, None, Some};
+ghost use Rattle.disco_history.specs.Change.{key_of, seen};
+ghost use Rattle.disco_lease.specs.Leases.{HasPlace, IsFilled, Sets, extended, lease_at, marked};
+ghost use Rattle.disco_registry.specs.Op.{ask_of};
+ghost use Rattle.disco_core.specs.Moves.{Follows, GoesOn, step_for};
+
+use disco_history::Change;
+use disco_instance::{Action, Key, Record};
+use disco_lease::LeaseBook;
+use disco_registry::Op;
+
+/// What an accepted operation does to the lease of an instance whose record stays as it is.
+#[derive(Clone, Copy, Debug)]
+pub(crate) enum Step {
+    Renewed,
+    Touched,
+}
+
+pub(crate) fn step_of(op: &Op) -> Step
+    ensures { result ≡ step_for (ask_of op.now) }
+{
+    match op {
+        Op::Renew(_) => Step::Renewed,
+        _ => Step::Touched,
+    }
+}
+
+/// Starts the lease of an instance that registers.
+fn start(leases: &mut LeaseBook, rec: &Record, now: u64)
+    requires { HasPlace leases.old rec.now.key }
+    ensures lease { Sets rec.now.key (Some (marked rec.now.lease.duration_secs now)) leases.old leases.new }
+    ensures there { lease_at leases.new rec.now.key ≡ Some (marked rec.now.lease.duration_secs now) }
+    ensures renewals { leases.new.renewals ≡ leases.old.renewals }
+    ensures closed { leases.new.closed ≡ leases.old.closed }
+{
+    leases.register(&rec.key, rec.lease.duration_secs, now);
+}
+
+/// Keeps the lease of an instance going whose status or override changes: it is marked anew, and
+/// then moved by its duration.
+fn keep_going(leases: &mut LeaseBook, rec: &Record, now: u64)
+    requires { HasPlace leases.old rec.now.key }
+    ensures lease { Sets rec.now.key (Some (extended now (marked rec.now.lease.duration_secs now))) leases.old leases.new }
+    ensures there { lease_at leases.new rec.now.key ≡ Some (extended now (marked rec.now.lease.duration_secs now)) }
+    ensures renewals { leases.new.renewals ≡ leases.old.renewals }
+    ensures closed { leases.new.closed ≡ leases.old.closed }
+{
+    start(leases, rec, now);
+    keep(leases, &rec.key, Step::Touched, now);
+}
+
+/// Ends the lease of an instance that goes, and gives back its place.
+fn end(leases: &mut LeaseBook, key: &Key)
+    ensures lease { Sets key.now None leases.old leases.new }
+    ensures swept { IsFilled key.now leases.new }
+    ensures renewals { leases.new.renewals ≡ leases.old.renewals }
+    ensures closed { leases.new.closed ≡ leases.old.closed }
+{
+    let _ = leases.cancel(key);
+    leases.sweep(key);
+}
+
+/// Moves the lease of the instance that a change is about.
+pub(crate) fn follow(leases: &mut LeaseBook, change: &Change, now: u64)
+    requires { HasPlace leases.old (key_of (seen change.now)) }
+    ensures lease { Follows (seen change.now) now leases.old leases.new }
+    ensures swept { IsFilled (key_of (seen change.now)) leases.new }
+{
+    match change {
+        Change::Put { action, rec } => match action {
+            Action::Added => start(leases, rec, now),
+            Action::Modified => keep_going(leases, rec, now),
+            Action::Deleted => end(leases, change.key()),
+        },
+        Change::Gone { rec: _ } => end(leases, change.key()),
+    }
+}
+
+/// Moves the lease of an instance whose record stays as it is. The instance is held, so it has one.
+pub(crate) fn keep(leases: &mut LeaseBook, key: &Key, step: Step, now: u64)
+    ensures { GoesOn key.now step now leases.old leases.new }
+{
+    let _ = match step {
+        Step::Renewed => leases.renew(key, now),
+        Step::Touched => leases.touch(key, now),
+    };
+}

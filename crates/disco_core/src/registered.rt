@@ -1,0 +1,449 @@
+//! The registry and all that follows its changes.
+ghost use Rattle.std.specs.Prelude.{◌≡◌, ◌≢◌, ◌≤◌, List, IfErr, IfOk, OnErr, OnOk, Ok, Some, None, length, map, true, false, option_map};
+ghost use Rattle.std.specs.FinMap.{len};
+ghost use Rattle.disco_instance.specs.declared.fault.Fault.TheVariants.{OutOfMemory};
+ghost use Rattle.disco_instance.specs.Row.{row};
+ghost use Rattle.disco_history.specs.Change.{Entry, key_of, seen};
+ghost use Rattle.disco_history.specs.Held.{record_at};
+ghost use Rattle.disco_history.specs.Registry.{put_of};
+ghost use Rattle.disco_index.specs.Tally.{tally_in};
+ghost use Rattle.disco_index.specs.Vips as vip;
+ghost use Rattle.disco_lease.specs.Leases as lease;
+ghost use Rattle.disco_queue.specs.Queue as recent;
+ghost use Rattle.disco_registry.specs.Accept.{Refuses, accepts};
+ghost use Rattle.disco_registry.specs.Commit as commit;
+ghost use Rattle.disco_registry.specs.Commit.{Takes, changes_properly, done_by, held_after};
+ghost use Rattle.disco_registry.specs.Op.{Ask, ask_of};
+ghost use Rattle.disco_registry.specs.State as registry;
+ghost use Rattle.disco_writer.specs.Documents.{IsWritten, is_delta};
+ghost use Rattle.disco_cache.specs.Payloads.{IsTrue};
+ghost use Rattle.disco_core.specs.Past.{Past, cleaned, history, minute_closed, nothing, taken_in, with_done};
+ghost use Rattle.disco_core.specs.Refusals.{doc_of_id, doc_of_key, refusal_of, refusal_of_id};
+ghost use Rattle.disco_core.specs.Moves.{Moves, OthersStay};
+ghost use Rattle.disco_core.specs.State.{AddsNoPlaces, HasPlacesFor, HasRoomFor, IsFor, IsReady, IsSame, IsSwept, IsSweptAfter, StandsFor, change_in, moment_in, rules, rules_of};
+
+use crate::counts::count;
+use crate::leases::{Step, keep, step_of};
+use crate::recent::{remember, shared};
+use crate::settings::Settings;
+use crate::{leases, vips};
+use disco_cache::{DocKey, Payload};
+use disco_compact::write_compact;
+use disco_history::Change;
+use disco_index::{Counts, VipIndex};
+use disco_instance::{Bytes, Fault, Form, Key, Record};
+use disco_lease::{LeaseBook, Minute};
+use disco_queue::ChangedQueue;
+use disco_registry::{Applied, Op, Registry};
+use disco_writer::{Query, write_full};
+use std::alloc::Global;
+use std::marker::Model;
+use std::sync::Arc;
+
+/// The registered instances with all that is kept beside them: the counts of their statuses, which
+/// of them have a vip, their leases, and what changed of late.
+#[derive(Drop)]
+pub struct Core {
+    alloc: Global,
+    registry: Registry,
+    counts: Counts,
+    vips: VipIndex,
+    leases: LeaseBook,
+    queue: ChangedQueue,
+    /// How long a recent change is kept, in milliseconds.
+    retention: u64,
+    /// Whether deltas are served.
+    delta: bool,
+}
+
+impl Model for Core {
+    ghost use Rattle.std.specs.Coded.{codes};
+    ghost use Rattle.std.specs.FinMap.{code};
+    ghost use Rattle.disco_core.specs.State.{State};
+    ghost use Rattle.disco_core.specs.Tied.{IsTied};
+
+    ghost Value = { State };
+
+    ghost coded = { Prim.hlevel (codes, code) };
+
+    ghost view = { λ h. record { registry = h.registry; vips = h.vips; leases = h.leases; queue = h.queue; retention = h.retention; delta = h.delta } };
+
+    ghost invariant = { λ h. IsTied h.registry h.counts h.vips h.leases h.queue };
+}
+
+/// An accepted operation, with all that its commit needs.
+#[derive(Drop)]
+pub struct Ready {
+    ready: disco_registry::Ready,
+    key: Key,
+    step: Step,
+    /// The change once more, for the queue.
+    kept: Option<Change>,
+    moment: u64,
+}
+
+impl Ready {
+    /// The change that its commit makes, where there is one.
+    pub fn to_come(&self) -> Option<&Change>
+        ensures change { option_map (λ c. seen c.now) result ≡ change_in self.now }
+    {
+        self.ready.change()
+    }
+
+    /// The change to come once more, where there is one. Refused only as `OutOfMemory`.
+    pub fn change(&self) -> Result<Option<Change>, Fault>
+        ensures change { IfOk result (λ o. option_map seen o ≡ change_in self.now) }
+        ensures memory { IfErr result (λ e. e ≡ OutOfMemory) }
+    {
+        Ok(shared(self.ready.change())?)
+    }
+}
+
+/// Makes the places that a change needs. Refused only as `OutOfMemory`, with places half made.
+fn open_all(
+    index: &mut VipIndex,
+    book: &mut LeaseBook,
+    queue: &mut ChangedQueue,
+    change: &Change,
+) -> Result<(), Fault>
+    ensures vips { vip.IsSame index.old index.new }
+    ensures other_vips { OthersStay (put_of (seen change.now)) index.old index.new }
+    ensures leases { lease.IsSame book.old book.new }
+    ensures other_leases { lease.KeepsOthers (key_of (seen change.now)) book.old book.new }
+    ensures queue { recent.IsSame queue.old queue.new }
+    ensures places { OnOk result (HasPlacesFor index.new book.new (Some (seen change.now))) }
+    ensures room { OnOk result (HasRoomFor queue.new (Some (seen change.now))) }
+    ensures memory { IfErr result (λ e. e ≡ OutOfMemory) }
+{
+    vips::open(index, change)?;
+    book.ready(change.key())?;
+    queue.ready()
+}
+
+/// Gives back the places of a change that stand empty.
+fn sweep_all(index: &mut VipIndex, book: &mut LeaseBook, change: &Change)
+    ensures vips { vip.IsSame index.old index.new }
+    ensures other_vips { OthersStay (put_of (seen change.now)) index.old index.new }
+    ensures swept_vips { IsSwept index.new (put_of (seen change.now)) }
+    ensures leases { lease.IsSame book.old book.new }
+    ensures other_leases { lease.KeepsOthers (key_of (seen change.now)) book.old book.new }
+    ensures swept_leases { lease.IsFilled (key_of (seen change.now)) book.new }
+{
+    vips::close(index, change);
+    book.sweep(change.key());
+}
+
+/// Makes the places that a change needs, if there is one. Refused only as `OutOfMemory`, and then
+/// gives back what was made.
+fn open_places(
+    index: &mut VipIndex,
+    book: &mut LeaseBook,
+    queue: &mut ChangedQueue,
+    change: Option<&Change>,
+) -> Result<(), Fault>
+    ensures vips { vip.IsSame index.old index.new }
+    ensures leases { lease.IsSame book.old book.new }
+    ensures queue { recent.IsSame queue.old queue.new }
+    ensures places { OnOk result (HasPlacesFor index.new book.new (option_map (λ c. seen c.now) change.entry)) }
+    ensures room { OnOk result (HasRoomFor queue.new (option_map (λ c. seen c.now) change.entry)) }
+    ensures memory { IfErr result (λ e. e ≡ OutOfMemory) }
+    ensures given_back { OnErr result (AddsNoPlaces index.old book.old index.new book.new) }
+{
+    let Some(change) = change else {
+        return Ok(());
+    };
+    let opened = open_all(index, book, queue, change);
+    if opened.is_err() {
+        sweep_all(index, book, change);
+    }
+    opened
+}
+
+/// Does to what is kept beside the registry what the ready operation does to the registry.
+fn follow(
+    counts: &mut Counts,
+    index: &mut VipIndex,
+    book: &mut LeaseBook,
+    registry: &Registry,
+    ready: &Ready,
+)
+    requires tally { counts.old ≡ tally_in registry.now.held }
+    requires index { vip.IsIndexOf index.old registry.now.held }
+    requires few { len registry.now.held ≤ registry.now.version }
+    requires ready { commit.IsReady registry.now ready.now.ready }
+    requires places { HasPlacesFor index.old book.old (change_in ready.now) }
+    ensures counts { counts.new ≡ tally_in (held_after registry.now.held (change_in ready.now)) }
+    ensures vips { vip.IsIndexOf index.new (held_after registry.now.held (change_in ready.now)) }
+    ensures swept { IsSweptAfter registry.now.held (change_in ready.now) index.new book.new }
+    ensures leases { Moves (change_in ready.now) ready.now.key ready.now.step ready.now.moment book.old book.new }
+{
+    let _version = registry.version();
+    match ready.ready.change() {
+        Some(change) => {
+            count(counts, registry, change);
+            vips::follow(index, registry, change);
+            leases::follow(book, change, ready.moment);
+        }
+        None => keep(book, &ready.key, ready.step, ready.moment),
+    }
+}
+
+impl Core {
+    /// An empty registry within the limits of the settings.
+    pub fn new(alloc: Global, settings: &Settings) -> Core
+        ensures empty { StandsFor result nothing }
+        ensures rules { rules_of result ≡ rules settings.now }
+    {
+        Core {
+            alloc,
+            registry: Registry::new(alloc, settings.versions, settings.instances),
+            counts: Counts::new(),
+            vips: VipIndex::new(alloc),
+            leases: LeaseBook::new(alloc),
+            queue: ChangedQueue::new(alloc, settings.queue),
+            retention: settings.retention,
+            delta: settings.delta,
+        }
+    }
+
+    /// How many changes were accepted.
+    pub fn version(&self) -> u64
+        ensures { result ≡ self.now.registry.version }
+    {
+        self.registry.version()
+    }
+
+    /// The record of a key, if it is held.
+    pub fn held(&self, key: &Key) -> Option<&Record>
+        ensures found { option_map (λ r. row r.now) result ≡ record_at self.now.registry.held key.now }
+    {
+        self.registry.get(key)
+    }
+
+    /// Whether deltas are served.
+    pub fn serves_deltas(&self) -> bool
+        ensures { result ≡ self.now.delta }
+    {
+        self.delta
+    }
+
+    /// Makes every growth that an operation at a moment in milliseconds needs, and changes no
+    /// answer. Refused as the operation is, and as `OutOfMemory`, and then no place of a vip or a
+    /// lease stays that was not there.
+    pub fn ready(&mut self, op: Op, now: u64) -> Result<Ready, Fault>
+        ensures same { IsSame self.old self.new }
+        ensures ready { IfOk result (λ r. accepts self.old.registry (ask_of op) now ≡ Ok (change_in r) × IsReady self.new r) }
+        ensures moment { IfOk result (λ r. moment_in r ≡ now) }
+        ensures asked { IfOk result (λ r. IsFor self.new r (ask_of op)) }
+        ensures refused { IfErr result (Refuses self.old.registry (ask_of op) now) }
+        ensures given_back { OnErr result (AddsNoPlaces self.old.vips self.old.leases self.new.vips self.new.leases) }
+    {
+        let step = step_of(&op);
+        let key = op.key().clone()?;
+        let ready = self.registry.ready(op, now)?;
+        let kept = shared(ready.change())?;
+        open_places(
+            &mut self.vips,
+            &mut self.leases,
+            &mut self.queue,
+            ready.change(),
+        )?;
+        Ok(Ready {
+            ready,
+            key,
+            step,
+            kept,
+            moment: now,
+        })
+    }
+
+    /// Does what is ready, which has to be of this core as it is. Takes no memory, and gives back the
+    /// places of vips and of the lease that the change leaves empty.
+    pub fn commit(&mut self, ready: Ready) -> Applied
+        requires { IsReady self.old ready }
+        ensures change { done_by result ≡ change_in ready }
+        ensures proper { changes_properly result ≡ true }
+        ensures takes { Takes self.old.registry (change_in ready) self.new.registry }
+        ensures swept { IsSweptAfter self.old.registry.held (change_in ready) self.new.vips self.new.leases }
+        ensures history { (p : Past) (ask : Ask) → IsFor self.old ready ask → StandsFor self.old p → StandsFor self.new (with_done self.old.queue.max p (moment_in ready) ask (done_by result)) }
+        ensures rules { rules_of self.new ≡ rules_of self.old }
+    {
+        let _version = self.registry.version();
+        follow(
+            &mut self.counts,
+            &mut self.vips,
+            &mut self.leases,
+            &self.registry,
+            &ready,
+        );
+        remember(&mut self.queue, ready.kept, ready.moment);
+        self.registry.commit(ready.ready)
+    }
+
+    /// Does one operation at a moment in milliseconds, as the registry does it. Places of vips and
+    /// leases that it leaves empty are given back, also where it is refused.
+    pub fn write(&mut self, op: Op, now: u64) -> Result<Applied, Fault>
+        ensures done { IfOk result (λ a. accepts self.old.registry (ask_of op) now ≡ Ok (done_by a)) }
+        ensures proper { IfOk result (λ a. changes_properly a ≡ true) }
+        ensures refused { IfErr result (Refuses self.old.registry (ask_of op) now) }
+        ensures rules { rules_of self.new ≡ rules_of self.old }
+        ensures history { IfOk result (λ a. (p : Past) → StandsFor self.old p → StandsFor self.new (with_done self.old.queue.max p now (ask_of op) (done_by a))) }
+        ensures refused_history { OnErr result ((p : Past) → StandsFor self.old p → StandsFor self.new p) }
+        ensures swept { IfOk result (λ a. IsSweptAfter self.old.registry.held (done_by a) self.new.vips self.new.leases) }
+        ensures given_back { OnErr result (AddsNoPlaces self.old.vips self.old.leases self.new.vips self.new.leases) }
+    {
+        let ready = self.ready(op, now)?;
+        Ok(self.commit(ready))
+    }
+
+    /// Forgets the recent changes that are older than the retention at a moment in milliseconds, up
+    /// to the first that isn't. Answers the version from which deltas start now. Takes no memory.
+    pub fn clean(&mut self, now: u64) -> u64
+        ensures base { result ≡ self.new.queue.base }
+        ensures registry { self.new.registry ≡ self.old.registry }
+        ensures vips { self.new.vips ≡ self.old.vips }
+        ensures leases { self.new.leases ≡ self.old.leases }
+        ensures rules { rules_of self.new ≡ rules_of self.old }
+        ensures history { (p : Past) → StandsFor self.old p → StandsFor self.new (cleaned self.old.retention p now) }
+    {
+        self.queue.clean(now, self.retention);
+        self.queue.base()
+    }
+
+    /// Closes a minute: keeps how many renewals were accepted since the last closing, and how many
+    /// instances are held. Answers both. Takes no memory.
+    pub fn close_minute(&mut self) -> Minute
+        ensures kept { (p : Past) → StandsFor self.old p → result ≡ (minute_closed p).closed }
+        ensures registry { self.new.registry ≡ self.old.registry }
+        ensures rules { rules_of self.new ≡ rules_of self.old }
+        ensures history { (p : Past) → StandsFor self.old p → StandsFor self.new (minute_closed p) }
+    {
+        let instances = self.registry.len() as u64;
+        let renewals = self.leases.close_minute(instances);
+        Minute {
+            renewals,
+            instances,
+        }
+    }
+
+    /// The keys that one run takes at a moment in milliseconds: those whose leases have run out, the
+    /// earliest first, then by key, as far as 85 of 100 instances stay; none where too few renewals
+    /// came in the minute that was closed last. Refused only as `OutOfMemory`.
+    pub fn due(&self, now: u64) -> Result<Vec<&Key>, Fault>
+        ensures keys { IfOk result (λ found. (p : Past) → StandsFor self.now p → map (λ k. k.now) found.items ≡ taken_in p now) }
+        ensures memory { IfErr result (λ e. e ≡ OutOfMemory) }
+    {
+        Ok(
+            self.leases
+                .due(self.alloc, now, self.registry.len() as u64)?,
+        )
+    }
+
+    fn payload(&self, key: &DocKey, base: u64, text: Vec<u8>) -> Result<Arc<Payload, Global>, Fault>
+        ensures payload { IfOk result (λ p. p.value ≡ record { key = key.now; base = base; version = self.now.registry.version; text = text.items }) }
+        ensures memory { IfErr result (λ e. e ≡ OutOfMemory) }
+    {
+        let payload = Payload {
+            key: key.clone()?,
+            base,
+            version: self.registry.version(),
+            text: Bytes::from_vec(text),
+        };
+        Ok(Arc::new(self.alloc, payload)?)
+    }
+
+    fn text_of(&self, key: &DocKey) -> Result<Option<Vec<u8>>, Fault>
+        ensures written { IfOk result (λ o. is_delta key.now.query ≡ false
+            → (h : List Entry) → registry.StandsFor self.now.registry h → IsWritten key.now.form key.now.query h (length h) (option_map (λ v. v.items) o)) }
+        ensures delta { IfOk result (λ o. is_delta key.now.query ≡ true
+            → (p : Past) → StandsFor self.now p → IsWritten key.now.form key.now.query (history p) self.now.queue.base (option_map (λ v. v.items) o)) }
+        ensures memory { IfErr result (λ e. e ≡ OutOfMemory) }
+    {
+        let (registry, vips, queue) = (&self.registry, &self.vips, &self.queue);
+        match key.form {
+            Form::Full => write_full(self.alloc, &key.query, registry, vips, queue, &self.counts),
+            Form::Compact => {
+                write_compact(self.alloc, &key.query, registry, vips, queue, &self.counts)
+            }
+        }
+    }
+
+    /// The document that is asked for, written anew. An app's name has to be in upper case. Refused
+    /// as `NotFound` exactly where an app, a vip, a secure vip or an instance is asked for and there
+    /// is none, as `DeltaDisabled` exactly for a delta where deltas are off, and as `OutOfMemory`.
+    pub fn load(&self, key: &DocKey) -> Result<Arc<Payload, Global>, Fault>
+        ensures key { IfOk result (λ d. d.value.key ≡ key.now) }
+        ensures version { IfOk result (λ d. d.value.version ≡ self.now.registry.version) }
+        ensures base { IfOk result (λ d. is_delta key.now.query ≡ true → d.value.base ≡ self.now.queue.base) }
+        ensures true_now { IfOk result (λ d. (p : Past) → StandsFor self.now p → IsTrue d.value (history p)) }
+        ensures allowed { IfOk result (λ _. (p : Past) → StandsFor self.now p → refusal_of self.now.delta key.now.query (history p) ≡ None) }
+        ensures refused { IfErr result (λ e. e ≢ OutOfMemory → (p : Past) → StandsFor self.now p → refusal_of self.now.delta key.now.query (history p) ≡ Some e) }
+    {
+        if key.query.is_delta() {
+            return Ok(self.load_delta(key)?);
+        }
+        Ok(self.load_held(key)?)
+    }
+
+    fn load_delta(&self, key: &DocKey) -> Result<Arc<Payload, Global>, Fault>
+        requires { is_delta key.now.query ≡ true }
+        ensures key { IfOk result (λ d. d.value.key ≡ key.now) }
+        ensures version { IfOk result (λ d. d.value.version ≡ self.now.registry.version) }
+        ensures base { IfOk result (λ d. d.value.base ≡ self.now.queue.base) }
+        ensures true_now { IfOk result (λ d. (p : Past) → StandsFor self.now p → IsTrue d.value (history p)) }
+        ensures allowed { IfOk result (λ _. (p : Past) → StandsFor self.now p → refusal_of self.now.delta key.now.query (history p) ≡ None) }
+        ensures refused { IfErr result (λ e. e ≢ OutOfMemory → (p : Past) → StandsFor self.now p → refusal_of self.now.delta key.now.query (history p) ≡ Some e) }
+    {
+        if !self.delta {
+            return Err(Fault::DeltaDisabled);
+        }
+        match self.text_of(key)? {
+            Some(text) => Ok(self.payload(key, self.queue.base(), text)?),
+            None => Err(Fault::NotFound),
+        }
+    }
+
+    fn load_held(&self, key: &DocKey) -> Result<Arc<Payload, Global>, Fault>
+        requires { is_delta key.now.query ≡ false }
+        ensures key { IfOk result (λ d. d.value.key ≡ key.now) }
+        ensures version { IfOk result (λ d. d.value.version ≡ self.now.registry.version) }
+        ensures true_now { IfOk result (λ d. (h : List Entry) → registry.StandsFor self.now.registry h → IsTrue d.value h) }
+        ensures allowed { IfOk result (λ _. (h : List Entry) → registry.StandsFor self.now.registry h → refusal_of self.now.delta key.now.query h ≡ None) }
+        ensures refused { IfErr result (λ e. e ≢ OutOfMemory → (h : List Entry) → registry.StandsFor self.now.registry h → refusal_of self.now.delta key.now.query h ≡ Some e) }
+    {
+        match self.text_of(key)? {
+            Some(text) => Ok(self.payload(key, self.registry.version(), text)?),
+            None => Err(Fault::NotFound),
+        }
+    }
+
+    /// The document of an instance, as [`Core::load`] gives it.
+    pub fn instance(&self, key: &Key, form: Form) -> Result<Arc<Payload, Global>, Fault>
+        ensures key { IfOk result (λ p. p.value.key ≡ doc_of_key key.now form) }
+        ensures version { IfOk result (λ p. p.value.version ≡ self.now.registry.version) }
+        ensures true_now { IfOk result (λ p. (h : List Entry) → registry.StandsFor self.now.registry h → IsTrue p.value h) }
+        ensures allowed { IfOk result (λ _. (h : List Entry) → registry.StandsFor self.now.registry h → refusal_of true (doc_of_key key.now form).query h ≡ None) }
+        ensures refused { IfErr result (λ e. e ≢ OutOfMemory → (h : List Entry) → registry.StandsFor self.now.registry h → refusal_of true (doc_of_key key.now form).query h ≡ Some e) }
+    {
+        let key = DocKey {
+            query: Query::Instance(key.clone()?),
+            form,
+        };
+        Ok(self.load_held(&key)?)
+    }
+
+    /// The document of the instance of an id, as [`Core::load`] gives it: of several apps' the one
+    /// with the least app. Refused as `NotFound` exactly where there is none, and as `OutOfMemory`.
+    pub fn by_id(&self, id: &str, form: Form) -> Result<Arc<Payload, Global>, Fault>
+        ensures key { IfOk result (λ p. (h : List Entry) → registry.StandsFor self.now.registry h → doc_of_id id.now form h ≡ Some p.value.key) }
+        ensures version { IfOk result (λ p. p.value.version ≡ self.now.registry.version) }
+        ensures true_now { IfOk result (λ p. (h : List Entry) → registry.StandsFor self.now.registry h → IsTrue p.value h) }
+        ensures allowed { IfOk result (λ _. (h : List Entry) → registry.StandsFor self.now.registry h → refusal_of_id id.now h ≡ None) }
+        ensures refused { IfErr result (λ e. e ≢ OutOfMemory → (h : List Entry) → registry.StandsFor self.now.registry h → refusal_of_id id.now h ≡ Some e) }
+    {
+        match self.registry.by_id(id) {
+            Some(rec) => self.instance(&rec.key, form),
+            None => Err(Fault::NotFound),
+        }
+    }
+}

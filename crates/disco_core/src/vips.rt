@@ -1,0 +1,95 @@
+//! How the index of vips follows a change.
+ghost use Rattle.std.specs.Prelude.{◌≡◌, IfErr, IfSome, OnOk, Some};
+ghost use Rattle.std.specs.FinMap.{get};
+ghost use Rattle.disco_instance.specs.declared.fault.Fault.TheVariants.{OutOfMemory};
+ghost use Rattle.disco_history.specs.Change.{key_of, seen};
+ghost use Rattle.disco_history.specs.Registry.{put_of};
+ghost use Rattle.disco_index.specs.Vips.{IsIndexOf, IsSame, KeepsPlaces, TakesAny};
+ghost use Rattle.disco_registry.specs.Commit.{held_after};
+ghost use Rattle.disco_core.specs.Moves.{OthersStay};
+ghost use Rattle.disco_core.specs.State.{AddsAny, HasVipPlaces, IsSwept};
+
+use disco_history::Change;
+use disco_index::VipIndex;
+use disco_instance::{Action, Fault, Key};
+use disco_registry::Registry;
+
+/// Makes the places that a change needs. Refused only as `OutOfMemory`.
+pub(crate) fn open(vips: &mut VipIndex, change: &Change) -> Result<(), Fault>
+    ensures same { IsSame vips.old vips.new }
+    ensures others { OthersStay (put_of (seen change.now)) vips.old vips.new }
+    ensures places { OnOk result (HasVipPlaces vips.new (put_of (seen change.now))) }
+    ensures memory { IfErr result (λ e. e ≡ OutOfMemory) }
+{
+    match change {
+        Change::Put {
+            action: Action::Added | Action::Modified,
+            rec,
+        } => vips.ready(rec),
+        _ => Ok(()),
+    }
+}
+
+/// Gives back the places of what a change puts that stand empty.
+pub(crate) fn close(vips: &mut VipIndex, change: &Change)
+    ensures same { IsSame vips.old vips.new }
+    ensures others { OthersStay (put_of (seen change.now)) vips.old vips.new }
+    ensures swept { IsSwept vips.new (put_of (seen change.now)) }
+{
+    match change {
+        Change::Put {
+            action: Action::Added | Action::Modified,
+            rec,
+        } => vips.sweep(rec),
+        _ => {}
+    }
+}
+
+/// The instance of a key has no vip any more.
+fn take(vips: &mut VipIndex, registry: &Registry, key: &Key)
+    ensures vips { TakesAny (get registry.now.held key.now) vips.old vips.new }
+    ensures places { KeepsPlaces vips.old vips.new }
+    ensures own_key { IfSome (get registry.now.held key.now) (λ e. key_of e ≡ key.now) }
+{
+    if let Some(held) = registry.held(key) {
+        vips.take(&held.rec);
+    }
+}
+
+/// The instance has the vips of the record that a change puts.
+fn add(vips: &mut VipIndex, change: &Change)
+    requires { HasVipPlaces vips.old (put_of (seen change.now)) }
+    ensures { AddsAny (put_of (seen change.now)) vips.old vips.new }
+{
+    match change {
+        Change::Put { action, rec } => match action {
+            Action::Added => vips.add(rec),
+            Action::Modified => vips.add(rec),
+            Action::Deleted => {}
+        },
+        Change::Gone { rec: _ } => {}
+    }
+}
+
+/// Gives back the places of the held record of a key that stand empty.
+fn sweep(vips: &mut VipIndex, registry: &Registry, key: &Key)
+    ensures same { IsSame vips.old vips.new }
+    ensures swept { IsSwept vips.new (get registry.now.held key.now) }
+{
+    if let Some(held) = registry.held(key) {
+        vips.sweep(&held.rec);
+    }
+}
+
+/// Does to the vips what a change is about to do to the registry, and gives back the places that it
+/// leaves empty.
+pub(crate) fn follow(vips: &mut VipIndex, registry: &Registry, change: &Change)
+    requires places { HasVipPlaces vips.old (put_of (seen change.now)) }
+    requires index { IsIndexOf vips.old registry.now.held }
+    ensures index { IsIndexOf vips.new (held_after registry.now.held (Some (seen change.now))) }
+    ensures swept { IsSwept vips.new (get registry.now.held (key_of (seen change.now))) }
+{
+    take(vips, registry, change.key());
+    add(vips, change);
+    sweep(vips, registry, change.key());
+}

@@ -1,0 +1,54 @@
+//! Which documents are kept, and which a change drops.
+ghost use Rattle.std.specs.Prelude.{◌≡◌};
+ghost use Rattle.disco_instance.specs.Row.{row};
+ghost use Rattle.disco_history.specs.Change.{seen};
+ghost use Rattle.disco_core.specs.State.{change_in};
+ghost use Rattle.disco_hub.specs.Kept.{Forgets, KeepsAtMost};
+ghost use Rattle.disco_hub.specs.State.{is_kept};
+
+use disco_cache::{DocCache, Payload};
+use disco_core::{Core, Ready};
+use disco_history::Change;
+use disco_instance::Record;
+use disco_writer::Query;
+use std::alloc::Global;
+use std::sync::Arc;
+
+/// The record of a change: the one that it puts, or the last one of what is gone.
+fn record(change: &Change) -> &Record
+    ensures { row result.now ≡ (seen change.now).0 }
+{
+    match change {
+        Change::Put { action: _, rec } => rec,
+        Change::Gone { rec } => rec,
+    }
+}
+
+/// Drops the documents that a ready change names, if there is one. Takes no memory.
+pub(crate) fn forget(cache: &mut DocCache, core: &Core, ready: &Ready)
+    ensures { Forgets core.now.registry.held (change_in ready.now) cache.old cache.new }
+{
+    if let Some(change) = ready.to_come() {
+        cache.invalidate(core.held(change.key()), Some(record(change)));
+    }
+}
+
+/// Whether documents of a query are kept.
+fn keeps(query: &Query) -> bool
+    ensures { result ≡ is_kept query.now }
+{
+    !matches!(query, Query::Instance(_))
+}
+
+/// Keeps a document, where there is memory and room for it.
+pub(crate) fn keep(cache: &mut DocCache, doc: &Arc<Payload, Global>)
+    ensures kept { KeepsAtMost doc.now.value cache.old cache.new }
+    ensures max { cache.new.max ≡ cache.old.max }
+{
+    if !keeps(&doc.key.query) {
+        return;
+    }
+    if let Ok(shared) = Arc::try_clone(doc) {
+        let _ = cache.put(shared);
+    }
+}
