@@ -13,6 +13,7 @@ use Rattle.disco_hub.specs.State.{Rules, State, StandsFor, rules_of}
 abbrev pub cancel_of : Rules → Past → ℕ → Key → Result (Option Entry) Fault
 cancel_of rules p now k = accept_after rules.limits (history p) (cancel k) now
 
+-- what has happened after a cancel that is accepted with its change, or refused
 abbrev pub after_cancel : ℕ → Past → ℕ → Key → Result (Option Entry) Fault → Past
 after_cancel most p now k (Ok change) = with_done most p now (cancel k) change
 after_cancel most p now k (Err e) = p

@@ -28,7 +28,8 @@ use std::collections::BTreeMap;
 /// the number of the first such event counted from 1, where a document is asked for in another form
 /// than the full one, or a client is to take what is no earlier served document of all apps and no
 /// delta; and as `OutOfMemory` where no room for the replies is found. An event that finds no
-/// memory is answered so and changes nothing.
+/// memory is answered so and changes nothing; a run of cancels that finds none says so behind how
+/// many are gone.
 pub fn run(alloc: Global, settings: &Settings, events: &[Event]) -> Result<Vec<Reply>, Fault>
     ensures each { IfOk result (λ replies. length replies.items ≡ length events.now) }
     ensures answers { IfOk result (λ replies. AreAnswers (rules settings.now) events.now replies.items) }
