@@ -1,3 +1,4 @@
 pub mod Expiry
 pub mod Kept
 pub mod State
+pub mod Steps

@@ -1,5 +1,5 @@
 //! The hub: one state behind all documents, with the documents that are kept.
-ghost use Rattle.std.specs.Prelude.{◌≡◌, ◌≢◌, List, IfErr, IfOk, OnErr, OnOk, Ok, None, Some, map, true};
+ghost use Rattle.std.specs.Prelude.{◌≡◌, ◌≢◌, ◌<◌, List, IfErr, IfOk, OnErr, OnOk, Ok, None, Some, length, map, true};
 ghost use Rattle.disco_instance.specs.declared.fault.Fault.TheVariants.{OutOfMemory};
 ghost use Rattle.disco_history.specs.Change.{Entry};
 ghost use Rattle.disco_registry.specs.Accept.{Refuses, accepts};
@@ -138,10 +138,12 @@ impl Hub {
 
     /// The keys that one run takes at a moment in milliseconds: those whose leases have run out, the
     /// earliest first, then by key, as far as 85 of 100 instances stay; none where too few renewals
-    /// came in the minute that was closed last. Refused only as `OutOfMemory`.
+    /// came in the minute that was closed last. Refused only as `OutOfMemory`, and only where there
+    /// is one.
     pub fn due(&self, now: u64) -> Result<Vec<&Key>, Fault>
         ensures keys { IfOk result (λ found. (p : Past) → StandsFor self.now p → map (λ k. k.now) found.items ≡ taken_in p now) }
         ensures memory { IfErr result (λ e. e ≡ OutOfMemory) }
+        ensures refused { OnErr result ((p : Past) → StandsFor self.now p → 0 < length (taken_in p now)) }
     {
         self.core.due(now)
     }

@@ -96,9 +96,11 @@ abbrev pub event_of_words : List (List ℕ) → Option Event
 event_of_words (keyword ∷ more) = option_and_then (λ k. event_named k more) (text_of_word keyword)
 event_of_words [] = None
 
+-- what a line means, if it means an event
 abbrev pub event_of : List ℕ → Option Event
 event_of line = event_of_words (words line)
 
+-- the byte behind a line
 abbrev pub is_feed : ℕ → Bool
 is_feed b = b == 10
 

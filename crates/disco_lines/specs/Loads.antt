@@ -13,6 +13,7 @@ use Rattle.disco_lines.specs.Words.{text_of_word}
 abbrev pub form_named : List ℕ → Option Form
 form_named name = if bytes_eq name (codes "full") then Some Full else (if bytes_eq name (codes "compact") then Some Compact else None)
 
+-- the load of what a query asks for, in a form
 abbrev pub load_by : Form → Query → Event
 load_by form query = Load (record { query = query; form = form })
 

@@ -5,6 +5,7 @@ use Rattle.std.specs.Str.{is_utf8}
 use Rattle.percent_encoding.specs.Percent.{percent_decode}
 use Rattle.disco_instance.specs.Members.{digits_number}
 
+-- the byte between two words
 abbrev pub is_space : ℕ → Bool
 is_space b = b == 32
 
