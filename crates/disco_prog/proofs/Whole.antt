@@ -4,8 +4,8 @@ use Rattle.std.specs.List.{position_or_len}
 use Rattle.std.specs.Option.{is_none}
 use Rattle.disco_instance.specs.declared.fault.Fault.{Fault}
 use Rattle.disco_instance.specs.declared.fault.Fault.TheVariants.{OutOfMemory}
-use Rattle.disco_hub.specs.State.{rules}
-use Rattle.disco_hub.specs.declared.settings.Settings.{Settings}
+use Rattle.disco_core.specs.State.{rules}
+use Rattle.disco_core.specs.declared.settings.Settings.{Settings}
 use Rattle.disco_world.specs.Answers.{IsFirstBadEvent}
 use Rattle.disco_world.specs.declared.event.Event.{Event}
 use Rattle.disco_lines.specs.Input.{AreRead}

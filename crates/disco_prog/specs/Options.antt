@@ -10,7 +10,7 @@ use Rattle.clap.specs.declared.builder.ArgAction.TheVariants.{Set, SetTrue}
 use Rattle.clap.specs.declared.builder.value_parser.ValueParser.TheVariants.{Unsigned}
 use Rattle.clap.specs.declared.error.kind.ErrorKind.TheVariants.{MissingSubcommand}
 use Rattle.disco_instance.specs.Members.{digits_number}
-use Rattle.disco_hub.specs.declared.settings.Settings.{Settings}
+use Rattle.disco_core.specs.declared.settings.Settings.{Settings}
 
 -- `--NAME N`, of a whole number in these bounds
 abbrev pub number_rule : Text → ℕ → ℕ → Rule

@@ -4,11 +4,11 @@ use Rattle.std.specs.Io.KnownBytes.{Appends}
 use Rattle.clap.specs.Words.{Text}
 use Rattle.disco_instance.specs.declared.fault.Fault.{Fault}
 use Rattle.disco_instance.specs.declared.fault.Fault.TheVariants.{OutOfMemory, ReadFailed, WriteFailed}
-use Rattle.disco_hub.specs.State.{rules}
+use Rattle.disco_core.specs.State.{rules}
 use Rattle.disco_world.specs.Answers.{AreAnswers, AreKnown, AreServed, IsFirstBadEvent}
 use Rattle.disco_world.specs.declared.event.Event.{Event}
 use Rattle.disco_world.specs.declared.event.Reply.{Reply}
-use Rattle.disco_hub.specs.declared.settings.Settings.{Settings}
+use Rattle.disco_core.specs.declared.settings.Settings.{Settings}
 use Rattle.disco_lines.specs.Answers.{answer_lines}
 use Rattle.disco_lines.specs.Input.{AreRead, NamesBadLine}
 use Rattle.disco_prog.specs.Options.{NamedBy}

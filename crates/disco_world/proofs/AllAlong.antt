@@ -11,8 +11,8 @@ use Rattle.disco_queue.specs.Timed.{Timed, changes}
 use Rattle.disco_writer.specs.Documents.{is_delta}
 use Rattle.disco_cache.specs.declared.payload.Payload.{Payload}
 use Rattle.disco_hub.specs.Expiry.{after_cancel, after_next, cancel_of, cancelled}
-use Rattle.disco_hub.specs.Past.{Past, history, taken_in, with_done}
-use Rattle.disco_hub.specs.State.{Rules}
+use Rattle.disco_core.specs.Past.{Past, history, taken_in, with_done}
+use Rattle.disco_core.specs.State.{Rules}
 use Rattle.disco_world.specs.Answers.{AreAnswers, AreKnown, IsAnswer}
 use Rattle.disco_world.specs.Clients.{MeansVersion, taken}
 use Rattle.disco_world.specs.Events.{Deed, World, writes, loads, cleans, closes, expires, takes, shows, bad, after, after_run, after_at, after_write, clients_done, deed, doc_in, doc_of_event, done, for_clients, past_after, past_done, ran_out, takes_any, world}
@@ -122,7 +122,7 @@ kind_of d e false kind is = absurd (cc)
 served_is : (rules : Rules) (w : World) (what : Deed) (r : Reply) (d : Payload) → IsAnswer rules w what r → doc_in (Some r) ≡ Some d → IsOf (history w.past) d
 served_is rules w (loads k) (Doc p) d answer is =
     let kind = kind_of p d (for_clients p.value.key.query) refl is in
-    subst (IsOf (history w.past)) kind.1 (of_now (history w.past) p.value answer.0.true_now answer.1 kind.0)
+    subst (IsOf (history w.past)) kind.1 (of_now (history w.past) p.value answer.served.true_now kind.0)
 served_is rules w (writes now asked) (Doc p) d answer is = absurd answer
 served_is rules w (cleans now) (Doc p) d answer is = absurd answer
 served_is rules w closes (Doc p) d answer is = absurd answer

@@ -4,7 +4,8 @@ use Rattle.std.specs.declared.alloc.Global.{Global}
 use Rattle.std.specs.declared.sync.Arc.{Arc}
 use Rattle.std.proofs.lemmas.Option.{slice_get-get_or, same_Some}
 use Rattle.disco_cache.specs.declared.payload.Payload.{Payload}
-use Rattle.disco_hub.specs.State.{Rules, State, StandsFor, rules_of}
+use Rattle.disco_core.specs.State.{Rules}
+use Rattle.disco_hub.specs.State.{State, StandsFor, rules_of}
 use Rattle.disco_world.specs.Answers.{AreAnswers, AreServed, IsAnswer, IsFirstBadEvent, IsServed}
 use Rattle.disco_instance.specs.declared.fault.Fault.TheVariants.{BadEvent}
 use Rattle.disco_world.specs.Events.{Deed, World, writes, loads, cleans, closes, expires, takes, shows, bad, after, after_at, clients_after, deed, past_after, world}
@@ -124,7 +125,7 @@ module _ (rules : Rules) (es : List Event) (rs : List Reply) (i : ℕ) (e : Even
 
 -- a deed that serves a document leaves what has happened to the registry
 kept : (rules : Rules) (w : World) (what : Deed) (d : Arc Payload Global) → IsAnswer rules w what (Doc d) → IsServed what (past_after rules w.past what (Doc d)) d.value
-kept rules w (loads asked) d is = is.0
+kept rules w (loads asked) d is = is
 kept rules w (writes now asked) d is = absurd is
 kept rules w (cleans now) d is = absurd is
 kept rules w closes d is = absurd is

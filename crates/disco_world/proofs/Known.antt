@@ -18,7 +18,7 @@ use Rattle.disco_history.specs.Query.{all}
 use Rattle.disco_history.proofs.Restrictions.{values-said_all}
 use Rattle.disco_wire.specs.Documents.{document_of}
 use Rattle.disco_wire.specs.Meaning.{Meaning}
-use Rattle.disco_writer.specs.Documents.{IsTrueFor, is_delta, meaning_for, mentioned}
+use Rattle.disco_writer.specs.Documents.{IsTrueFor, is_delta, meaning_for, mentioned, kind}
 use Rattle.disco_writer.specs.Rows.{mentions_in}
 use Rattle.disco_writer.specs.declared.query.Query.{Query}
 use Rattle.disco_writer.specs.declared.query.Query.TheVariants as query
@@ -69,12 +69,22 @@ of_on h g d ext is = record {
   kind = is.kind;
 }
 
-pub of_now : (h : List Entry) (d : Payload) → IsTrue d h → d.version ≡ length h → for_clients d.key.query ≡ true → IsOf h d
-of_now h d is version kind = record {
-  inside = omega (arith, version);
-  true_then = subst (IsTrue d) (sym (ap (λ n. take n h) version ∙ take_all (length h) h (omega arith))) is;
-  kind = kind;
-}
+-- a document that a client can take is of now
+is_of_now : (q : Query) → for_clients q ≡ true → (kind q).kept ≡ false
+is_of_now query.Apps e = refl
+is_of_now query.Delta e = refl
+is_of_now (query.App name) e = absurd (cc)
+is_of_now (query.Vip vip) e = absurd (cc)
+is_of_now (query.Svip svip) e = absurd (cc)
+is_of_now (query.Instance key) e = absurd (cc)
+
+pub of_now : (h : List Entry) (d : Payload) → IsTrue d h → for_clients d.key.query ≡ true → IsOf h d
+of_now h d is kind =
+    let version = is.now (is_of_now d.key.query kind) in record {
+      inside = omega (arith, version);
+      true_then = subst (IsTrue d) (sym (ap (λ n. take n h) version ∙ take_all (length h) h (omega arith))) is;
+      kind = kind;
+    }
 
 -- ---- what such a document means
 

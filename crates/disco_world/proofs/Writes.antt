@@ -6,8 +6,9 @@ use Rattle.disco_instance.specs.Instance.{Gives}
 use Rattle.disco_instance.specs.declared.fault.Fault.{Fault}
 use Rattle.disco_instance.specs.declared.fault.Fault.TheVariants.{OutOfMemory}
 use Rattle.disco_history.specs.Change.{Entry}
-use Rattle.disco_hub.specs.Past.{Past, history, with_done}
-use Rattle.disco_hub.specs.State.{Rules, State, StandsFor, rules_of}
+use Rattle.disco_core.specs.Past.{Past, history, with_done}
+use Rattle.disco_core.specs.State.{Rules}
+use Rattle.disco_hub.specs.State.{State, StandsFor, rules_of}
 use Rattle.disco_registry.specs.Accept.{Refuses, accept_after, accepts}
 use Rattle.disco_registry.specs.Commit.{done_by}
 use Rattle.disco_registry.specs.Op.{Ask}
@@ -23,10 +24,10 @@ use Rattle.disco_world.specs.Steps.{AreHeld, Does, reply_to}
 use Rattle.disco_world.specs.declared.event.Reply.TheVariants.{Refused}
 
 -- what a hub does is done after all that it stands for
-at_history : (s : State) (p : Past) (ask : Ask) (now : ℕ) → StandsFor s p → accepts s.registry ask now ≡ accept_after (rules_of s).limits (history p) ask now
-at_history s p ask now stands = accepts_after s.registry (history p) stands.registry ask now
+at_history : (s : State) (p : Past) (ask : Ask) (now : ℕ) → StandsFor s p → accepts s.core.registry ask now ≡ accept_after (rules_of s).limits (history p) ask now
+at_history s p ask now stands = accepts_after s.core.registry (history p) stands.core.registry ask now
 
-gives : (s : State) (p : Past) (ask : Ask) (now : ℕ) (r : Result Applied Fault) → StandsFor s p → IfOk r (λ a. accepts s.registry ask now ≡ Ok (done_by a)) → IfErr r (Refuses s.registry ask now)
+gives : (s : State) (p : Past) (ask : Ask) (now : ℕ) (r : Result Applied Fault) → StandsFor s p → IfOk r (λ a. accepts s.core.registry ask now ≡ Ok (done_by a)) → IfErr r (Refuses s.core.registry ask now)
     → Gives done_by r (done (rules_of s) p now (Ok ask))
 gives s p ask now (Ok a) stands done refused = sym (at_history s p ask now stands) ∙ done
 gives s p ask now (Err e) stands done refused = λ other. sym (at_history s p ask now stands) ∙ refused other
@@ -41,8 +42,8 @@ abbrev with_result : ℕ → Past → ℕ → Ask → Result Applied Fault → P
 with_result most p now ask (Ok a) = with_done most p now ask (done_by a)
 with_result most p now ask (Err e) = p
 
-stands_after : (old new : State) (ask : Ask) (now : ℕ) (r : Result Applied Fault) → IfOk r (λ a. (p : Past) → StandsFor old p → StandsFor new (with_done old.queue.max p now ask (done_by a)))
-    → OnErr r ((p : Past) → StandsFor old p → StandsFor new p) → (p : Past) → StandsFor old p → StandsFor new (with_result old.queue.max p now ask r)
+stands_after : (old new : State) (ask : Ask) (now : ℕ) (r : Result Applied Fault) → IfOk r (λ a. (p : Past) → StandsFor old p → StandsFor new (with_done (rules_of old).queue p now ask (done_by a)))
+    → OnErr r ((p : Past) → StandsFor old p → StandsFor new p) → (p : Past) → StandsFor old p → StandsFor new (with_result (rules_of old).queue p now ask r)
 stands_after old new ask now (Ok a) after stays p stands = after p stands
 stands_after old new ask now (Err e) after stays p stands = stays p stands
 
@@ -59,25 +60,25 @@ stays rules p now asked f refused = one (fault_number f == 1) refl
     one false memory = same asked (done rules p now asked) (refused (λ same. let bad = sym memory ∙ ap (λ x. fault_number x == 1) same in cc))
 
 module _ (old new : State) (w : World) (now : ℕ) (ask : Ask) where
-  answer_by : (r : Result Applied Fault) → Gives done_by r (done (rules_of old) w.past now (Ok ask)) → StandsFor new (with_result old.queue.max w.past now ask r) → IsAnswer (rules_of old) w (writes now (Ok ask)) (reply_to r new.registry.version)
-  answer_by (Ok (applied.Changed c)) gives stands = (_, gives, stands.registry.version ∙ one_longer old.queue.max w.past now ask _)
+  answer_by : (r : Result Applied Fault) → Gives done_by r (done (rules_of old) w.past now (Ok ask)) → StandsFor new (with_result (rules_of old).queue w.past now ask r) → IsAnswer (rules_of old) w (writes now (Ok ask)) (reply_to r new.core.registry.version)
+  answer_by (Ok (applied.Changed c)) gives stands = (_, gives, stands.core.registry.version ∙ one_longer (rules_of old).queue w.past now ask _)
   answer_by (Ok applied.Same) gives stands = gives
   answer_by (Err f) gives stands = gives
 
-  after_is : (r : Result Applied Fault) (v : ℕ) → Gives done_by r (done (rules_of old) w.past now (Ok ask)) → past_after (rules_of old) w.past (writes now (Ok ask)) (reply_to r v) ≡ with_result old.queue.max w.past now ask r
-  after_is (Ok (applied.Changed c)) v gives = ap (after_write old.queue.max w.past now (Ok ask)) gives
-  after_is (Ok applied.Same) v gives = ap (after_write old.queue.max w.past now (Ok ask)) gives
+  after_is : (r : Result Applied Fault) (v : ℕ) → Gives done_by r (done (rules_of old) w.past now (Ok ask)) → past_after (rules_of old) w.past (writes now (Ok ask)) (reply_to r v) ≡ with_result (rules_of old).queue w.past now ask r
+  after_is (Ok (applied.Changed c)) v gives = ap (after_write (rules_of old).queue w.past now (Ok ask)) gives
+  after_is (Ok applied.Same) v gives = ap (after_write (rules_of old).queue w.past now (Ok ask)) gives
   after_is (Err f) v gives = stays (rules_of old) w.past now (Ok ask) f gives
 
-pub does : (old new : State) (ask : Ask) (asked : Result Ask Fault) (now : ℕ) (r : Result Applied Fault) → asked ≡ Ok ask → IfOk r (λ a. accepts old.registry ask now ≡ Ok (done_by a)) → IfErr r (Refuses old.registry ask now)
-    → IfOk r (λ a. (p : Past) → StandsFor old p → StandsFor new (with_done old.queue.max p now ask (done_by a))) → OnErr r ((p : Past) → StandsFor old p → StandsFor new p)
-    → Does old new (λ _. writes now asked) (reply_to r new.registry.version)
+pub does : (old new : State) (ask : Ask) (asked : Result Ask Fault) (now : ℕ) (r : Result Applied Fault) → asked ≡ Ok ask → IfOk r (λ a. accepts old.core.registry ask now ≡ Ok (done_by a)) → IfErr r (Refuses old.core.registry ask now)
+    → IfOk r (λ a. (p : Past) → StandsFor old p → StandsFor new (with_done (rules_of old).queue p now ask (done_by a))) → OnErr r ((p : Past) → StandsFor old p → StandsFor new p)
+    → Does old new (λ _. writes now asked) (reply_to r new.core.registry.version)
 does old new ask asked now r is done refused after refused_after = λ w stands.
     let gives = gives old w.past ask now r stands done refused in
     let stands_now = stands_after old new ask now r after refused_after w.past stands in
-    let here : IsAnswer (rules_of old) w (writes now (Ok ask)) (reply_to r new.registry.version) × StandsFor new (past_after (rules_of old) w.past (writes now (Ok ask)) (reply_to r new.registry.version))
-    = (answer_by old new w now ask r gives stands_now, subst (StandsFor new) (sym (after_is old new w now ask r new.registry.version gives)) stands_now) in
-    subst (λ a. IsAnswer (rules_of old) w (writes now a) (reply_to r new.registry.version) × StandsFor new (past_after (rules_of old) w.past (writes now a) (reply_to r new.registry.version))) (sym is) here
+    let here : IsAnswer (rules_of old) w (writes now (Ok ask)) (reply_to r new.core.registry.version) × StandsFor new (past_after (rules_of old) w.past (writes now (Ok ask)) (reply_to r new.core.registry.version))
+    = (answer_by old new w now ask r gives stands_now, subst (StandsFor new) (sym (after_is old new w now ask r new.core.registry.version gives)) stands_now) in
+    subst (λ a. IsAnswer (rules_of old) w (writes now a) (reply_to r new.core.registry.version) × StandsFor new (past_after (rules_of old) w.past (writes now a) (reply_to r new.core.registry.version))) (sym is) here
 
 pub does_nothing : (s : State) (asked : Result Ask Fault) (now : ℕ) (f : Fault) → (f ≢ OutOfMemory → asked ≡ Err f) → Does s s (λ _. writes now asked) (Refused f)
 does_nothing s asked now f refused = λ w stands.

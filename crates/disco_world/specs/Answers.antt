@@ -5,11 +5,10 @@ use Rattle.std.specs.declared.sync.Arc.{Arc}
 use Rattle.disco_instance.specs.declared.fault.Fault.{Fault}
 use Rattle.disco_instance.specs.declared.fault.Fault.TheVariants.{OutOfMemory, BadEvent, NotFetched}
 use Rattle.disco_history.specs.Change.{Entry}
-use Rattle.disco_writer.specs.Documents.{is_delta}
 use Rattle.disco_hub.specs.Expiry.{IsExpired}
-use Rattle.disco_hub.specs.Past.{Past, cleaned, history, minute_closed, taken_in}
-use Rattle.disco_hub.specs.State.{Rules}
-use Rattle.disco_cache.specs.Payloads.{IsTrue}
+use Rattle.disco_core.specs.Past.{Past, cleaned, history, minute_closed, taken_in}
+use Rattle.disco_core.specs.State.{Rules}
+use Rattle.disco_hub.specs.State.{MayServe}
 use Rattle.disco_cache.specs.declared.payload.Payload.{Payload}
 use Rattle.disco_world.specs.Clients.{IsTold, MeansVersion, shown, taken}
 use Rattle.disco_world.specs.declared.clients.Client.{Client}
@@ -18,18 +17,17 @@ use Rattle.disco_world.specs.declared.event.Event.{Event}
 use Rattle.disco_world.specs.declared.event.Reply.{Reply}
 use Rattle.disco_world.specs.declared.event.Reply.TheVariants.{Changed, Same, Doc, Cleaned, Closed, Expired, Taken, Held, Refused}
 
--- the document that was asked for, by its key and form, and true after what has happened; a delta starts no later than the queue does
+-- the document that was asked for, by its key and form, which may be served after what has happened
 pub record IsServed (what : Deed) (p : Past) (d : Payload) : Type 0 where
   pub asked : what ≡ loads (Ok d.key)
-  pub true_now : IsTrue d (history p)
-  pub start : is_delta d.key.query ≡ true → d.base ≤ p.base
+  pub served : MayServe d p
 
 -- what a deed may answer after what has happened; a refused growth may be answered in place of anything but a cleaning and the closing of a minute, and stops a run that cancels instances, and nothing is answered to what can't be run
 abbrev pub IsAnswer : Rules → World → Deed → Reply → Type 0
 IsAnswer rules w (writes now ask) (Changed v) = (c : Entry) × (done rules w.past now ask ≡ Ok (Some c)) × (v ≡ length (history w.past) + 1)
 IsAnswer rules w (writes now ask) Same = done rules w.past now ask ≡ Ok None
 IsAnswer rules w (writes now ask) (Refused e) = e ≢ OutOfMemory → done rules w.past now ask ≡ Err e
-IsAnswer rules w (loads asked) (Doc d) = IsServed (loads asked) w.past d.value × (d.value.version ≡ length (history w.past))
+IsAnswer rules w (loads asked) (Doc d) = IsServed (loads asked) w.past d.value
 IsAnswer rules w (loads asked) (Refused e) = e ≢ OutOfMemory → asked ≡ Err e
 IsAnswer rules w (cleans now) (Cleaned b) = b ≡ (cleaned rules.retention w.past now).base
 IsAnswer rules w closes (Closed minute) = minute ≡ (minute_closed w.past).closed

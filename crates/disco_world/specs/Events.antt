@@ -16,9 +16,9 @@ use Rattle.disco_registry.specs.Op.{Ask, register, cancel, renew, set_status, dr
 use Rattle.disco_wire.specs.Registration.{registration_of}
 use Rattle.disco_cache.specs.declared.key.DocKey.{DocKey}
 use Rattle.disco_hub.specs.Expiry.{cancelled}
-use Rattle.disco_hub.specs.Past.{Past, cleaned, history, minute_closed, nothing, taken_in, with_done}
-use Rattle.disco_hub.specs.Refusals.{doc_of_key, refusal_of}
-use Rattle.disco_hub.specs.State.{Rules}
+use Rattle.disco_core.specs.Past.{Past, cleaned, history, minute_closed, nothing, taken_in, with_done}
+use Rattle.disco_core.specs.Refusals.{doc_of_key, refusal_of}
+use Rattle.disco_core.specs.State.{Rules}
 use Rattle.disco_writer.specs.declared.query.Query.{Query}
 use Rattle.disco_writer.specs.declared.query.Query.TheVariants as query
 use Rattle.disco_cache.specs.declared.payload.Payload.{Payload}

@@ -37,8 +37,9 @@ fn served(loaded: Result<Arc<Payload, Global>, Fault>) -> Reply
 }
 
 /// Answers a load, by a key whose app may be in any case.
-pub(crate) fn load(alloc: Global, hub: &Hub, key: &DocKey) -> Reply
-    ensures { Does hub.now hub.now (λ w. deed (rules_of hub.now) w (event.Load key.now)) result }
+pub(crate) fn load(alloc: Global, hub: &mut Hub, key: &DocKey) -> Reply
+    ensures does { Does hub.old hub.new (λ w. deed (rules_of hub.old) w (event.Load key.now)) result }
+    ensures rules { rules_of hub.new ≡ rules_of hub.old }
 {
     match query_asked(alloc, &key.query) {
         Ok(query) => served(hub.load(&DocKey {

@@ -1,7 +1,7 @@
 use Rattle.std.proofs.Common.{◌≡◌, refl, sym, subst, ◌∙◌, Option, Some, None, IfNone, arith}
 use Rattle.std.specs.BTreeMap as tree
 use Rattle.std.specs.Ordering.{nat_cmp}
-use Rattle.disco_hub.specs.State.{rules}
+use Rattle.disco_core.specs.State.{rules}
 use Rattle.disco_world.specs.Events.{world}
 use Rattle.disco_world.specs.Steps.{AreReadable}
 use Rattle.disco_world.specs.declared.event.Reply.{Reply}

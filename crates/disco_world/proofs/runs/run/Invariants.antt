@@ -1,6 +1,6 @@
 use Rattle.std.specs.BTreeMap as tree
 use Rattle.std.specs.Ordering.{nat_cmp}
-use Rattle.disco_hub.specs.State.{rules}
+use Rattle.disco_core.specs.State.{rules}
 use Rattle.disco_world.proofs.Histories.{IsRun}
 use Rattle.disco_world.proofs.runs.run.Given as goal
 

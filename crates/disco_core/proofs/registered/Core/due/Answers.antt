@@ -1,7 +1,7 @@
 use Rattle.std.proofs.Common.{sym, subst}
 use Rattle.disco_core.specs.Past.{history}
 use Rattle.disco_core.specs.State.{State, StandsFor}
-use Rattle.disco_core.specs.contracts.hub.Core.{the_view}
+use Rattle.disco_core.specs.contracts.registered.Core.{the_view}
 use Rattle.disco_core.proofs.Expiring.{gives_taken, refused_some, takes}
 use Rattle.disco_core.proofs.registered.Core.due.Goals as goal
 
