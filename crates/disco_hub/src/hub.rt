@@ -50,6 +50,7 @@ impl Hub {
     pub fn new(alloc: Global, settings: &Settings) -> Hub
         ensures empty { StandsFor result nothing }
         ensures rules { rules_of result ≡ rules settings.now }
+        ensures room { result.docs.max ≡ settings.now.entries }
     {
         Hub {
             alloc,
@@ -169,6 +170,7 @@ impl Hub {
         ensures refused { IfErr result (λ e. e ≢ OutOfMemory → (p : Past) → StandsFor self.old p → refusal_of (rules_of self.old).delta key.now.query (history p) ≡ Some e) }
         ensures history { (p : Past) → StandsFor self.old p → StandsFor self.new p }
         ensures core { self.new.core ≡ self.old.core }
+        ensures room { self.new.docs.max ≡ self.old.docs.max }
     {
         if key.query.is_delta() && !self.core.serves_deltas() {
             return Err(Fault::DeltaDisabled);

@@ -19,8 +19,8 @@ returns-in-Some-clause-allowed c = λ p stands.
     let was = subst (λ (s : State). StandsFor s p) (sym c.self.view_is) stands in
     let may = was.docs.served c.args.key.now c.in-Some.doc.now.value (sym c.in-Some.ensures.found) in
     let deltas : is_delta c.args.key.now.query ≡ true → c.self.inside.core.delta ≡ true = elim c.else-is_delta.branch [
-      else-is_delta-via-then-is_delta+else-not-serves_deltas w ↦ λ e. search (rules, w.serves_deltas.ensures, w.if-not-serves_deltas)
-    | else-is_delta-via-else-is_delta w ↦ λ e. search (rules, w.if-is_delta, c.is_delta.ensures, e)
+      | else-is_delta-via-then-is_delta+else-not-serves_deltas w ↦ λ e. search (rules, w.serves_deltas.ensures, w.if-not-serves_deltas)
+      | else-is_delta-via-else-is_delta w ↦ λ e. search (rules, w.if-is_delta, c.is_delta.ensures, e)
     ] in
     subst (λ (s : State). refusal_of s.core.delta c.args.key.now.query (history p) ≡ None) c.self.view_is
     (allowed c.self.inside.core.delta c.args.key.now.query (history p) c.in-Some.doc.now.value (ap (λ (k : DocKey). k.query) c.in-Some.ensures.same_key) may.true_now deltas)
