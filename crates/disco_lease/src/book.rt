@@ -3,7 +3,7 @@ ghost use Rattle.std.specs.Prelude.{◌≡◌, ◌↔◌, IfErr, IfOk, None, OnE
 ghost use Rattle.disco_instance.specs.declared.fault.Fault.TheVariants.{NotFound, OutOfMemory};
 ghost use Rattle.std.specs.FinMap.{keys};
 ghost use Rattle.disco_lease.specs.Due.{due_at, taken};
-ghost use Rattle.disco_lease.specs.Leases.{HasPlace, IsFilled, IsSame, KeepsOtherPlaces, KeepsOthers, KeepsPlaces, Sets, counted, extended, lease_at, marked, no_leases};
+ghost use Rattle.disco_lease.specs.Leases.{HasPlace, IsFilled, IsSame, KeepsOthers, KeepsPlaces, Sets, counted, extended, lease_at, marked, no_leases};
 
 use crate::lease::Lease;
 use crate::minute::{Minute, most_taken};
@@ -119,7 +119,7 @@ impl LeaseBook {
 
         ensures leases { OnOk result (Sets key.now None self.old self.new) }
         ensures gone { OnOk result (HasPlace self.new key.now → ⊥) }
-        ensures places { KeepsOtherPlaces key.now self.old self.new }
+        ensures others { KeepsOthers key.now self.old self.new }
         ensures renewals { self.new.renewals ≡ self.old.renewals }
         ensures closed { self.new.closed ≡ self.old.closed }
     {
