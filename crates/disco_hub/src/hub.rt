@@ -284,6 +284,9 @@ impl Hub {
     pub fn close_minute(&mut self) -> Minute
         ensures kept { (p : Past) → StandsFor self.old p → result ≡ (minute_closed p).closed }
         ensures registry { self.new.registry ≡ self.old.registry }
+        ensures vips { self.new.vips ≡ self.old.vips }
+        ensures places { self.new.leases.places ≡ self.old.leases.places }
+        ensures queue { self.new.queue ≡ self.old.queue }
         ensures rules { rules_of self.new ≡ rules_of self.old }
         ensures history { (p : Past) → StandsFor self.old p → StandsFor self.new (minute_closed p) }
     {
