@@ -67,7 +67,7 @@ impl LeaseBook {
     pub fn register(&mut self, key: &Key, duration_secs: u32, now: u64)
         requires { HasPlace self.old key.now }
         ensures leases { Sets key.now (Some (marked duration_secs now)) self.old self.new }
-        ensures places { KeepsPlaces self.old self.new }
+        ensures others { KeepsOthers key.now self.old self.new }
         ensures renewals { self.new.renewals ≡ self.old.renewals }
         ensures closed { self.new.closed ≡ self.old.closed }
     {
@@ -82,7 +82,7 @@ impl LeaseBook {
         ensures err { OnErr result (self.new ≡ self.old) }
 
         ensures leases { OnOk result (Sets key.now (option_map (extended now) (lease_at self.old key.now)) self.old self.new) }
-        ensures places { KeepsPlaces self.old self.new }
+        ensures others { KeepsOthers key.now self.old self.new }
         ensures renewals { OnOk result (self.new.renewals ≡ counted self.old.renewals) }
         ensures closed { self.new.closed ≡ self.old.closed }
     {
@@ -99,7 +99,7 @@ impl LeaseBook {
         ensures err { OnErr result (self.new ≡ self.old) }
 
         ensures leases { OnOk result (Sets key.now (option_map (extended now) (lease_at self.old key.now)) self.old self.new) }
-        ensures places { KeepsPlaces self.old self.new }
+        ensures others { KeepsOthers key.now self.old self.new }
         ensures renewals { self.new.renewals ≡ self.old.renewals }
         ensures closed { self.new.closed ≡ self.old.closed }
     {
