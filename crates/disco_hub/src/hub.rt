@@ -1,5 +1,5 @@
 //! The hub: the registry and all that follows its changes.
-ghost use Rattle.std.specs.Prelude.{◌≡◌, ◌≢◌, ◌≤◌, List, IfErr, IfOk, OnErr, OnOk, Ok, Some, None, length, map, true, false, option_map};
+ghost use Rattle.std.specs.Prelude.{◌≡◌, ◌≢◌, ◌≤◌, ◌+◌, ◌-◌, List, IfErr, IfOk, OnErr, OnOk, Ok, Some, None, length, map, true, false, option_map};
 ghost use Rattle.std.specs.FinMap.{len};
 ghost use Rattle.disco_instance.specs.declared.fault.Fault.TheVariants.{OutOfMemory};
 ghost use Rattle.disco_history.specs.Change.{Entry, key_of, seen};
@@ -269,6 +269,7 @@ impl Hub {
     /// to the first that isn't. Answers the version from which deltas start now. Takes no memory.
     pub fn clean(&mut self, now: u64) -> u64
         ensures base { result ≡ self.new.queue.base }
+        ensures room { self.new.queue.room ≡ self.old.queue.room + (result - self.old.queue.base) }
         ensures registry { self.new.registry ≡ self.old.registry }
         ensures vips { self.new.vips ≡ self.old.vips }
         ensures leases { self.new.leases ≡ self.old.leases }
