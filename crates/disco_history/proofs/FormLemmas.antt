@@ -1,5 +1,5 @@
 -- The form goes through copies, overlays, restrictions and hash codes.
-use Rattle.std.proofs.Common.{◌≡◌, ℕ, ◌+◌, ◌==◌, Bool, true, false, cond, List, [], ◌∷◌, ◌++◌, map, Option, Some, None, fold, option_map, option_and_then, refl, sym, ap, ◌∙◌}
+use Rattle.std.proofs.Common.{◌≡◌, ℕ, ◌+◌, ◌==◌, Bool, true, false, cond, List, [], ◌∷◌, map, Option, Some, None, fold, option_map, option_and_then, refl, sym, ap, ◌∙◌}
 use Rattle.std.specs.FinMap.{FinMap, get, keys, same_map}
 use Rattle.disco_instance.specs.Key.{key_cmp}
 use Rattle.disco_instance.specs.Row.{Row}
@@ -15,7 +15,7 @@ use Rattle.disco_history.specs.Hash.{count_of, hash, hash_by, place_of}
 use Rattle.disco_history.specs.Laws.{FormLaw}
 use Rattle.disco_history.specs.Mentions.{Mention, copied, known, overlaid_by, overlay}
 use Rattle.disco_history.specs.Query.{Asked, all, of_app, of_vip, of_secure_vip, of_key, asks_for, restrict}
-use Rattle.disco_history.specs.Registry.{put_of, reg}
+use Rattle.disco_history.specs.Registry.{put_of}
 use Rattle.disco_history.proofs.Keys.{keys_total, exact_keys, get-chosen}
 use Rattle.disco_history.proofs.Lasts.{last_mapped}
 use Rattle.disco_history.proofs.Sets.{asked_of, first_of, get-overlay, get-reg, get-restrict, not_there}

@@ -10,9 +10,10 @@ use Rattle.disco_registry.specs.Commit.{done_by}
 use Rattle.disco_registry.specs.Op.{cancel}
 use Rattle.disco_registry.specs.declared.op.Applied.{Applied}
 use Rattle.disco_registry.proofs.Histories.{accepts_after}
-use Rattle.disco_hub.specs.Expiry.{Cancels, Declines, Expires, IsExpired, after_cancel, after_next, cancel_of, cancelled}
+use Rattle.disco_hub.specs.Expiry.{Expires, IsExpired, after_cancel, after_next, cancel_of, cancelled}
 use Rattle.disco_hub.specs.Past.{Past, history, with_done}
 use Rattle.disco_hub.specs.State.{Rules, State, StandsFor, rules_of}
+use Rattle.disco_hub.specs.Steps.{Cancels, Declines}
 
 -- a hub has cancelled the first so many of these keys
 pub record Did (old new : State) (now : ℕ) (ks : List Key) (gone : ℕ) : Type 0 where
@@ -89,7 +90,7 @@ module _ (old mid new : State) (now : ℕ) (ks : List Key) (i : ℕ) (k : Key) (
         record {
           accepted = did.accepted p stands;
           within = omega (arith, lt);
-          all = λ is. absurd (cc);
+          all = (λ is. absurd (cc), λ is. absurd (omega (arith, lt, is)));
           next = λ other. (k, there, says p (Err e) (none.1 other));
         },
         none.0,
@@ -97,15 +98,15 @@ module _ (old mid new : State) (now : ℕ) (ks : List Key) (i : ℕ) (k : Key) (
 
 -- all of them are cancelled
 pub all_gone : (old new : State) (now : ℕ) (ks : List Key) (i : ℕ) → i ≡ length ks → Did old new now ks i → Expires old new now (λ _. ks) i None
-all_gone old new now ks i is did = λ p stands. (record { accepted = did.accepted p stands; within = omega (arith, is); all = λ _. is; next = tt }, did.stands p stands)
+all_gone old new now ks i is did = λ p stands. (record { accepted = did.accepted p stands; within = omega (arith, is); all = (λ _. is, λ _. refl); next = tt }, did.stands p stands)
 
 -- no list was found
-pub none_gone : (s : State) (now : ℕ) (ks : Past → List Key) (e : Fault) → e ≡ OutOfMemory → Expires s s now ks 0 (Some e)
-none_gone s now ks e memory = λ p stands. (
+pub none_gone : (s : State) (now : ℕ) (ks : Past → List Key) (e : Fault) → e ≡ OutOfMemory → ((p : Past) → StandsFor s p → 0 < length (ks p)) → Expires s s now ks 0 (Some e)
+none_gone s now ks e memory some = λ p stands. (
   record {
     accepted = λ i k lt is. absurd (omega (arith, lt));
     within = omega arith;
-    all = λ is. absurd (cc);
+    all = (λ is. absurd (cc), λ is. absurd (let lt = some p stands in omega (arith, lt, is)));
     next = λ other. absurd (other memory);
   },
   (did_nothing s now (ks p)).stands p stands,

@@ -1,5 +1,5 @@
 -- What a run takes, and what it leaves.
-use Rattle.std.proofs.Common.{◌≡◌, ℕ, ◌*◌, ◌+◌, cond, [], map, take, Option, Some, None, option_map, refl, sym, ap, ◌∙◌}
+use Rattle.std.proofs.Common.{◌≡◌, ◌<◌, ℕ, ◌*◌, ◌+◌, cond, List, [], length, Bor, Result, Ok, Err, IfOk, OnErr, subst, map, take, Option, Some, None, option_map, refl, sym, ap, ◌∙◌}
 use Rattle.std.proofs.lemmas.Option.{same_Some}
 use Rattle.std.specs.FinMap.{get, keys, len}
 use Rattle.std.specs.Option.{option_flatten, option_map_or}
@@ -11,7 +11,10 @@ use Rattle.disco_lease.specs.Due.{due_at, due_moment, lets_expire, most_taken, o
 use Rattle.disco_lease.specs.Leases.{Lease, Leases, lease_at}
 use Rattle.disco_lease.proofs.Due.{same_overdue}
 use Rattle.disco_hub.specs.Past.{Past, due_in, duration_at, history, taken_in}
-use Rattle.disco_hub.specs.State.{AreLeasesOf}
+use Rattle.disco_instance.specs.declared.fault.Fault.{Fault}
+use Rattle.std.specs.declared.vec.Vec.{Vec}
+use Rattle.std.specs.declared.alloc.Global.{Global}
+use Rattle.disco_hub.specs.State.{AreLeasesOf, State, StandsFor}
 
 abbrev lasts : Option Lease → Option ℕ
 lasts o = option_map (λ l. l.duration_secs) o
@@ -38,3 +41,14 @@ takes v p held now are count =
     (λ k absent. ap (λ o. option_map due_moment (option_flatten o)) (not_there v.places k absent))
     (λ k absent. ap (option_map (λ m. m + duration_at p k)) (not_there p.marks k absent)) in
     λ i. cond (lets_expire (are.closed i)) (take (most_taken (count i)) (map (λ (d : ℕ × Key). d.1) (keys (due i)))) []
+
+-- the same of a call that may be refused
+pub gives_taken : (r : Result (Vec (Bor Key) Global) Fault) (v : Leases) (s : State) (held now : ℕ) → ((p : Past) → StandsFor s p → taken v.closed (due_at v) (keys v.places) held now ≡ taken_in p now)
+    → IfOk r (λ found. map (λ k. k.now) found.items ≡ taken v.closed (due_at v) (keys v.places) held now) → IfOk r (λ found. (p : Past) → StandsFor s p → map (λ k. k.now) found.items ≡ taken_in p now)
+gives_taken (Ok found) v s held now same is = λ p stands. is ∙ same p stands
+gives_taken (Err e) v s held now same is = tt
+
+pub refused_some : {A : Type 0} (r : Result A Fault) (v : Leases) (s : State) (held now : ℕ) → ((p : Past) → StandsFor s p → taken v.closed (due_at v) (keys v.places) held now ≡ taken_in p now)
+    → OnErr r (0 < length (taken v.closed (due_at v) (keys v.places) held now)) → OnErr r ((p : Past) → StandsFor s p → 0 < length (taken_in p now))
+refused_some (Ok found) v s held now same some = tt
+refused_some (Err e) v s held now same some = λ p stands. subst (λ (ks : List Key). 0 < length ks) (same p stands) some

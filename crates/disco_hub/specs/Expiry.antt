@@ -1,5 +1,5 @@
 -- What has happened after a run that cancels instances whose leases ran out. Moments are in milliseconds.
-use Rattle.std.specs.Prelude.{◌≡◌, ◌≢◌, ◌<◌, ◌≤◌, ℕ, zero, suc, List, length, Option, Some, None, IfSome, Result, Ok, Err, IsOk, slice_get}
+use Rattle.std.specs.Prelude.{◌≡◌, ◌≢◌, ◌↔◌, ◌<◌, ◌≤◌, ℕ, zero, suc, List, length, Option, Some, None, IfSome, Result, Ok, Err, IsOk, slice_get}
 use Rattle.disco_instance.specs.declared.fault.Fault.{Fault}
 use Rattle.disco_instance.specs.declared.fault.Fault.TheVariants.{OutOfMemory}
 use Rattle.disco_instance.specs.declared.key.Key.{Key}
@@ -13,6 +13,7 @@ use Rattle.disco_hub.specs.State.{Rules, State, StandsFor, rules_of}
 abbrev pub cancel_of : Rules → Past → ℕ → Key → Result (Option Entry) Fault
 cancel_of rules p now k = accept_after rules.limits (history p) (cancel k) now
 
+-- what has happened after a cancel that is accepted with its change, or refused
 abbrev pub after_cancel : ℕ → Past → ℕ → Key → Result (Option Entry) Fault → Past
 after_cancel most p now k (Ok change) = with_done most p now (cancel k) change
 after_cancel most p now k (Err e) = p
@@ -31,16 +32,8 @@ cancelled rules p now ks (suc i) = after_next rules (cancelled rules p now ks i)
 pub record IsExpired (rules : Rules) (p : Past) (now : ℕ) (ks : List Key) (gone : ℕ) (stopped : Option Fault) : Type 0 where
   pub accepted : (i : ℕ) (k : Key) → i < gone → slice_get ks i ≡ Some k → IsOk (cancel_of rules (cancelled rules p now ks i) now k)
   pub within : gone ≤ length ks
-  pub all : stopped ≡ None → gone ≡ length ks
+  pub all : (stopped ≡ None) ↔ (gone ≡ length ks)
   pub next : IfSome stopped (λ e. e ≢ OutOfMemory → (k : Key) × (slice_get ks gone ≡ Some k) × (cancel_of rules (cancelled rules p now ks gone) now k ≡ Err e))
-
--- one cancel is accepted, and the hub then stands for what has happened with it
-abbrev pub Cancels : State → State → ℕ → Key → Type 0
-Cancels old new now k = (p : Past) → StandsFor old p → (c : Option Entry) × (cancel_of (rules_of old) p now k ≡ Ok c) × StandsFor new (with_done old.queue.max p now (cancel k) c)
-
--- one cancel is refused, and the hub stands for what it stood for
-abbrev pub Declines : State → State → ℕ → Key → Fault → Type 0
-Declines old new now k e = (p : Past) → StandsFor old p → StandsFor new p × (e ≢ OutOfMemory → cancel_of (rules_of old) p now k ≡ Err e)
 
 -- a hub cancels these keys as far as it says, and then stands for what has happened with that
 abbrev pub Expires : State → State → ℕ → (Past → List Key) → ℕ → Option Fault → Type 0

@@ -3,4 +3,5 @@ pub mod Moves
 pub mod Past
 pub mod Refusals
 pub mod State
+pub mod Steps
 pub mod Tied

@@ -1,9 +1,10 @@
 //! Runs that cancel the instances whose leases ran out.
-ghost use Rattle.std.specs.Prelude.{◌≡◌, IfErr, IfOk, OnOk, map};
+ghost use Rattle.std.specs.Prelude.{◌≡◌, ◌<◌, IfErr, IfOk, OnErr, OnOk, length, map};
 ghost use Rattle.disco_instance.specs.declared.fault.Fault.TheVariants.{OutOfMemory};
-ghost use Rattle.disco_hub.specs.Expiry.{Cancels, Declines, Expires};
+ghost use Rattle.disco_hub.specs.Expiry.{Expires};
 ghost use Rattle.disco_hub.specs.Past.{Past, taken_in};
 ghost use Rattle.disco_hub.specs.State.{StandsFor, rules_of};
+ghost use Rattle.disco_hub.specs.Steps.{Cancels, Declines};
 
 use crate::hub::Hub;
 use disco_instance::{Fault, Key};
@@ -20,7 +21,8 @@ pub struct Expired {
 }
 
 fn copies(alloc: Global, keys: &[&Key]) -> Result<Vec<Key>, AllocError>
-    ensures { IfOk result (λ v. v.items ≡ map (λ k. k.now) keys.now) }
+    ensures keys { IfOk result (λ v. v.items ≡ map (λ k. k.now) keys.now) }
+    ensures refused { OnErr result (0 < length keys.now) }
 {
     let mut copies = Vec::new(alloc);
     for key in keys {
@@ -61,6 +63,7 @@ fn cancel_all(hub: &mut Hub, keys: &[Key], now: u64) -> Expired
 /// The keys that a run at a moment takes, of which the hub's leases are not the owner.
 fn taken(alloc: Global, hub: &Hub, now: u64) -> Result<Vec<Key>, Fault>
     ensures keys { IfOk result (λ v. (p : Past) → StandsFor hub.now p → v.items ≡ taken_in p now) }
+    ensures refused { OnErr result ((p : Past) → StandsFor hub.now p → 0 < length (taken_in p now)) }
     ensures memory { IfErr result (λ e. e ≡ OutOfMemory) }
 {
     let due = hub.due(now)?;

@@ -1,5 +1,5 @@
 //! The hub: the registry and all that follows its changes.
-ghost use Rattle.std.specs.Prelude.{◌≡◌, ◌≢◌, ◌≤◌, ◌+◌, ◌-◌, List, IfErr, IfOk, OnErr, OnOk, Ok, Some, None, length, map, true, false, option_map};
+ghost use Rattle.std.specs.Prelude.{◌≡◌, ◌≢◌, ◌<◌, ◌≤◌, ◌+◌, ◌-◌, List, IfErr, IfOk, OnErr, OnOk, Ok, Some, None, length, map, true, false, option_map};
 ghost use Rattle.std.specs.FinMap.{len};
 ghost use Rattle.disco_instance.specs.declared.fault.Fault.TheVariants.{OutOfMemory};
 ghost use Rattle.disco_history.specs.Change.{Entry, key_of, seen};
@@ -301,15 +301,14 @@ impl Hub {
 
     /// The keys that one run takes at a moment in milliseconds: those whose leases have run out, the
     /// earliest first, then by key, as far as 85 of 100 instances stay; none where too few renewals
-    /// came in the minute that was closed last. Refused only as `OutOfMemory`.
+    /// came in the minute that was closed last. Refused only as `OutOfMemory`, and
+    /// only where there is one.
     pub fn due(&self, now: u64) -> Result<Vec<&Key>, Fault>
         ensures keys { IfOk result (λ found. (p : Past) → StandsFor self.now p → map (λ k. k.now) found.items ≡ taken_in p now) }
         ensures memory { IfErr result (λ e. e ≡ OutOfMemory) }
+        ensures refused { OnErr result ((p : Past) → StandsFor self.now p → 0 < length (taken_in p now)) }
     {
-        Ok(
-            self.leases
-                .due(self.alloc, now, self.registry.len() as u64)?,
-        )
+        self.leases.due(self.alloc, now, self.registry.len() as u64)
     }
 
     /// Cancels at a moment in milliseconds, one by one, the instances that [`Hub::due`] gives when it

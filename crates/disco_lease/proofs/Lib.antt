@@ -1,3 +1,4 @@
+mod AnyDue
 mod Collecting
 pub mod Due
 mod Entries

@@ -44,7 +44,7 @@ entries_stored {R = R} total exact es h =
     ap entries (same_map total exact (from_entries es) (from_sorted es) (λ q. get-from_entries total es q ∙ sym (get-from_sorted R es q h)))
     ∙ entries-from_sorted R es h
 
-abbrev Entries : Type 0
+abbrev pub Entries : Type 0
 Entries = List (Key × Option Lease)
 
 keys_alike : (es : Entries) → map (λ (e : Key × Option leases.Lease). e.0) (map (λ (e : Key × Option Lease). (e.0, option_map seen e.1)) es) ≡ keys_of es

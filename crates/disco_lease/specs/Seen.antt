@@ -2,7 +2,7 @@
 use Rattle.std.specs.Borrow.{Bor}
 use Rattle.std.specs.Ordering.{eq_by_cmp, nat_cmp, ordering_then}
 use Rattle.std.specs.declared.cmp.Ordering.{Ordering}
-use Rattle.std.specs.Prelude.{ℕ, List, map, if◌then◌else◌, Option, Some, None, option_map}
+use Rattle.std.specs.Prelude.{ℕ, Bool, List, map, is_some, if◌then◌else◌, Option, Some, None, option_map}
 use Rattle.std.specs.List.{filter_map}
 use Rattle.std.specs.FinMap.{FinMap, from_entries}
 use Rattle.disco_instance.specs.Key.{key_cmp}
@@ -25,6 +25,10 @@ stored_cmp a b = ordering_then (nat_cmp a.0 b.0) (key_cmp a.1.now b.1.now)
 -- the due moments and keys that entries stand for
 abbrev pub seen_due : List ((ℕ × Bor Key) × Unit {0}) → FinMap due_cmp (Unit {0})
 seen_due es = from_entries (map (λ e. ((e.0.0, e.0.1.now), e.1)) es)
+
+-- whether the place has a lease that has run out
+abbrev pub has_run_out : ℕ → Option Lease → Bool
+has_run_out now place = is_some (passed now (option_map due_moment (option_map seen place)))
 
 -- of a place with a lease that has run out, its due moment and its key
 abbrev pub pair : ℕ → Key × Option Lease → Option ((ℕ × Key) × Unit {0})

@@ -1,8 +1,8 @@
 //! The leases of all instances.
-ghost use Rattle.std.specs.Prelude.{◌≡◌, ◌↔◌, IfErr, IfOk, None, OnErr, OnOk, Some, Err, map, option_map};
+ghost use Rattle.std.specs.Prelude.{◌≡◌, ◌↔◌, ◌<◌, [], IfErr, IfOk, IsTrue, None, OnErr, OnOk, Some, Err, false, length, map, option_map, true};
 ghost use Rattle.disco_instance.specs.declared.fault.Fault.TheVariants.{NotFound, OutOfMemory};
 ghost use Rattle.std.specs.FinMap.{keys};
-ghost use Rattle.disco_lease.specs.Due.{due_at, taken};
+ghost use Rattle.disco_lease.specs.Due.{due_at, lets_expire, taken};
 ghost use Rattle.disco_lease.specs.Leases.{HasPlace, IsFilled, IsSame, KeepsOthers, KeepsPlaces, Sets, counted, extended, lease_at, marked, no_leases};
 
 use crate::lease::Lease;
@@ -163,16 +163,32 @@ impl LeaseBook {
     /// The keys of the leases that one run takes at a moment in milliseconds, where so many
     /// instances are held: those that have run out, the earliest first, then by key, and no more of
     /// them than leave 85 of 100 instances; none where too few renewals came in the minute that was
-    /// closed last. Refused only as `OutOfMemory`. A run that takes leases costs a pass over all.
+    /// closed last. Refused only as `OutOfMemory`, and only where there is one. A run costs a pass
+    /// over all leases, and a second one where it takes any.
     pub fn due(&self, alloc: Global, now: u64, held: u64) -> Result<Vec<&Key>, Fault>
         ensures keys { IfOk result (λ found. map (λ k. k.now) found.items ≡ taken self.now.closed (due_at self.now) (keys self.now.places) held now) }
         ensures memory { IfErr result (λ e. e ≡ OutOfMemory) }
+        ensures refused { OnErr result (0 < length (taken self.now.closed (due_at self.now) (keys self.now.places) held now)) }
     {
-        if !self.closed.lets_expire() {
+        if self.takes_none(now, held) {
             return Ok(Vec::new(alloc));
         }
         let mut found = self.places.overdue(alloc, now)?;
         found.truncate(most_taken(held) as usize);
         Ok(found)
+    }
+
+    /// Whether a run at a moment takes no lease. Takes no memory.
+    fn takes_none(&self, now: u64, held: u64) -> bool
+        ensures none { IsTrue result → taken self.now.closed (due_at self.now) (keys self.now.places) held now ≡ [] }
+        ensures some { result ≡ false → lets_expire self.now.closed ≡ true × (0 < length (taken self.now.closed (due_at self.now) (keys self.now.places) held now)) }
+    {
+        if held == 0 {
+            return true;
+        }
+        if !self.closed.lets_expire() {
+            return true;
+        }
+        !self.places.any_overdue(now)
     }
 }

@@ -2,11 +2,12 @@
 ghost use Rattle.std.specs.Prelude.{◌≡◌, ℕ, IfOk, OnOk, map, option_map};
 ghost use Rattle.std.specs.FinMap as finmap;
 ghost use Rattle.std.specs.BTreeMap.{IsOrdered};
+ghost use Rattle.std.specs.List.{list_any};
 ghost use Rattle.std.specs.Option.{option_flatten, option_or};
 ghost use Rattle.disco_instance.specs.Key.{key_cmp};
 ghost use Rattle.disco_lease.specs.Due.{due_moment, overdue};
 ghost use Rattle.disco_instance.specs.declared.key.Key.{Key};
-ghost use Rattle.disco_lease.specs.Seen.{at_pair, pair, pairs, seen_due, seen_places, stored_cmp};
+ghost use Rattle.disco_lease.specs.Seen.{at_pair, pair, pairs, has_run_out, seen_due, seen_places, stored_cmp};
 
 use crate::lease::Lease;
 use disco_instance::Key;
@@ -58,6 +59,28 @@ fn keys<'a>(alloc: Global, overdue: &Overdue<'a>) -> Result<Vec<&'a Key>, AllocE
         keys.push(*key)?;
     }
     Ok(keys)
+}
+
+fn has_run_out(place: &Option<Lease>, now: u64) -> bool
+    ensures { result ≡ has_run_out now place.now }
+{
+    match place {
+        Some(lease) => lease.due() < u128::from(now),
+        None => false,
+    }
+}
+
+/// Whether a lease has run out by a moment. Takes no memory.
+pub(crate) fn any_overdue(places: &BTreeMap<Key, Option<Lease>>, now: u64) -> bool
+    ensures any { result ≡ list_any (λ e. has_run_out now e.1) places.now.entries }
+    ensures ordered { IsOrdered key_cmp places.now }
+{
+    for (_, place) in places {
+        if has_run_out(place, now) {
+            return true;
+        }
+    }
+    false
 }
 
 /// The keys of the leases that have run out by a moment, by due moment and then by key.

@@ -1,5 +1,5 @@
 //! Leases by key, with places that stand empty.
-ghost use Rattle.std.specs.Prelude.{◌≡◌, IfOk, IsSome, None, OnErr, OnOk, Some, is_some, map, option_map};
+ghost use Rattle.std.specs.Prelude.{◌≡◌, ◌<◌, [], IfOk, IsSome, IsTrue, None, OnErr, OnOk, Some, false, is_some, length, map, option_map};
 ghost use Rattle.std.specs.BTreeMap as tree;
 ghost use Rattle.std.specs.FinMap as finmap;
 ghost use Rattle.std.specs.Option.{option_flatten};
@@ -8,7 +8,7 @@ ghost use Rattle.disco_lease.specs.Due.{due_moment, overdue};
 ghost use Rattle.disco_lease.specs.Seen.{seen};
 
 use crate::lease::Lease;
-use crate::overdue::overdue_keys;
+use crate::overdue::{any_overdue, overdue_keys};
 use disco_instance::Key;
 use std::alloc::{AllocError, Global};
 use std::collections::BTreeMap;
@@ -101,5 +101,13 @@ impl Places {
         ensures { IfOk result (λ v. map (λ k. k.now) v.items ≡ map (λ d. d.1) (finmap.keys (overdue (λ k. option_map due_moment (option_flatten (finmap.get self.now k))) (finmap.keys self.now) now))) }
     {
         overdue_keys(alloc, &self.places, now)
+    }
+
+    /// Whether a lease has run out by a moment. Takes no memory.
+    pub(crate) fn any_overdue(&self, now: u64) -> bool
+        ensures some { IsTrue result → 0 < length (finmap.keys (overdue (λ k. option_map due_moment (option_flatten (finmap.get self.now k))) (finmap.keys self.now) now)) }
+        ensures none { result ≡ false → finmap.keys (overdue (λ k. option_map due_moment (option_flatten (finmap.get self.now k))) (finmap.keys self.now) now) ≡ [] }
+    {
+        any_overdue(&self.places, now)
     }
 }

@@ -4,13 +4,11 @@ use Rattle.std.specs.declared.alloc.Global.{Global}
 use Rattle.std.specs.declared.sync.Arc.{Arc}
 use Rattle.std.proofs.lemmas.Option.{same_Some}
 use Rattle.disco_instance.specs.declared.fault.Fault.{Fault}
-use Rattle.disco_instance.specs.declared.form.Form.{Form}
 use Rattle.disco_history.specs.Change.{Entry}
 use Rattle.disco_registry.specs.Op.{Ask, cancel}
 use Rattle.disco_instance.specs.declared.key.Key.{Key}
 use Rattle.disco_queue.specs.Timed.{Timed, changes}
 use Rattle.disco_writer.specs.Documents.{is_delta}
-use Rattle.disco_cache.specs.declared.key.DocKey.{DocKey}
 use Rattle.disco_cache.specs.declared.payload.Payload.{Payload}
 use Rattle.disco_hub.specs.Expiry.{after_cancel, after_next, cancel_of, cancelled}
 use Rattle.disco_hub.specs.Past.{Past, history, taken_in, with_done}

@@ -1,24 +1,18 @@
 -- Copies that are known at a version, and documents that are true of a version.
-use Rattle.std.proofs.Common.{◌≡◌, ℕ, ◌≤◌, ◌&&◌, nat_le, Bool, true, false, cond, List, [], ◌∷◌, ◌++◌, length, map, take, Option, Some, None, option_map, option_and_then, Ok, refl, sym, ap, subst, ◌∙◌, arith}
+use Rattle.std.proofs.Common.{◌≡◌, ℕ, ◌≤◌, ◌&&◌, nat_le, Bool, true, false, cond, List, [], ◌∷◌, ◌++◌, length, map, take, Option, Some, None, Ok, refl, sym, ap, subst, ◌∙◌, arith}
 use Rattle.std.proofs.lemmas.Option.{same_Some}
 use Rattle.std.proofs.lemmas.Bool.Decides.{nat_tests}
-use Rattle.std.specs.FinMap.{FinMap, get, keys, values, same_map}
+use Rattle.std.specs.FinMap.{FinMap, values}
 use Rattle.disco_instance.specs.Key.{key_cmp}
 use Rattle.disco_instance.specs.Row.{Row}
-use Rattle.disco_instance.specs.declared.action.Action.{Action}
-use Rattle.disco_instance.specs.declared.action.Action.TheVariants.{Added, Modified, Deleted}
 use Rattle.disco_instance.specs.declared.form.Form.{Form}
 use Rattle.disco_instance.specs.declared.form.Form.TheVariants.{Full, Compact}
-use Rattle.disco_instance.specs.declared.key.Key.{Key}
-use Rattle.disco_history.specs.Change.{Entry, front, key_of, last}
+use Rattle.disco_history.specs.Change.{Entry, front}
 use Rattle.disco_history.specs.Forms.{in_form}
-use Rattle.disco_history.specs.Mentions.{Mention, copied, delta, known, mention_of, overlaid_by, overlay}
-use Rattle.disco_history.specs.Registry.{put_of, reg}
-use Rattle.disco_history.proofs.Keys.{keys_total, exact_keys, get-chosen}
-use Rattle.disco_history.proofs.Lasts.{last_mapped}
+use Rattle.disco_history.specs.Mentions.{copied, delta, known, mention_of, overlay}
+use Rattle.disco_history.specs.Registry.{reg}
 use Rattle.disco_history.proofs.FormLemmas.{copied_formed, overlay_formed}
 use Rattle.disco_history.proofs.Overlays.{copy_law, overlay_law}
-use Rattle.disco_history.proofs.Sets.{first_of, get-overlay, get-reg, not_there}
 use Rattle.std.proofs.lemmas.List.{length-append, take-append-le, take-take, take_all}
 use Rattle.disco_history.specs.Query.{all}
 use Rattle.disco_history.proofs.Restrictions.{values-said_all}

@@ -16,9 +16,7 @@ use Rattle.disco_registry.specs.declared.op.Applied.TheVariants as applied
 use Rattle.disco_registry.proofs.Histories.{accepts_after}
 use Rattle.disco_queue.specs.Timed.{Timed}
 use Rattle.disco_world.specs.Answers.{IsAnswer}
-use Rattle.disco_world.specs.Events.{Deed, World, clients_after, clients_done, loads, past_after, past_done, ran_out, writes, after_write, done}
-use Rattle.disco_instance.specs.declared.form.Form.{Form}
-use Rattle.disco_cache.specs.declared.key.DocKey.{DocKey}
+use Rattle.disco_world.specs.Events.{Deed, World, clients_after, clients_done, past_after, past_done, ran_out, writes, after_write, done}
 use Rattle.disco_world.specs.declared.clients.Client.{Client}
 use Rattle.disco_world.specs.declared.event.Reply.{Reply}
 use Rattle.disco_world.specs.Steps.{AreHeld, Does, reply_to}

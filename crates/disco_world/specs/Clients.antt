@@ -1,8 +1,6 @@
 -- Clients' copies, and the versions at which they are known.
 use Rattle.std.specs.Prelude.{◌≡◌, ◌≤◌, ℕ, ◌==◌, ◌&&◌, nat_le, Bool, true, false, List, [], length, map, if◌then◌else◌, Option, Some, None, option_map, Result, Ok, Err}
-use Rattle.std.specs.FinMap.{FinMap, get, keys, values}
-use Rattle.disco_instance.specs.Key.{key_cmp}
-use Rattle.disco_instance.specs.Row.{Row}
+use Rattle.std.specs.FinMap.{values}
 use Rattle.disco_instance.specs.declared.fault.Fault.{Fault}
 use Rattle.disco_instance.specs.declared.form.Form.{Form}
 use Rattle.disco_instance.specs.declared.form.Form.TheVariants.{Full, Compact}

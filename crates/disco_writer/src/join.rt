@@ -153,23 +153,36 @@ fn push_many_close(
     push_str(out, "}}")
 }
 
-/// How many bytes a document of these texts needs at most, so that it is asked for once. An escaped
-/// byte takes up to 6.
-fn room(pieces: &[Piece<'_>]) -> usize {
-    let mut bytes = 4 * ROUND;
+/// How many bytes these texts need, with a comma each.
+fn room_of_texts(pieces: &[Piece<'_>]) -> usize {
+    let mut bytes = 0usize;
     for piece in pieces {
         bytes = bytes.saturating_add(piece.text.len()).saturating_add(1);
     }
+    bytes
+}
+
+/// How many bytes the names of their apps need at most, with what stands round each. An escaped byte
+/// takes up to 6.
+fn room_of_names(pieces: &[Piece<'_>]) -> usize {
+    let mut bytes = 0usize;
     let mut last: Option<&Text> = None;
     for piece in pieces {
         if last != Some(piece.app) {
-            bytes = bytes
-                .saturating_add(piece.app.as_str().len().saturating_mul(6))
-                .saturating_add(ROUND);
+            let name = piece.app.as_str().len().saturating_mul(6);
+            bytes = bytes.saturating_add(name).saturating_add(ROUND);
         }
         last = Some(piece.app);
     }
     bytes
+}
+
+/// How many bytes a document of these texts needs at most, so that it is asked for once. Nothing
+/// rests on it: a document that needed more would ask again.
+fn room(pieces: &[Piece<'_>]) -> usize {
+    room_of_texts(pieces)
+        .saturating_add(room_of_names(pieces))
+        .saturating_add(4 * ROUND)
 }
 
 #[tactic(auto, unfolding(crate::specs::Joined::many_open))]

@@ -1,5 +1,4 @@
-use Rattle.std.proofs.Common.{[], false}
-use Rattle.disco_history.specs.Forms.{default_lease}
+use Rattle.std.proofs.Common.{false}
 use Rattle.disco_compact.proofs.projection.project.Goals as goal
 
 pub returns-clause-record_is : goal.returns-clause-record_is

@@ -16,4 +16,4 @@ of_most v xs ys held now n lets most first all =
 pub returns-clause-keys : goal.returns-clause-keys
 returns-clause-keys c =
     rw (← c.self.view_is)
-    (of_most (the_view c.self.inside) c.in_ok-found.found.items c.truncate.new.self.items c.args.held c.args.now c.most_taken.result (sym c.lets_expire.ensures ∙ c.if-not-lets_expire.false) c.most_taken.ensures c.truncate.ensures.items c.in_ok-found.ensures)
+    (of_most (the_view c.self.inside) c.in_ok-found.found.items c.truncate.new.self.items c.args.held c.args.now c.most_taken.result (ap (λ (x : Leases). lets_expire x.closed) c.self.view_is ∙ (c.takes_none.ensures.some c.if-takes_none.false).0) c.most_taken.ensures c.truncate.ensures.items c.in_ok-found.ensures)
