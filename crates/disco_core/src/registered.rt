@@ -1,5 +1,5 @@
 //! The registry and all that follows its changes.
-ghost use Rattle.std.specs.Prelude.{◌≡◌, ◌≢◌, ◌<◌, ◌≤◌, List, IfErr, IfOk, OnErr, OnOk, Ok, Some, None, length, map, true, false, option_map};
+ghost use Rattle.std.specs.Prelude.{◌≡◌, ◌≢◌, ◌<◌, ◌≤◌, ◌+◌, ◌-◌, List, IfErr, IfOk, OnErr, OnOk, Ok, Some, None, length, map, true, false, option_map};
 ghost use Rattle.std.specs.FinMap.{len};
 ghost use Rattle.disco_instance.specs.declared.fault.Fault.TheVariants.{OutOfMemory};
 ghost use Rattle.disco_instance.specs.Row.{row};
@@ -300,6 +300,7 @@ impl Core {
     /// to the first that isn't. Answers the version from which deltas start now. Takes no memory.
     pub fn clean(&mut self, now: u64) -> u64
         ensures base { result ≡ self.new.queue.base }
+        ensures room { self.new.queue.room ≡ self.old.queue.room + (result - self.old.queue.base) }
         ensures registry { self.new.registry ≡ self.old.registry }
         ensures vips { self.new.vips ≡ self.old.vips }
         ensures leases { self.new.leases ≡ self.old.leases }
@@ -315,6 +316,9 @@ impl Core {
     pub fn close_minute(&mut self) -> Minute
         ensures kept { (p : Past) → StandsFor self.old p → result ≡ (minute_closed p).closed }
         ensures registry { self.new.registry ≡ self.old.registry }
+        ensures vips { self.new.vips ≡ self.old.vips }
+        ensures places { self.new.leases.places ≡ self.old.leases.places }
+        ensures queue { self.new.queue ≡ self.old.queue }
         ensures rules { rules_of self.new ≡ rules_of self.old }
         ensures history { (p : Past) → StandsFor self.old p → StandsFor self.new (minute_closed p) }
     {

@@ -56,11 +56,6 @@ place-open m n k v e =
     let now : get n k ≡ Some v = ap (λ p. get p k) e ∙ get-insert keys_total m k v k ∙ ap (λ b. cond b (Some v) (get m k)) (itself k) in
     subst (λ (o : Option (Option Lease)). IsSome o) (sym now) refl
 
-pub place-out : (m n : Places) (k : Key) → n ≡ remove m k → (q : Key) → same_key q k ≡ false → IsSome (get m q) → IsSome (get n q)
-place-out m n k e q apart h =
-    let now : get n q ≡ get m q = ap (λ p. get p q) e ∙ get-remove keys_total m k q ∙ ap (λ b. cond b None (get m q)) apart in
-    subst (λ (o : Option (Option Lease)). IsSome o) (sym now) h
-
 pub others-put : (m n : Places) (k : Key) (v : Option Lease) → n ≡ insert m k v → (q : Key) → same_key q k ≡ false → get n q ≡ get m q
 others-put m n k v e q apart = ap (λ p. get p q) e ∙ get-insert keys_total m k v q ∙ ap (λ b. cond b (Some v) (get m q)) apart
 

@@ -42,10 +42,6 @@ pub record IsSame (old new : Leases) : Type 0 where
 abbrev pub KeepsPlaces : Leases → Leases → Type 0
 KeepsPlaces old new = (q : Key) → HasPlace old q → HasPlace new q
 
--- each place but that of the key stays
-abbrev pub KeepsOtherPlaces : Key → Leases → Leases → Type 0
-KeepsOtherPlaces k old new = (q : Key) → same_key q k ≡ false → HasPlace old q → HasPlace new q
-
 -- each place but that of the key is as it was
 abbrev pub KeepsOthers : Key → Leases → Leases → Type 0
 KeepsOthers k old new = (q : Key) → same_key q k ≡ false → get new.places q ≡ get old.places q

@@ -3,7 +3,7 @@ ghost use Rattle.std.specs.Prelude.{◌≡◌, ◌↔◌, ◌<◌, [], IfErr, If
 ghost use Rattle.disco_instance.specs.declared.fault.Fault.TheVariants.{NotFound, OutOfMemory};
 ghost use Rattle.std.specs.FinMap.{keys};
 ghost use Rattle.disco_lease.specs.Due.{due_at, lets_expire, taken};
-ghost use Rattle.disco_lease.specs.Leases.{HasPlace, IsFilled, IsSame, KeepsOtherPlaces, KeepsOthers, KeepsPlaces, Sets, counted, extended, lease_at, marked, no_leases};
+ghost use Rattle.disco_lease.specs.Leases.{HasPlace, IsFilled, IsSame, KeepsOthers, KeepsPlaces, Sets, counted, extended, lease_at, marked, no_leases};
 
 use crate::lease::Lease;
 use crate::minute::{Minute, most_taken};
@@ -67,7 +67,7 @@ impl LeaseBook {
     pub fn register(&mut self, key: &Key, duration_secs: u32, now: u64)
         requires { HasPlace self.old key.now }
         ensures leases { Sets key.now (Some (marked duration_secs now)) self.old self.new }
-        ensures places { KeepsPlaces self.old self.new }
+        ensures others { KeepsOthers key.now self.old self.new }
         ensures renewals { self.new.renewals ≡ self.old.renewals }
         ensures closed { self.new.closed ≡ self.old.closed }
     {
@@ -82,7 +82,7 @@ impl LeaseBook {
         ensures err { OnErr result (self.new ≡ self.old) }
 
         ensures leases { OnOk result (Sets key.now (option_map (extended now) (lease_at self.old key.now)) self.old self.new) }
-        ensures places { KeepsPlaces self.old self.new }
+        ensures others { KeepsOthers key.now self.old self.new }
         ensures renewals { OnOk result (self.new.renewals ≡ counted self.old.renewals) }
         ensures closed { self.new.closed ≡ self.old.closed }
     {
@@ -99,7 +99,7 @@ impl LeaseBook {
         ensures err { OnErr result (self.new ≡ self.old) }
 
         ensures leases { OnOk result (Sets key.now (option_map (extended now) (lease_at self.old key.now)) self.old self.new) }
-        ensures places { KeepsPlaces self.old self.new }
+        ensures others { KeepsOthers key.now self.old self.new }
         ensures renewals { self.new.renewals ≡ self.old.renewals }
         ensures closed { self.new.closed ≡ self.old.closed }
     {
@@ -119,7 +119,7 @@ impl LeaseBook {
 
         ensures leases { OnOk result (Sets key.now None self.old self.new) }
         ensures gone { OnOk result (HasPlace self.new key.now → ⊥) }
-        ensures places { KeepsOtherPlaces key.now self.old self.new }
+        ensures others { KeepsOthers key.now self.old self.new }
         ensures renewals { self.new.renewals ≡ self.old.renewals }
         ensures closed { self.new.closed ≡ self.old.closed }
     {

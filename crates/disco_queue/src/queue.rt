@@ -125,6 +125,7 @@ impl ChangedQueue {
         ensures kept { self.new.kept ≡ drop result self.old.kept }
         ensures version { version self.new ≡ version self.old }
         ensures room { HasRoom self.old → HasRoom self.new }
+        ensures grows { self.new.room ≡ self.old.room + result }
         ensures history { (h : List Timed) → Keeps self.old h → Keeps self.new h }
         ensures history_base { (h : List Timed) → Keeps self.old h → self.new.base ≡ base_after_cleaning now retention self.old.base h }
     {

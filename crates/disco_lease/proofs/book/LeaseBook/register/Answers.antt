@@ -2,7 +2,7 @@ use Rattle.std.proofs.Common.{Some, ap, ◌∙◌}
 use Rattle.std.specs.FinMap.{insert}
 use Rattle.disco_lease.specs.Leases.{marked, Lease}
 use Rattle.disco_lease.specs.Seen.{seen}
-use Rattle.disco_lease.proofs.Steps.{lease-put, place-put}
+use Rattle.disco_lease.proofs.Steps.{lease-put, others-put}
 use Rattle.disco_lease.proofs.book.LeaseBook.register.Goals as goal
 
 pub returns-clause-leases : goal.returns-clause-leases
@@ -10,5 +10,5 @@ returns-clause-leases c =
     rw (← c.self.view_is)
     (lease-put c.self.inside.places c.put.new.self c.args.key.now (marked c.args.duration_secs c.args.now) (c.put.ensures ∙ ap (λ (l : Lease). insert c.self.inside.places c.args.key.now (Some l)) c.marked.ensures))
 
-pub returns-clause-places : goal.returns-clause-places
-returns-clause-places c = rw (← c.self.view_is) (place-put c.self.inside.places c.put.new.self c.args.key.now (Some (seen c.marked.result)) c.put.ensures)
+pub returns-clause-others : goal.returns-clause-others
+returns-clause-others c = rw (← c.self.view_is) (others-put c.self.inside.places c.put.new.self c.args.key.now (Some (seen c.marked.result)) c.put.ensures)

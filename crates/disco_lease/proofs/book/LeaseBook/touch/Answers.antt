@@ -2,7 +2,7 @@ use Rattle.std.proofs.Common.{Some, option_map, sym, ap, ◌∙◌}
 use Rattle.std.specs.FinMap.{insert}
 use Rattle.disco_lease.specs.Leases.{Lease}
 use Rattle.disco_lease.specs.Seen.{seen}
-use Rattle.disco_lease.proofs.Steps.{lease-touch, place-put}
+use Rattle.disco_lease.proofs.Steps.{lease-touch, others-put}
 use Rattle.disco_lease.proofs.book.LeaseBook.touch.Goals as goal
 
 pub returns-clause-leases : goal.returns-clause-leases
@@ -12,5 +12,5 @@ returns-clause-leases c =
     (sym c.lease.ensures ∙ ap (option_map seen) c.in-Some.is)
     (c.put.ensures ∙ ap (λ (l : Lease). insert c.self.inside.places c.args.key.now (Some l)) c.extended.ensures))
 
-pub returns-clause-places : goal.returns-clause-places
-returns-clause-places c = rw (← c.self.view_is) (place-put c.self.inside.places c.put.new.self c.args.key.now (Some (seen c.extended.result)) c.put.ensures)
+pub returns-clause-others : goal.returns-clause-others
+returns-clause-others c = rw (← c.self.view_is) (others-put c.self.inside.places c.put.new.self c.args.key.now (Some (seen c.extended.result)) c.put.ensures)
