@@ -3,6 +3,8 @@
 #![tactic(auto)]
 
 #[cfg(test)]
+mod cache;
+#[cfg(test)]
 mod calls;
 #[cfg(test)]
 mod client;
