@@ -11,7 +11,7 @@ use Rattle.serde_json.specs.Written.{compact_text, items_text}
 use Rattle.serde_json.specs.View.{items_of}
 use Rattle.disco_instance.specs.declared.form.Form.{Form}
 use Rattle.disco_history.specs.Change.{Entry}
-use Rattle.disco_writer.specs.Joined.{text_in, Shown, AreTextsOf, IsTextOf, in_apps, in_commas, before_next, app_open, app_close, many_open, many_close, many_joined, app_joined, one_joined}
+use Rattle.disco_writer.specs.Joined.{text_in, shown, Shown, AreTextsOf, IsTextOf, in_apps, in_commas, before_next, app_open, app_close, many_open, many_close, many_joined, app_joined, one_joined}
 use Rattle.disco_wire.specs.Documents.{document_of}
 use Rattle.disco_wire.specs.Meaning.{meant}
 use Rattle.disco_wire.specs.declared.wire.Shape.TheVariants.{Many, App, One}
@@ -23,10 +23,6 @@ use Rattle.disco_writer.specs.Trees.{instance_tree, app_tree, by_app, with_first
 
 abbrev Groups : Type 0
 Groups = List (List ℕ × List Entry)
-
--- what is shown of instances
-abbrev pub shown : (form : Form) → List Entry → List Shown
-shown form es = map (λ e. (e.0.key.app, text_in form e)) es
 
 -- the texts that follow an instance of an app, with the application's end; its bracket is app_close's
 abbrev more : (form : Form) → List Entry → List ℕ

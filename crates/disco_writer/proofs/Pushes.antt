@@ -5,9 +5,8 @@ use Rattle.disco_instance.specs.declared.form.Form.{Form}
 use Rattle.disco_history.specs.Change.{Entry}
 use Rattle.disco_history.specs.Held.{entry_of}
 use Rattle.disco_history.specs.declared.held.Held.{Held}
-use Rattle.disco_writer.specs.Joined.{AreTextsOf, IsTextOf, Pushes, Shown, shown_by, shown_one, in_apps, in_commas, before_next, after_last}
+use Rattle.disco_writer.specs.Joined.{HaveTexts, IsTextOf, Pushes, shown, text_in, in_apps, in_commas, before_next, after_last}
 use Rattle.disco_writer.specs.Rows.{entries_of}
-use Rattle.disco_writer.specs.declared.join.Piece.{Piece}
 
 both : (o a b x y : List ℕ) → a ≡ o ++ x → b ≡ a ++ y → b ≡ o ++ (x ++ y)
 both o a b x y e f = f ∙ ap (λ (s : List ℕ). s ++ y) e ∙ append_assoc o x y
@@ -17,48 +16,46 @@ pub before : {E : Type 0} (r : Result (Unit {0}) E) {o a x : List ℕ} (b y : Li
 before (Ok u) {o = o} {a = a} {x = x} b y e f = record { items = both o a b x y e.items f.items }
 before (Err z) b y e f = tt
 
-piece_at : (ps : List Piece) (i : ℕ) (p : Piece) → i < length ps → p ≡ get_or ps i p → drop i ps ≡ p ∷ drop (i + 1) ps
-piece_at ps i p inside is = drop_more ps i p inside ∙ ap (λ x. x ∷ drop (i + 1) ps) (sym is)
+held_at : (hs : List Held) (i : ℕ) (h : Held) → i < length hs → h ≡ get_or hs i h → drop i hs ≡ h ∷ drop (i + 1) hs
+held_at hs i h inside is = drop_more hs i h inside ∙ ap (λ x. x ∷ drop (i + 1) hs) (sym is)
 
 -- what comes in front of a text, the text, and what is still to be pushed
 text_more : (old mid now front text rest all : List ℕ) → mid ≡ old ++ front → now ≡ mid ++ text → old ++ (front ++ (text ++ rest)) ≡ all → now ++ rest ≡ all
 text_more old mid now front text rest all e f so_far = ap (λ (s : List ℕ). s ++ rest) (both old mid now front text e f) ∙ append_assoc old (front ++ text) rest ∙ ap (λ (s : List ℕ). old ++ s) (append_assoc front text rest) ∙ so_far
 
-pub apps_more : (old mid now : List ℕ) (last : Option (List ℕ)) (ps : List Piece) (i : ℕ) (p : Piece) (all : List ℕ) → i < length ps → p ≡ get_or ps i p → mid ≡ old ++ before_next last p.app.now → now ≡ mid ++ p.text.items
-    → old ++ in_apps last (shown_by (drop i ps)) ≡ all → now ++ in_apps (Some p.app.now) (shown_by (drop (i + 1) ps)) ≡ all
-apps_more old mid now last ps i p all inside is e f so_far =
-    text_more old mid now (before_next last p.app.now) p.text.items (in_apps (Some p.app.now) (shown_by (drop (i + 1) ps))) all e f (ap (λ (qs : List Piece). old ++ in_apps last (shown_by qs)) (sym (piece_at ps i p inside is)) ∙ so_far)
+pub apps_more : (f : Form) (old mid now : List ℕ) (last : Option (List ℕ)) (hs : List Held) (i : ℕ) (h : Held) (app all : List ℕ) → i < length hs → h ≡ get_or hs i h → app ≡ (entry_of h).0.key.app
+    → mid ≡ old ++ before_next last app → now ≡ mid ++ text_in f (entry_of h)
+    → old ++ in_apps last (shown f (entries_of (drop i hs))) ≡ all → now ++ in_apps (Some app) (shown f (entries_of (drop (i + 1) hs))) ≡ all
+apps_more f old mid now last hs i h app all inside is named e g so_far =
+    text_more old mid now (before_next last app) (text_in f (entry_of h)) (in_apps (Some app) (shown f (entries_of (drop (i + 1) hs)))) all e g
+    (ap (λ (a : List ℕ). old ++ (before_next last a ++ (text_in f (entry_of h) ++ in_apps (Some a) (shown f (entries_of (drop (i + 1) hs)))))) named
+    ∙ ap (λ (xs : List Held). old ++ in_apps last (shown f (entries_of xs))) (sym (held_at hs i h inside is)) ∙ so_far)
 
-pub apps_end : (old : List ℕ) (last : Option (List ℕ)) (ps : List Piece) (i : ℕ) (all : List ℕ) → length ps ≤ i → old ++ in_apps last (shown_by (drop i ps)) ≡ all → old ++ after_last last ≡ all
-apps_end old last ps i all past so_far = ap (λ (qs : List Piece). old ++ in_apps last (shown_by qs)) (sym (drop_all i ps past)) ∙ so_far
+pub apps_end : (f : Form) (old : List ℕ) (last : Option (List ℕ)) (hs : List Held) (i : ℕ) (all : List ℕ) → length hs ≤ i → old ++ in_apps last (shown f (entries_of (drop i hs))) ≡ all → old ++ after_last last ≡ all
+apps_end f old last hs i all past so_far = ap (λ (xs : List Held). old ++ in_apps last (shown f (entries_of xs))) (sym (drop_all i hs past)) ∙ so_far
 
-pub list_more : (old mid now : List ℕ) (later : Bool) (ps : List Piece) (i : ℕ) (p : Piece) (all : List ℕ) → i < length ps → p ≡ get_or ps i p → mid ≡ old ++ cond later (codes ",") [] → now ≡ mid ++ p.text.items
-    → old ++ in_commas later (shown_by (drop i ps)) ≡ all → now ++ in_commas true (shown_by (drop (i + 1) ps)) ≡ all
-list_more old mid now later ps i p all inside is e f so_far =
-    text_more old mid now (cond later (codes ",") []) p.text.items (in_commas true (shown_by (drop (i + 1) ps))) all e f (ap (λ (qs : List Piece). old ++ in_commas later (shown_by qs)) (sym (piece_at ps i p inside is)) ∙ so_far)
+pub list_more : (f : Form) (old mid now : List ℕ) (later : Bool) (hs : List Held) (i : ℕ) (h : Held) (all : List ℕ) → i < length hs → h ≡ get_or hs i h → mid ≡ old ++ cond later (codes ",") [] → now ≡ mid ++ text_in f (entry_of h)
+    → old ++ in_commas later (shown f (entries_of (drop i hs))) ≡ all → now ++ in_commas true (shown f (entries_of (drop (i + 1) hs))) ≡ all
+list_more f old mid now later hs i h all inside is e g so_far =
+    text_more old mid now (cond later (codes ",") []) (text_in f (entry_of h)) (in_commas true (shown f (entries_of (drop (i + 1) hs)))) all e g
+    (ap (λ (xs : List Held). old ++ in_commas later (shown f (entries_of xs))) (sym (held_at hs i h inside is)) ∙ so_far)
 
-pub list_end : (old : List ℕ) (later : Bool) (ps : List Piece) (i : ℕ) (all : List ℕ) → length ps ≤ i → old ++ in_commas later (shown_by (drop i ps)) ≡ all → old ≡ all
-list_end old later ps i all past so_far = sym (append-nil old) ∙ ap (λ (qs : List Piece). old ++ in_commas later (shown_by qs)) (sym (drop_all i ps past)) ∙ so_far
+pub list_end : (f : Form) (old : List ℕ) (later : Bool) (hs : List Held) (i : ℕ) (all : List ℕ) → length hs ≤ i → old ++ in_commas later (shown f (entries_of (drop i hs))) ≡ all → old ≡ all
+list_end f old later hs i all past so_far = sym (append-nil old) ∙ ap (λ (xs : List Held). old ++ in_commas later (shown f (entries_of xs))) (sym (drop_all i hs past)) ∙ so_far
 
--- ---- the pieces of instances
+-- ---- what is known of the texts
 
-shown_append : (ps qs : List Piece) (rest : List Shown) → shown_by (ps ++ qs) ++ rest ≡ shown_by ps ++ (shown_by qs ++ rest)
-shown_append [] qs rest = refl
-shown_append (p ∷ ps) qs rest = ap (λ r. shown_one p ∷ r) (shown_append ps qs rest)
+-- the text that was written is the one of its instance, with what is known of it
+pub text_known : (f : Form) (text : List ℕ) (e : Entry) → IsTextOf f text e → IsTextOf f (text_in f e) e
+text_known f text e is = subst (λ (s : List ℕ). IsTextOf f s e) is.all is
 
-held_at : (hs : List Held) (i : ℕ) (h : Held) → i < length hs → h ≡ get_or hs i h → drop i hs ≡ h ∷ drop (i + 1) hs
-held_at hs i h inside is = drop_more hs i h inside ∙ ap (λ x. x ∷ drop (i + 1) hs) (sym is)
+-- where the texts that are to come are known, all are
+abbrev pub AreSoFar : Form → List Entry → List Entry → Type 0
+AreSoFar f rest all = HaveTexts f rest → HaveTexts f all
 
--- whatever the texts of the other instances are, the pieces so far and these are those of all
-abbrev pub AreSoFar : Form → List Shown → List Entry → List Entry → Type 0
-AreSoFar f done rest all = (qs : List Shown) → AreTextsOf f qs rest → AreTextsOf f (done ++ qs) all
+pub texts_more : (f : Form) (hs : List Held) (i : ℕ) (h : Held) (all : List Entry) → i < length hs → h ≡ get_or hs i h → IsTextOf f (text_in f (entry_of h)) (entry_of h)
+    → AreSoFar f (entries_of (drop i hs)) all → AreSoFar f (entries_of (drop (i + 1) hs)) all
+texts_more f hs i h all inside is text so_far rest = so_far (subst (λ (xs : List Held). HaveTexts f (entries_of xs)) (sym (held_at hs i h inside is)) (refl, text, rest))
 
-pub pieces_more : (f : Form) (ps : List Piece) (p : Piece) (hs : List Held) (i : ℕ) (h : Held) (all : List Entry) → i < length hs → h ≡ get_or hs i h → (p.app.now ≡ (entry_of h).0.key.app) × IsTextOf f p.text.items (entry_of h)
-    → AreSoFar f (shown_by ps) (entries_of (drop i hs)) all → AreSoFar f (shown_by (ps ++ p ∷ [])) (entries_of (drop (i + 1) hs)) all
-pieces_more f ps p hs i h all inside is piece so_far qs rest =
-    subst (λ (s : List Shown). AreTextsOf f s all) (sym (shown_append ps (p ∷ []) qs))
-    (so_far (shown_one p ∷ qs) (subst (λ (xs : List Held). AreTextsOf f (shown_one p ∷ qs) (entries_of xs)) (sym (held_at hs i h inside is)) (piece.0, piece.1, rest)))
-
-pub pieces_end : (f : Form) (ps : List Piece) (hs : List Held) (i : ℕ) (all : List Entry) → length hs ≤ i → AreSoFar f (shown_by ps) (entries_of (drop i hs)) all → AreTextsOf f (shown_by ps) all
-pieces_end f ps hs i all past so_far =
-    subst (λ (s : List Shown). AreTextsOf f s all) (append-nil (shown_by ps)) (so_far [] (subst (λ (xs : List Held). AreTextsOf f [] (entries_of xs)) (sym (drop_all i hs past)) tt))
+pub texts_end : (f : Form) (hs : List Held) (i : ℕ) (all : List Entry) → length hs ≤ i → AreSoFar f (entries_of (drop i hs)) all → HaveTexts f all
+texts_end f hs i all past so_far = so_far (subst (λ (xs : List Held). HaveTexts f (entries_of xs)) (sym (drop_all i hs past)) tt)

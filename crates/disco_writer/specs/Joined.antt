@@ -6,7 +6,6 @@ use Rattle.serde_json.specs.Written.{compact_text}
 use Rattle.disco_instance.specs.Row.{IsWellFormed}
 use Rattle.disco_instance.specs.declared.form.Form.{Form}
 use Rattle.disco_history.specs.Change.{Entry}
-use Rattle.disco_writer.specs.declared.join.Piece.{Piece}
 use Rattle.disco_writer.specs.Trees.{instance_tree}
 
 -- the text of an instance in a form
@@ -24,11 +23,9 @@ pub record IsTextOf (f : Form) (text : List ℕ) (e : Entry) : Type 0 where
 abbrev pub Shown : Type 0
 Shown = List ℕ × List ℕ
 
-abbrev pub shown_one : Piece → Shown
-shown_one p = (p.app.now, p.text.items)
-
-abbrev pub shown_by : List Piece → List Shown
-shown_by ps = map shown_one ps
+-- what is shown of instances
+abbrev pub shown : Form → List Entry → List Shown
+shown f es = map (λ e. (e.0.key.app, text_in f e)) es
 
 -- these are the apps and the texts of these instances
 abbrev pub AreTextsOf : Form → List Shown → List Entry → Type 0
@@ -36,6 +33,10 @@ AreTextsOf f [] [] = ⊤
 AreTextsOf f [] (e ∷ es) = ⊥
 AreTextsOf f (p ∷ ps) [] = ⊥
 AreTextsOf f (p ∷ ps) (e ∷ es) = (p.0 ≡ e.0.key.app) × IsTextOf f p.1 e × AreTextsOf f ps es
+
+-- what a document needs to know of the texts of these instances
+abbrev pub HaveTexts : Form → List Entry → Type 0
+HaveTexts f es = AreTextsOf f (shown f es) es
 
 -- ---- what stands round the texts
 

@@ -15,10 +15,15 @@ use crate::members::{
 };
 use disco_instance::{Action, Form, Record, well_formed};
 use json::Writer;
-use std::alloc::{AllocError, Global};
+use std::alloc::AllocError;
 
-/// How many bytes are asked for at first: most instances have fewer.
-const USUAL: usize = 1024;
+/// How many bytes are asked for an instance at first: most have fewer.
+pub(crate) fn usual(form: Form) -> usize {
+    match form {
+        Form::Full => 1024,
+        Form::Compact => 512,
+    }
+}
 
 // Groups of members that stand next to each other in both forms.
 
@@ -141,9 +146,9 @@ fn put_instance(
     }
 }
 
-/// The text of an instance in a form, as compact JSON.
+/// The text of an instance in a form, as compact JSON. It takes the place of what `room` holds.
 pub(crate) fn instance_text(
-    alloc: Global,
+    mut room: Vec<u8>,
     form: Form,
     rec: &Record,
     action: Action,
@@ -152,7 +157,8 @@ pub(crate) fn instance_text(
 {
     well_formed(rec);
     let _app = rec.key.app.as_str();
-    let mut out = Writer::new(Vec::with_capacity(alloc, USUAL)?);
+    room.clear();
+    let mut out = Writer::new(room);
     put_instance(&mut out, form, rec, action)?;
     Ok(out.into_inner())
 }

@@ -4,25 +4,21 @@ ghost use Rattle.json.specs.Print.{quoted};
 ghost use Rattle.serde_json.specs.Written.{compact_text};
 ghost use Rattle.disco_instance.specs.declared.form.Form.{Form};
 ghost use Rattle.disco_history.specs.Change.{Entry};
+ghost use Rattle.disco_history.specs.Held.{entry_of};
 ghost use Rattle.disco_wire.specs.Documents.{document_of};
 ghost use Rattle.disco_wire.specs.Meaning.{meant};
 ghost use Rattle.disco_wire.specs.declared.wire.Shape.TheVariants.{Many, App, One};
-ghost use Rattle.disco_writer.specs.Joined.{AreTextsOf, IsTextOf, Pushes, after_last, app_close, app_joined, app_open, before_next, in_apps, in_commas, many_close, many_joined, many_open, one_joined, shown_by};
-ghost use Rattle.disco_writer.specs.Rows.{mentions_in};
+ghost use Rattle.disco_writer.specs.Joined.{AreTextsOf, HaveTexts, IsTextOf, text_in, Pushes, after_last, app_close, app_joined, app_open, before_next, in_apps, in_commas, many_close, many_joined, many_open, one_joined, shown};
+ghost use Rattle.disco_writer.specs.Rows.{entries_of, mentions_in};
 ghost use Rattle.disco_writer.specs.Trees.{app_document, document_tree, instance_document};
 
-use disco_instance::Text;
+use crate::instance::{instance_text, usual};
+use disco_history::Held;
+use disco_instance::{Form, Text};
 use json::Writer;
 use std::alloc::{AllocError, Global};
 
-/// An instance's app and its text.
-#[derive(Drop)]
-pub(crate) struct Piece<'t> {
-    pub(crate) app: &'t Text,
-    pub(crate) text: Vec<u8>,
-}
-
-/// Room for what stands round the texts of an app, beside its name.
+/// Room for what stands round the texts of a document.
 const ROUND: usize = 64;
 
 fn push(out: &mut Vec<u8>, text: &[u8]) -> Result<(), AllocError>
@@ -112,27 +108,60 @@ fn push_after(alloc: Global, out: &mut Vec<u8>, last: Option<&Text>) -> Result<(
     }
 }
 
-/// Applications of these instances, neighbours of one app together.
-fn push_apps(alloc: Global, out: &mut Vec<u8>, pieces: &[Piece<'_>]) -> Result<(), AllocError>
-    ensures { OnOk result (Pushes out.old.items out.new.items (in_apps None (shown_by pieces.now))) }
+fn app_of(held: &Held) -> &Text
+    ensures { result.now ≡ (entry_of held.now).0.key.app }
 {
+    &held.rec.key.app
+}
+
+/// The text of an instance in a form, in the place of what `room` holds.
+pub(crate) fn held_text(room: Vec<u8>, form: Form, held: &Held) -> Result<Vec<u8>, AllocError>
+    ensures { IfOk result (λ v. IsTextOf form v.items (entry_of held.now)) }
+{
+    instance_text(room, form, &held.rec, held.action)
+}
+
+/// Pushes the text of an instance. It is made in `room`, which is given back for the next one.
+fn push_text(
+    out: &mut Vec<u8>,
+    room: Vec<u8>,
+    form: Form,
+    held: &Held,
+) -> Result<Vec<u8>, AllocError>
+    ensures pushed { IfOk result (λ _. Pushes out.old.items out.new.items (text_in form (entry_of held.now))) }
+    ensures text { IfOk result (λ _. IsTextOf form (text_in form (entry_of held.now)) (entry_of held.now)) }
+{
+    let text = held_text(room, form, held)?;
+    push(out, text.as_slice())?;
+    Ok(text)
+}
+
+/// Applications of these instances, neighbours of one app together.
+fn push_apps(alloc: Global, out: &mut Vec<u8>, form: Form, held: &[Held]) -> Result<(), AllocError>
+    ensures pushed { OnOk result (Pushes out.old.items out.new.items (in_apps None (shown form (entries_of held.now)))) }
+    ensures texts { OnOk result (HaveTexts form (entries_of held.now)) }
+{
+    let mut room = Vec::with_capacity(alloc, usual(form))?;
     let mut last: Option<&Text> = None;
-    for piece in pieces {
-        push_before(alloc, out, last, piece.app)?;
-        push(out, piece.text.as_slice())?;
-        last = Some(piece.app);
+    for one in held {
+        let app = app_of(one);
+        push_before(alloc, out, last, app)?;
+        room = push_text(out, room, form, one)?;
+        last = Some(app);
     }
     push_after(alloc, out, last)
 }
 
 /// The texts of these instances with commas between them.
-fn push_list(out: &mut Vec<u8>, pieces: &[Piece<'_>]) -> Result<(), AllocError>
-    ensures { OnOk result (Pushes out.old.items out.new.items (in_commas false (shown_by pieces.now))) }
+fn push_list(alloc: Global, out: &mut Vec<u8>, form: Form, held: &[Held]) -> Result<(), AllocError>
+    ensures pushed { OnOk result (Pushes out.old.items out.new.items (in_commas false (shown form (entries_of held.now)))) }
+    ensures texts { OnOk result (HaveTexts form (entries_of held.now)) }
 {
+    let mut room = Vec::with_capacity(alloc, usual(form))?;
     let mut later = false;
-    for piece in pieces {
+    for one in held {
         push_str(out, if later { "," } else { "" })?;
-        push(out, piece.text.as_slice())?;
+        room = push_text(out, room, form, one)?;
         later = true;
     }
     Ok(())
@@ -153,36 +182,10 @@ fn push_many_close(
     push_str(out, "}}")
 }
 
-/// How many bytes these texts need, with a comma each.
-fn room_of_texts(pieces: &[Piece<'_>]) -> usize {
-    let mut bytes = 0usize;
-    for piece in pieces {
-        bytes = bytes.saturating_add(piece.text.len()).saturating_add(1);
-    }
-    bytes
-}
-
-/// How many bytes the names of their apps need at most, with what stands round each. An escaped byte
-/// takes up to 6.
-fn room_of_names(pieces: &[Piece<'_>]) -> usize {
-    let mut bytes = 0usize;
-    let mut last: Option<&Text> = None;
-    for piece in pieces {
-        if last != Some(piece.app) {
-            let name = piece.app.as_str().len().saturating_mul(6);
-            bytes = bytes.saturating_add(name).saturating_add(ROUND);
-        }
-        last = Some(piece.app);
-    }
-    bytes
-}
-
-/// How many bytes a document of these texts needs at most, so that it is asked for once. Nothing
-/// rests on it: a document that needed more would ask again.
-fn room(pieces: &[Piece<'_>]) -> usize {
-    room_of_texts(pieces)
-        .saturating_add(room_of_names(pieces))
-        .saturating_add(4 * ROUND)
+/// How many bytes are asked for a document of these instances at first: most need fewer. Nothing
+/// rests on it: a document that needs more asks again.
+pub(crate) fn room(form: Form, held: &[Held]) -> usize {
+    held.len().saturating_mul(usual(form)).saturating_add(ROUND)
 }
 
 #[tactic(auto, unfolding(crate::specs::Joined::many_open))]
@@ -192,31 +195,35 @@ fn push_many_open(out: &mut Vec<u8>) -> Result<(), AllocError>
     push_str(out, "{\"applications\":{\"application\":[")
 }
 
-fn push_many(
+pub(crate) fn push_many(
     alloc: Global,
     out: &mut Vec<u8>,
-    pieces: &[Piece<'_>],
+    form: Form,
+    held: &[Held],
     hash: &Text,
     version: u64,
 ) -> Result<(), AllocError>
-    ensures { OnOk result (Pushes out.old.items out.new.items (many_joined (shown_by pieces.now) hash.now version)) }
+    ensures pushed { OnOk result (Pushes out.old.items out.new.items (many_joined (shown form (entries_of held.now)) hash.now version)) }
+    ensures texts { OnOk result (HaveTexts form (entries_of held.now)) }
 {
     push_many_open(out)?;
-    push_apps(alloc, out, pieces)?;
+    push_apps(alloc, out, form, held)?;
     push_many_close(alloc, out, hash, version)
 }
 
-fn push_app(
+pub(crate) fn push_app(
     alloc: Global,
     out: &mut Vec<u8>,
+    form: Form,
     name: &Text,
-    pieces: &[Piece<'_>],
+    held: &[Held],
 ) -> Result<(), AllocError>
-    ensures { OnOk result (Pushes out.old.items out.new.items (app_joined name.now (shown_by pieces.now))) }
+    ensures pushed { OnOk result (Pushes out.old.items out.new.items (app_joined name.now (shown form (entries_of held.now)))) }
+    ensures texts { OnOk result (HaveTexts form (entries_of held.now)) }
 {
     push_str(out, "{\"application\":")?;
     push_open(out)?;
-    push_list(out, pieces)?;
+    push_list(alloc, out, form, held)?;
     push_close(alloc, out, name)?;
     push_str(out, "}")
 }
@@ -227,37 +234,6 @@ fn push_one(out: &mut Vec<u8>, text: &[u8]) -> Result<(), AllocError>
     push_str(out, "{\"instance\":")?;
     push(out, text)?;
     push_str(out, "}")
-}
-
-/// The document of these instances.
-pub(crate) fn join_many(
-    alloc: Global,
-    pieces: &[Piece<'_>],
-    hash: &Text,
-    version: u64,
-) -> Result<Vec<u8>, AllocError>
-    ensures text { IfOk result (λ v. (f : Form) (es : List Entry) → AreTextsOf f (shown_by pieces.now) es → v.items ≡ compact_text (document_tree f es hash.now version)) }
-    ensures means { IfOk result (λ v. (f : Form) (es : List Entry) → AreTextsOf f (shown_by pieces.now) es → document_of v.items ≡ Ok (meant Many (Some hash.now) (Some version) (mentions_in f es))) }
-{
-    let _hash = hash.as_str();
-    let mut out = Vec::with_capacity(alloc, room(pieces))?;
-    push_many(alloc, &mut out, pieces, hash, version)?;
-    Ok(out)
-}
-
-/// The document of an app with these instances.
-pub(crate) fn join_app(
-    alloc: Global,
-    name: &Text,
-    pieces: &[Piece<'_>],
-) -> Result<Vec<u8>, AllocError>
-    ensures text { IfOk result (λ v. (f : Form) (es : List Entry) → AreTextsOf f (shown_by pieces.now) es → v.items ≡ compact_text (app_document f name.now es)) }
-    ensures means { IfOk result (λ v. (f : Form) (es : List Entry) → AreTextsOf f (shown_by pieces.now) es → document_of v.items ≡ Ok (meant App None None (mentions_in f es))) }
-{
-    let _name = name.as_str();
-    let mut out = Vec::with_capacity(alloc, room(pieces))?;
-    push_app(alloc, &mut out, name, pieces)?;
-    Ok(out)
 }
 
 /// The document of the instance of this text.
