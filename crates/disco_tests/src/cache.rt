@@ -11,7 +11,10 @@ use std::sync::Arc;
 use std::test::Fail;
 
 fn record(alloc: Global) -> Result<Record, Fault> {
-    read_registration(alloc, br#"{"instance":{"instanceId":"1","hostName":"h","app":"A","ipAddr":"10.0.0.1","vipAddress":"a,b","dataCenterInfo":{"name":"MyOwn"}}}"#)
+    read_registration(
+        alloc,
+        br#"{"instance":{"instanceId":"1","hostName":"h","app":"A","ipAddr":"10.0.0.1","vipAddress":"a,b","dataCenterInfo":{"name":"MyOwn"}}}"#,
+    )
 }
 
 fn vip(alloc: Global, name: &str, form: Form) -> Result<DocKey, Fault> {
