@@ -36,7 +36,7 @@ use Rattle.disco_core.specs.Past.{Past, history, nothing, with_done}
 use Rattle.disco_core.specs.Refusals.{refusal_of}
 use Rattle.disco_core.specs.State as core
 use Rattle.disco_hub.specs.Kept.{Forgets, KeepsAtMost}
-use Rattle.disco_hub.specs.State.{AreKept, MayServe, is_kept}
+use Rattle.disco_hub.specs.State.{AreKept, MayServe, is_cached}
 
 -- ---- a change that doesn't name a document
 
@@ -93,7 +93,7 @@ always : (a : Bool) → (a || true) ≡ false → ⊥
 always true e = absurd (cc)
 always false e = absurd (cc)
 
-stays_true : (q : Query) (text : List ℕ) (base version : ℕ) (f : Form) (h : List Entry) (c : Entry) → is_named (get (reg h) (key_of c)) (Some c.0) (asked_by q) ≡ false → is_kept q ≡ true
+stays_true : (q : Query) (text : List ℕ) (base version : ℕ) (f : Form) (h : List Entry) (c : Entry) → is_named (get (reg h) (key_of c)) (Some c.0) (asked_by q) ≡ false → is_cached q ≡ true
     → IsTrueFor q text base version f h → IsTrueFor q text base version f (h ++ c ∷ [])
 stays_true query.Apps text base version f h c unnamed kept t = absurd (always _ unnamed)
 stays_true query.Delta text base version f h c unnamed kept t = absurd (always _ unnamed)
@@ -140,7 +140,7 @@ module _ (s : registry.State) (p q : Past) (stands : registry.StandsFor s (histo
     served_on =
         let may = kept.served k d before.1 in
         let key = kept.keys k d before.1 in record {
-          true_now = subst (λ h. IsTrue d h) (sym same) (stays_true d.key.query d.text d.base d.version d.key.form (history p) c unnamed (ap (λ (x : DocKey). is_kept x.query) key.0 ∙ key.1) may.true_now);
+          true_now = subst (λ h. IsTrue d h) (sym same) (stays_true d.key.query d.text d.base d.version d.key.form (history p) c unnamed (ap (λ (x : DocKey). is_cached x.query) key.0 ∙ key.1) may.true_now);
           start = λ of_delta. omega (arith, may.start of_delta, le);
         }
 
@@ -160,11 +160,11 @@ equal Less e = absurd (cc)
 equal Equal e = refl
 equal Greater e = absurd (cc)
 
-one_of : (d e : Payload) (k : DocKey) (old : FinMap doc_cmp Payload) (b : Bool) → same_doc k d.key ≡ b → is_kept d.key.query ≡ true → cond b (Some d) (get old k) ≡ Some e
-    → (get old k ≡ Some e) ⊎ ((e ≡ d) × (d.key ≡ k) × (is_kept k.query ≡ true))
+one_of : (d e : Payload) (k : DocKey) (old : FinMap doc_cmp Payload) (b : Bool) → same_doc k d.key ≡ b → is_cached d.key.query ≡ true → cond b (Some d) (get old k) ≡ Some e
+    → (get old k ≡ Some e) ⊎ ((e ≡ d) × (d.key ≡ k) × (is_cached k.query ≡ true))
 one_of d e k old true same kept is =
     let key : k ≡ d.key = exact_docs k d.key (equal _ same) in
-    inr (sym (same_Some d e is), sym key, ap (λ (x : DocKey). is_kept x.query) key ∙ kept)
+    inr (sym (same_Some d e is), sym key, ap (λ (x : DocKey). is_cached x.query) key ∙ kept)
 one_of d e k old false same kept is = inl is
 
 pub unchanged : (d : Payload) (old new : Docs) → new ≡ old → KeepsAtMost d old new
@@ -173,7 +173,7 @@ unchanged d old new same k e is = inl (ap (λ (v : Docs). get v.docs k) (sym sam
 same_docs : (d : Payload) (old new : Docs) → new.docs ≡ old.docs → KeepsAtMost d old new
 same_docs d old new same k e is = inl (ap (λ (m : FinMap doc_cmp Payload). get m k) (sym same) ∙ is)
 
-pub kept_at_most : (d : Payload) (old new : Docs) (r : Result Bool Fault) → is_kept d.key.query ≡ true → IfOk r (λ kept. new.docs ≡ cond kept (insert old.docs d.key d) old.docs) → OnErr r (new ≡ old) → KeepsAtMost d old new
+pub kept_at_most : (d : Payload) (old new : Docs) (r : Result Bool Fault) → is_cached d.key.query ≡ true → IfOk r (λ kept. new.docs ≡ cond kept (insert old.docs d.key d) old.docs) → OnErr r (new ≡ old) → KeepsAtMost d old new
 kept_at_most d old new (Ok true) kept is none k e there =
     one_of d e k old.docs (same_doc k d.key) refl kept (sym (ap (λ (m : FinMap doc_cmp Payload). get m k) is ∙ get-insert docs_total old.docs d.key d k) ∙ there)
 kept_at_most d old new (Ok false) kept is none k e there = same_docs d old new is k e there

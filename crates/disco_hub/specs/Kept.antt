@@ -9,7 +9,7 @@ use Rattle.disco_writer.specs.Documents.{asked_by}
 use Rattle.disco_cache.specs.Docs.{Docs, Drops}
 use Rattle.disco_cache.specs.declared.key.DocKey.{DocKey}
 use Rattle.disco_cache.specs.declared.payload.Payload.{Payload}
-use Rattle.disco_hub.specs.State.{is_kept}
+use Rattle.disco_hub.specs.State.{is_cached}
 
 -- the documents that a change names, if there is one, are dropped: by the held record of its key, and by its own, which names what went as it was held
 abbrev pub Forgets : FinMap key_cmp Entry → Option Entry → Docs → Docs → Type 0
@@ -18,4 +18,4 @@ Forgets held (Some c) old new = Drops (λ k. is_named (record_at held (key_of c)
 
 -- each document was kept before, or is that one, which is of no instance
 abbrev pub KeepsAtMost : Payload → Docs → Docs → Type 0
-KeepsAtMost d old new = (k : DocKey) (e : Payload) → get new.docs k ≡ Some e → (get old.docs k ≡ Some e) ⊎ ((e ≡ d) × (d.key ≡ k) × (is_kept k.query ≡ true))
+KeepsAtMost d old new = (k : DocKey) (e : Payload) → get new.docs k ≡ Some e → (get old.docs k ≡ Some e) ⊎ ((e ≡ d) × (d.key ≡ k) × (is_cached k.query ≡ true))

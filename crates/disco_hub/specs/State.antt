@@ -24,14 +24,14 @@ pub record MayServe (d : Payload) (p : Past) : Type 0 where
   pub true_now : IsTrue d (history p)
   pub start : is_delta d.key.query ≡ true → d.base ≤ p.base
 
--- documents of instances are kept nowhere
-abbrev pub is_kept : Query → Bool
-is_kept (query.Instance key) = false
-is_kept _ = true
+-- documents of single instances are cached nowhere
+abbrev pub is_cached : Query → Bool
+is_cached (query.Instance key) = false
+is_cached _ = true
 
 -- each kept document is of its key, which is of no instance, and may be served
 pub record AreKept (docs : FinMap doc_cmp Payload) (p : Past) : Type 0 where
-  pub keys : (k : DocKey) (d : Payload) → get docs k ≡ Some d → (d.key ≡ k) × (is_kept k.query ≡ true)
+  pub keys : (k : DocKey) (d : Payload) → get docs k ≡ Some d → (d.key ≡ k) × (is_cached k.query ≡ true)
   pub served : (k : DocKey) (d : Payload) → get docs k ≡ Some d → MayServe d p
 
 -- it holds what is left of what happened, and each document that it keeps may be served now

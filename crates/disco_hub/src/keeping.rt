@@ -4,7 +4,7 @@ ghost use Rattle.disco_instance.specs.Row.{row};
 ghost use Rattle.disco_history.specs.Change.{seen};
 ghost use Rattle.disco_core.specs.State.{change_in};
 ghost use Rattle.disco_hub.specs.Kept.{Forgets, KeepsAtMost};
-ghost use Rattle.disco_hub.specs.State.{is_kept};
+ghost use Rattle.disco_hub.specs.State.{is_cached};
 
 use disco_cache::{DocCache, Payload};
 use disco_core::{Core, Ready};
@@ -35,7 +35,7 @@ pub(crate) fn forget(cache: &mut DocCache, core: &Core, ready: &Ready)
 
 /// Whether documents of a query are kept.
 fn keeps(query: &Query) -> bool
-    ensures { result ≡ is_kept query.now }
+    ensures { result ≡ is_cached query.now }
 {
     !matches!(query, Query::Instance(_))
 }
