@@ -46,6 +46,7 @@ fn keeps_documents_by_key_until_a_change_names_them(rt: HostRuntime) -> Result<(
     let keys = cache.keys(alloc)?;
     assert_eq!(rt; keys.len(), 2);
     assert!(rt; *keys[0] == vip(alloc, "a", Form::Compact)?);
+    drop(keys);
     cache.invalidate(None, Some(&record(alloc)?));
     assert!(rt; cache.get(&vip(alloc, "a", Form::Compact)?).is_none());
     assert!(rt; cache.get(&vip(alloc, "c", Form::Full)?).is_some());
