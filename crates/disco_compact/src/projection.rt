@@ -1,6 +1,6 @@
 //! The compact form of a record.
 ghost use Rattle.std.specs.Prelude.{◌≡◌, IfErr, IfOk};
-ghost use Rattle.disco_instance.specs.Row.{numbers, row};
+ghost use Rattle.disco_instance.specs.Row.{row};
 ghost use Rattle.disco_instance.specs.declared.fault.Fault.TheVariants.{OutOfMemory};
 ghost use Rattle.disco_instance.specs.declared.form.Form.TheVariants.{Compact};
 ghost use Rattle.disco_history.specs.Forms.{default_lease, formed};
@@ -10,7 +10,7 @@ use std::alloc::Global;
 
 /// The lease of an instance that says nothing of it.
 fn default_lease() -> Lease
-    ensures { numbers result ≡ default_lease }
+    ensures { result ≡ default_lease }
 {
     Lease {
         duration_secs: 90,

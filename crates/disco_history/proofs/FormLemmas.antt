@@ -1,8 +1,9 @@
 -- The form goes through copies, overlays, restrictions and hash codes.
-use Rattle.std.proofs.Common.{◌≡◌, ℕ, ◌+◌, ◌==◌, Bool, true, false, cond, List, [], ◌∷◌, map, Option, Some, None, fold, option_map, option_and_then, refl, sym, ap, ◌∙◌}
+use Rattle.std.proofs.Common.{◌≡◌, ℕ, ◌+◌, Bool, true, false, cond, List, [], ◌∷◌, map, Option, Some, None, fold, option_map, option_and_then, refl, sym, ap, ◌∙◌}
 use Rattle.std.specs.FinMap.{FinMap, get, keys, same_map}
 use Rattle.disco_instance.specs.Key.{key_cmp}
 use Rattle.disco_instance.specs.Row.{Row}
+use Rattle.disco_instance.specs.Status.{is_same}
 use Rattle.disco_instance.specs.declared.action.Action.{Action}
 use Rattle.disco_instance.specs.declared.action.Action.TheVariants.{Added, Modified, Deleted}
 use Rattle.disco_instance.specs.declared.form.Form.{Form}
@@ -11,7 +12,7 @@ use Rattle.disco_instance.specs.declared.key.Key.{Key}
 use Rattle.disco_instance.specs.declared.status.Status.{Status}
 use Rattle.disco_history.specs.Change.{Entry, key_of, last}
 use Rattle.disco_history.specs.Forms.{formed, in_form, mention_in}
-use Rattle.disco_history.specs.Hash.{count_of, hash, hash_by, place_of}
+use Rattle.disco_history.specs.Hash.{count_of, hash, hash_by}
 use Rattle.disco_history.specs.Laws.{FormLaw}
 use Rattle.disco_history.specs.Mentions.{Mention, copied, known, overlaid_by, overlay}
 use Rattle.disco_history.specs.Query.{Asked, all, of_app, of_vip, of_secure_vip, of_key, asks_for, restrict}
@@ -120,12 +121,12 @@ status_formed Compact r = refl
 
 -- the number so far and one more where the status is the record's
 abbrev counted : Status → ℕ → Row → ℕ
-counted status n r = n + cond (place_of r.status == place_of status) 1 0
+counted status n r = n + cond (is_same r.status status) 1 0
 
 count_from : (f : Form) (rows : List Row) (status : Status) (n : ℕ) → fold (counted status) n (map (formed f) rows) ≡ fold (counted status) n rows
 count_from f [] status n = refl
 count_from f (r ∷ rows) status n =
-    count_from f rows status (counted status n (formed f r)) ∙ ap (λ (t : Status). fold (counted status) (n + cond (place_of t == place_of status) 1 0) rows) (status_formed f r)
+    count_from f rows status (counted status n (formed f r)) ∙ ap (λ (t : Status). fold (counted status) (n + cond (is_same t status) 1 0) rows) (status_formed f r)
 
 count_formed : (f : Form) (rows : List Row) (status : Status) → count_of (map (formed f) rows) status ≡ count_of rows status
 count_formed f rows status = count_from f rows status 0

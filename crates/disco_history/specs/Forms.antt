@@ -2,14 +2,15 @@
 use Rattle.std.specs.Prelude.{false, [], option_map}
 use Rattle.std.specs.FinMap.{FinMap, get, keys}
 use Rattle.disco_instance.specs.Key.{key_cmp}
-use Rattle.disco_instance.specs.Row.{LeaseNumbers, Row}
+use Rattle.disco_instance.specs.Row.{Row}
 use Rattle.disco_instance.specs.declared.form.Form.{Form}
 use Rattle.disco_instance.specs.declared.form.Form.TheVariants.{Full, Compact}
+use Rattle.disco_instance.specs.declared.lease.Lease.{Lease}
 use Rattle.disco_history.specs.Chosen.{chosen}
 use Rattle.disco_history.specs.Mentions.{Mention}
 
 -- the lease of an instance that says nothing of it
-abbrev pub default_lease : LeaseNumbers
+abbrev pub default_lease : Lease
 default_lease = record { duration_secs = 90; renewal_interval_secs = 30; eviction = 0; last_renewal = 0; registration = 0; service_up = 0 }
 
 -- the compact form leaves out members, which are then read as their defaults

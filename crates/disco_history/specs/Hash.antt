@@ -2,14 +2,13 @@
 use Rattle.std.specs.Prelude.{ℕ, ◌+◌, ◌==◌, List, [], ◌∷◌, ◌++◌, map, count_by, if◌then◌else◌}
 use Rattle.std.specs.Int.Digits.{digits_of}
 use Rattle.disco_instance.specs.Row.{Row}
-pub use Rattle.disco_instance.specs.Status.{place_of}
-use Rattle.disco_instance.specs.Status.{status_name}
+use Rattle.disco_instance.specs.Status.{is_same, status_name}
 use Rattle.disco_instance.specs.declared.status.Status.{Status}
 use Rattle.disco_instance.specs.declared.status.Status.TheVariants.{Up, Down, Starting, OutOfService, Unknown}
 
 -- how many records have the status
 abbrev pub count_of : List Row → Status → ℕ
-count_of rows status = count_by (λ r. place_of r.status == place_of status) rows
+count_of rows status = count_by (λ r. is_same r.status status) rows
 
 -- a number in decimal digits
 unfoldable pub digits : ℕ → List ℕ

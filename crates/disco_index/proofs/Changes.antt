@@ -1,5 +1,5 @@
 -- How the numbers follow what is put in and taken out, from how the entries do.
-use Rattle.std.proofs.Common.{◌≡◌, ℕ, ◌+◌, ◌<◌, ◌≤◌, ◌==◌, Bool, true, false, cond, List, [], ◌∷◌, map, length, Option, Some, None, refl, sym, ap, ◌∙◌, arith}
+use Rattle.std.proofs.Common.{◌≡◌, ℕ, ◌+◌, ◌<◌, ◌≤◌, Bool, true, false, cond, List, [], ◌∷◌, map, length, Option, Some, None, refl, sym, ap, ◌∙◌, arith}
 use Rattle.std.specs.Ordering.{is_eq}
 use Rattle.std.specs.Cmp.{tied_itself}
 use Rattle.std.specs.FinMap.{FinMap, empty, get, insert, remove, entries, entries_sorted, entries-insert, get-entries, get-insert, get-remove, same_map, len, len-entries, len-empty}
@@ -7,11 +7,12 @@ use Rattle.std.proofs.lemmas.List.{length-map}
 use Rattle.std.proofs.lemmas.List.Sums.{count_by-le-length}
 use Rattle.disco_instance.specs.Key.{key_cmp, same_key}
 use Rattle.disco_instance.specs.Row.{Row}
+use Rattle.disco_instance.specs.Status.{is_same}
 use Rattle.disco_instance.specs.declared.key.Key.{Key}
 use Rattle.disco_instance.specs.declared.status.Status.{Status}
 use Rattle.disco_instance.specs.declared.status.Status.TheVariants.{Up, Down, Starting, OutOfService, Unknown}
 use Rattle.disco_history.specs.Change.{Entry}
-use Rattle.disco_history.specs.Hash.{count_of, hash, hash_by, place_of}
+use Rattle.disco_history.specs.Hash.{count_of, hash, hash_by}
 use Rattle.disco_history.proofs.Keys.{keys_total, exact_keys, same_is}
 use Rattle.disco_index.specs.Tally.{Tally, count_in, fewer, more, without, tally_of, tally_in, rows_of}
 use Rattle.disco_index.proofs.Numbers.{same_tally, one_if, one_if-same, part, count_in-more, count_in-without}
@@ -106,7 +107,7 @@ held_law m k e h =
 pub count_law : (m : FinMap key_cmp Entry) (status : Status) → count_in (tally_in m) status ≤ len m
 count_law m status =
     let old = is_count m status in
-    let rows = count_by-le-length (λ (r : Row). place_of r.status == place_of status) (rows_of m) in
+    let rows = count_by-le-length (λ (r : Row). is_same r.status status) (rows_of m) in
     let values = length-map (map (λ (p : Key × Entry). p.1) (entries m)) (λ (e : Entry). e.0) in
     let pairs = length-map (entries m) (λ (p : Key × Entry). p.1) in
     omega (arith, old, rows, values, pairs, len-entries m)

@@ -1,5 +1,5 @@
 -- How many of the entries in the order of their keys have a status.
-use Rattle.std.proofs.Common.{◌≡◌, ℕ, ◌+◌, ◌==◌, Bool, true, false, ◌&&◌, cond, T, List, [], ◌∷◌, map, Some, None, refl, sym, ap, subst, ◌∙◌, arith}
+use Rattle.std.proofs.Common.{◌≡◌, ℕ, ◌+◌, Bool, true, false, ◌&&◌, cond, T, List, [], ◌∷◌, map, Some, None, refl, sym, ap, subst, ◌∙◌, arith}
 use Rattle.std.specs.declared.cmp.Ordering.{Ordering}
 use Rattle.std.specs.declared.cmp.Ordering.TheVariants.{Less, Equal, Greater}
 use Rattle.std.specs.Ordering.{is_eq, is_lt}
@@ -7,10 +7,11 @@ use Rattle.std.specs.FinMap.Entries.{is_sorted, put, find, below_all, by_order}
 use Rattle.std.proofs.lemmas.List.Sums.{sum_by-cons}
 use Rattle.disco_instance.specs.Key.{key_cmp}
 use Rattle.disco_instance.specs.Row.{Row}
+use Rattle.disco_instance.specs.Status.{is_same}
 use Rattle.disco_instance.specs.declared.key.Key.{Key}
 use Rattle.disco_instance.specs.declared.status.Status.{Status}
 use Rattle.disco_history.specs.Change.{Entry}
-use Rattle.disco_history.specs.Hash.{count_of, place_of}
+use Rattle.disco_history.specs.Hash.{count_of}
 use Rattle.disco_history.proofs.Keys.{keys_total}
 use Rattle.disco_index.proofs.Numbers.{one_if, part}
 
@@ -22,7 +23,7 @@ abbrev pub counted : Entries → Status → ℕ
 counted es status = count_of (map (λ (e : Entry). e.0) (map (λ (p : Key × Entry). p.1) es)) status
 
 counted-cons : (p : Key × Entry) (es : Entries) (status : Status) → counted (p ∷ es) status ≡ one_if p.1.0.status status + counted es status
-counted-cons p es status = sum_by-cons (λ (r : Row). cond (place_of r.status == place_of status) 1 0) p.1.0 (map (λ (e : Entry). e.0) (map (λ (p : Key × Entry). p.1) es))
+counted-cons p es status = sum_by-cons (λ (r : Row). cond (is_same r.status status) 1 0) p.1.0 (map (λ (e : Entry). e.0) (map (λ (p : Key × Entry). p.1) es))
 
 pub first : (a b : Bool) → T (a && b) → T a
 first true b h = tt

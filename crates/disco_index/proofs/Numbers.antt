@@ -1,10 +1,9 @@
 -- Numbers of statuses, one by one.
-use Rattle.std.proofs.Common.{◌≡◌, ℕ, ◌+◌, ◌-◌, ◌==◌, true, cond, Option, Some, None, refl, ap, arith}
-use Rattle.std.proofs.lemmas.Bool.Decides.{nat_tests}
+use Rattle.std.proofs.Common.{◌≡◌, ℕ, ◌+◌, ◌-◌, cond, Option, Some, None, refl, arith}
+use Rattle.disco_instance.specs.Status.{is_same}
 use Rattle.disco_instance.specs.declared.status.Status.{Status}
 use Rattle.disco_instance.specs.declared.status.Status.TheVariants.{Up, Down, Starting, OutOfService, Unknown}
 use Rattle.disco_history.specs.Change.{Entry}
-use Rattle.disco_history.specs.Hash.{place_of}
 use Rattle.disco_index.specs.Tally.{Tally, count_in, more, fewer, without}
 
 -- tallies with the same numbers are one
@@ -13,7 +12,7 @@ same_tally t u h = λ i. record { down = h Down i; out_of_service = h OutOfServi
 
 -- 1 where the statuses are one
 abbrev pub one_if : Status → Status → ℕ
-one_if a b = cond (place_of a == place_of b) 1 0
+one_if a b = cond (is_same a b) 1 0
 
 one_more : (t : Tally) (a b : Status) → count_in (more t a) b ≡ count_in t b + one_if a b
 one_more t Down Down = refl
@@ -81,8 +80,9 @@ pub count_in-without : (t : Tally) (o : Option Entry) (b : Status) → count_in 
 count_in-without t None b = omega arith
 count_in-without t (Some e) b = one_fewer t e.0.status b
 
-same_place : (n : ℕ) → (n == n) ≡ true
-same_place n = grind (arith, nat_tests)
-
 pub one_if-same : (a : Status) → one_if a a ≡ 1
-one_if-same a = ap (λ b. cond b 1 0) (same_place (place_of a))
+one_if-same Down = refl
+one_if-same OutOfService = refl
+one_if-same Starting = refl
+one_if-same Unknown = refl
+one_if-same Up = refl

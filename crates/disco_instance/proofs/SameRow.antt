@@ -24,17 +24,7 @@ made p = let r = p.0 in record {
   is_coordinating = r.is_coordinating;
   last_dirty = r.last_dirty;
   last_updated = r.last_updated;
-  lease = record {
-    duration_secs = r.lease.duration_secs;
-    renewal_interval_secs = r.lease.renewal_interval_secs;
-    eviction = r.lease.eviction;
-    last_renewal = r.lease.last_renewal;
-    registration = r.lease.registration;
-    service_up = r.lease.service_up;
-    lasts = p.1.4;
-    duration_in_range = p.1.5;
-    interval_in_range = p.1.6;
-  };
+  lease = r.lease;
   metadata = r.metadata;
   overridden_status = r.overridden_status;
   port = r.port;
@@ -46,6 +36,9 @@ made p = let r = p.0 in record {
   has_id = p.1.1;
   app_in_upper_case = p.1.2;
   country_in_range = p.1.3;
+  lasts = p.1.4;
+  duration_in_range = p.1.5;
+  interval_in_range = p.1.6;
 }
 
 texts_set : IsSet (List ℕ)
@@ -58,7 +51,7 @@ known_once : (r : Row) → IsProp (Known r)
 known_once r = hlevel (texts_set, lt_once (r.country_id) (2 ^ 31), lt_once 0 (r.lease.duration_secs), lt_once (r.lease.duration_secs) (2 ^ 31), lt_once (r.lease.renewal_interval_secs) (2 ^ 31))
 
 abbrev known : (r : Record) → Known (row r)
-known r = (r.has_app, r.has_id, r.app_in_upper_case, r.country_in_range, r.lease.lasts, r.lease.duration_in_range, r.lease.interval_in_range)
+known r = (r.has_app, r.has_id, r.app_in_upper_case, r.country_in_range, r.lasts, r.duration_in_range, r.interval_in_range)
 
 pub same_row : (a b : Record) → row a ≡ row b → a ≡ b
 same_row a b e = ap made {x = (row a, known a)} {y = (row b, known b)} (Σ_prop_path known_once e)

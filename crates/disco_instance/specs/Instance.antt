@@ -5,7 +5,7 @@ use Rattle.serde_json.specs.Data.{Data}
 use Rattle.disco_instance.specs.Action.{action_named}
 use Rattle.disco_instance.specs.Members.{flag_at, inner_at, non_empty_at, not_empty, number_at, override_at, port_at, status_at, text_at, text_or_empty}
 use Rattle.disco_instance.specs.Metadata.{entries_at}
-use Rattle.disco_instance.specs.Row.{LeaseNumbers, Row}
+use Rattle.disco_instance.specs.Row.{Row}
 use Rattle.disco_instance.specs.Text.{in_upper_case}
 use Rattle.disco_instance.specs.declared.action.Action.{Action}
 use Rattle.disco_instance.specs.declared.data_center.DataCenter.{DataCenter}
@@ -13,6 +13,7 @@ use Rattle.disco_instance.specs.declared.fault.Fault.{Fault}
 use Rattle.disco_instance.specs.declared.fault.Fault.TheVariants.{OutOfMemory, MissingField}
 use Rattle.disco_instance.specs.declared.fault.Field.TheVariants.{InstanceId, App}
 use Rattle.disco_instance.specs.declared.key.Key.{Key}
+use Rattle.disco_instance.specs.declared.lease.Lease.{Lease}
 use Rattle.disco_instance.specs.declared.status.Status.TheVariants.{Up}
 
 -- what a call gave, seen by a function, is this, unless memory ran out
@@ -47,7 +48,7 @@ data_center_at d = let inner = inner_at (codes "dataCenterInfo") d in record {
   name = unwrap_or (text_at (codes "name") inner) (codes "MyOwn");
 }
 
-abbrev pub lease_at : Data → LeaseNumbers
+abbrev pub lease_at : Data → Lease
 lease_at d = record {
   duration_secs = number_at (codes "durationInSecs") 1 2147483647 90 d;
   renewal_interval_secs = number_at (codes "renewalIntervalInSecs") 0 2147483647 30 d;

@@ -1,11 +1,12 @@
 -- The moments that the registry sets in a record, all of them this project's own rule.
 use Rattle.std.specs.Prelude.{ℕ}
-use Rattle.disco_instance.specs.Row.{LeaseNumbers, Row}
+use Rattle.disco_instance.specs.Row.{Row}
 use Rattle.disco_instance.specs.Since.{since}
+use Rattle.disco_instance.specs.declared.lease.Lease.{Lease}
 use Rattle.disco_instance.specs.declared.status.Status.{Status}
 
 -- the lease of a record that is put at a moment
-abbrev pub put_lease : LeaseNumbers → ℕ → ℕ → ℕ → LeaseNumbers
+abbrev pub put_lease : Lease → ℕ → ℕ → ℕ → Lease
 put_lease l registration service_up now = record l { last_renewal = now; eviction = 0; registration = registration; service_up = service_up }
 
 -- the record that a registration at a moment puts, with the status and the override that were settled

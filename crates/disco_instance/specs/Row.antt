@@ -9,25 +9,6 @@ use Rattle.disco_instance.specs.declared.lease.Lease.{Lease}
 use Rattle.disco_instance.specs.declared.port.Port.{Port}
 use Rattle.disco_instance.specs.declared.data_center.DataCenter.{DataCenter}
 
--- the members of `leaseInfo`
-pub record LeaseNumbers : Type 0 where
-  pub duration_secs : ℕ
-  pub renewal_interval_secs : ℕ
-  pub eviction : ℕ
-  pub last_renewal : ℕ
-  pub registration : ℕ
-  pub service_up : ℕ
-
-abbrev pub numbers : Lease → LeaseNumbers
-numbers l = record {
-  duration_secs = l.duration_secs;
-  renewal_interval_secs = l.renewal_interval_secs;
-  eviction = l.eviction;
-  last_renewal = l.last_renewal;
-  registration = l.registration;
-  service_up = l.service_up;
-}
-
 -- the members of a record
 pub record Row : Type 0 where
   pub key : Key
@@ -41,7 +22,7 @@ pub record Row : Type 0 where
   pub is_coordinating : Bool
   pub last_dirty : ℕ
   pub last_updated : ℕ
-  pub lease : LeaseNumbers
+  pub lease : Lease
   pub metadata : List (List ℕ × List ℕ)
   pub overridden_status : Status
   pub port : Port
@@ -63,7 +44,7 @@ row r = record {
   is_coordinating = r.is_coordinating;
   last_dirty = r.last_dirty;
   last_updated = r.last_updated;
-  lease = numbers r.lease;
+  lease = r.lease;
   metadata = r.metadata;
   overridden_status = r.overridden_status;
   port = r.port;

@@ -1,5 +1,5 @@
 -- The names of statuses, as Eureka writes them.
-use Rattle.std.specs.Prelude.{ℕ, Bool, ◌==◌, List, codes, if◌then◌else◌, Option, Some, None}
+use Rattle.std.specs.Prelude.{ℕ, Bool, List, codes, if◌then◌else◌, Option, Some, None}
 use Rattle.std.specs.Str.{bytes_eq}
 use Rattle.disco_instance.specs.declared.status.Status.{Status}
 use Rattle.disco_instance.specs.declared.status.Status.TheVariants.{Up, Down, Starting, OutOfService, Unknown}
@@ -21,13 +21,6 @@ status_named text =
     if bytes_eq text (codes "OUT_OF_SERVICE") then Some OutOfService else (
     if bytes_eq text (codes "UNKNOWN") then Some Unknown else None))))
 
--- the place of a status in the hash code
-abbrev pub place_of : Status → ℕ
-place_of Down = 0
-place_of OutOfService = 1
-place_of Starting = 2
-place_of Unknown = 3
-place_of Up = 4
-
+-- whether two statuses are one
 abbrev pub is_same : Status → Status → Bool
-is_same a b = place_of a == place_of b
+is_same a b = bytes_eq (status_name a) (status_name b)

@@ -1,5 +1,5 @@
 -- What steps inside this crate say of a record and of entries. Nothing here is to be believed: no public contract rests on it.
-use Rattle.std.specs.Prelude.{IfOk, List, Result, [], codes, false, length, slice_index_or, true, unwrap_or, ℕ, ◌<◌, ◌≡◌, ◌≢◌, ◌≤◌}
+use Rattle.std.specs.Prelude.{IfOk, List, Result, [], codes, false, length, slice_index_or, true, unwrap_or, ℕ, ◌<◌, ◌≡◌, ◌≢◌, ◌≤◌, ◌^◌}
 use Rattle.serde_json.specs.Data.{Data}
 use Rattle.disco_instance.specs.Members.{flag_at, inner_at, number_at, override_at, port_at, status_at, text_or_empty}
 use Rattle.disco_instance.specs.Metadata.{entries_at}
@@ -12,12 +12,13 @@ use Rattle.disco_instance.specs.declared.status.Status.TheVariants.{Up}
 use Rattle.std.specs.declared.cmp.Ordering.TheVariants.{Less, Equal, Greater}
 use Rattle.std.specs.Ordering.{nat_cmp}
 use Rattle.std.specs.Cmp.Lexicographic.{slice_cmp}
-use Rattle.disco_instance.specs.Instance.{data_center_at}
+use Rattle.disco_instance.specs.Instance.{data_center_at, lease_at}
 
-abbrev pub lease_matches : Lease → Data → Type 0
-lease_matches l d = (l.duration_secs ≡ number_at (codes "durationInSecs") 1 2147483647 90 d) × (l.renewal_interval_secs ≡ number_at (codes "renewalIntervalInSecs") 0 2147483647 30 d)
-    × (l.eviction ≡ number_at (codes "evictionTimestamp") 0 18446744073709551615 0 d) × (l.last_renewal ≡ number_at (codes "lastRenewalTimestamp") 0 18446744073709551615 0 d)
-    × (l.registration ≡ number_at (codes "registrationTimestamp") 0 18446744073709551615 0 d) × (l.service_up ≡ number_at (codes "serviceUpTimestamp") 0 18446744073709551615 0 d)
+-- a lease that a record may have
+pub record IsRecordLease (l : Lease) : Type 0 where
+  pub lasts : 0 < l.duration_secs
+  pub duration : l.duration_secs < 2 ^ 31
+  pub interval : l.renewal_interval_secs < 2 ^ 31
 
 pub record Says (d : Data) (r : Record) : Type 0 where
   pub country : r.country_id ≡ number_at (codes "countryId") 0 2147483647 1 d
@@ -30,7 +31,7 @@ pub record Says (d : Data) (r : Record) : Type 0 where
   pub is_coordinating : r.is_coordinating ≡ unwrap_or (flag_at (codes "isCoordinatingDiscoveryServer") d) false
   pub last_dirty : r.last_dirty ≡ number_at (codes "lastDirtyTimestamp") 0 18446744073709551615 0 d
   pub last_updated : r.last_updated ≡ number_at (codes "lastUpdatedTimestamp") 0 18446744073709551615 0 d
-  pub lease : lease_matches r.lease (inner_at (codes "leaseInfo") d)
+  pub lease : r.lease ≡ lease_at (inner_at (codes "leaseInfo") d)
   pub metadata : r.metadata ≡ entries_at (codes "metadata") d
   pub overridden_status : r.overridden_status ≡ override_at d
   pub port : r.port ≡ port_at (codes "port") 7001 true d

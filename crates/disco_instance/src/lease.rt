@@ -1,5 +1,5 @@
 //! The lease of an instance.
-ghost use Rattle.std.specs.Prelude.{◌≡◌, ◌<◌, ◌^◌};
+ghost use Rattle.std.specs.Prelude.{◌≡◌};
 
 /// The lease of an instance: the member `leaseInfo`. Moments are in milliseconds.
 #[derive(Clone, Copy, Debug)]
@@ -16,18 +16,14 @@ pub struct Lease {
     pub registration: u64,
     /// Since when the instance is up, 0 for no such moment: the member `serviceUpTimestamp`.
     pub service_up: u64,
-    pub ghost lasts: { 0 < duration_secs },
-    pub ghost duration_in_range: { duration_secs < 2 ^ 31 },
-    pub ghost interval_in_range: { renewal_interval_secs < 2 ^ 31 },
 }
 
 impl Lease {
-    ghost use Rattle.disco_instance.specs.Row.{numbers};
     ghost use Rattle.disco_instance.specs.Moments.{put_lease};
 
     /// The lease of a record that is put at a moment.
     pub fn put(self, registration: u64, service_up: u64, now: u64) -> Lease
-        ensures { numbers result ≡ put_lease (numbers self) registration service_up now }
+        ensures { result ≡ put_lease self registration service_up now }
     {
         let mut new = self;
         new.last_renewal = now;
@@ -39,7 +35,7 @@ impl Lease {
 
     /// The lease of an instance that is cancelled at a moment.
     pub fn evicted(self, now: u64) -> Lease
-        ensures { numbers result ≡ record (numbers self) { eviction = now } }
+        ensures { result ≡ record self { eviction = now } }
     {
         let mut new = self;
         new.eviction = now;

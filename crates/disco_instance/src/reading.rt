@@ -2,8 +2,8 @@
 ghost use Rattle.std.specs.Prelude.{◌≡◌, ◌<◌, ◌^◌, codes, IfOk};
 ghost use Rattle.std.specs.Option.{option_copied};
 ghost use Rattle.serde_json.specs.View.{view};
-ghost use Rattle.disco_instance.specs.Instance.{Gives, action_at, data_center_at, key_at, told_by};
-ghost use Rattle.disco_instance.specs.Steps.{Says, lease_matches};
+ghost use Rattle.disco_instance.specs.Instance.{Gives, action_at, data_center_at, key_at, lease_at, told_by};
+ghost use Rattle.disco_instance.specs.Steps.{IsRecordLease, Says};
 ghost use Rattle.disco_instance.specs.Members.{inner_at, number_at};
 ghost use Rattle.disco_instance.specs.Row.{row};
 
@@ -67,7 +67,8 @@ fn country_member(value: &Value) -> u32
 }
 
 fn lease_member(value: &Value) -> Lease
-    ensures { lease_matches result (inner_at (codes "leaseInfo") (view value.now)) }
+    ensures value { result ≡ lease_at (inner_at (codes "leaseInfo") (view value.now)) }
+    ensures in_range { IsRecordLease result }
 {
     let nothing = Value::Null;
     match value.get("leaseInfo") {
@@ -77,7 +78,8 @@ fn lease_member(value: &Value) -> Lease
 }
 
 fn lease_from_value(value: &Value) -> Lease
-    ensures { lease_matches result (view value.now) }
+    ensures value { result ≡ lease_at (view value.now) }
+    ensures in_range { IsRecordLease result }
 {
     Lease {
         duration_secs: number_member(value, "durationInSecs", 1, 2147483647, 90) as u32,

@@ -46,6 +46,9 @@ pub struct Record {
     pub ghost has_id: { key.id ≢ [] },
     pub ghost app_in_upper_case: { in_upper_case key.app ≡ key.app },
     pub ghost country_in_range: { country_id < 2 ^ 31 },
+    pub ghost lasts: { 0 < lease.duration_secs },
+    pub ghost duration_in_range: { lease.duration_secs < 2 ^ 31 },
+    pub ghost interval_in_range: { lease.renewal_interval_secs < 2 ^ 31 },
 }
 
 impl Record {
@@ -141,7 +144,7 @@ fn up_since(held_up: u64, status: Status, now: u64) -> u64
 {
     if held_up > 0 {
         held_up
-    } else if status == Status::Up {
+    } else if status.is(Status::Up) {
         now
     } else {
         0

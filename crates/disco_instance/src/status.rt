@@ -1,6 +1,6 @@
 //! Statuses of instances.
 ghost use Rattle.std.specs.Prelude.{◌≡◌};
-ghost use Rattle.disco_instance.specs.Status.{is_same, place_of, status_named, status_name};
+ghost use Rattle.disco_instance.specs.Status.{is_same, status_named, status_name};
 
 /// What an instance says of itself, or an operator of it.
 #[derive(Clone, Copy, Debug, PartialEq, Eq)]
@@ -40,23 +40,10 @@ impl Status {
         }
     }
 
-    /// Its place in a hash code, 0 to 4.
-    pub fn place(self) -> u8
-        ensures { result ≡ place_of self }
-    {
-        match self {
-            Status::Down => 0,
-            Status::OutOfService => 1,
-            Status::Starting => 2,
-            Status::Unknown => 3,
-            Status::Up => 4,
-        }
-    }
-
     /// Whether the two are one status.
     pub fn is(self, other: Status) -> bool
         ensures { result ≡ is_same self other }
     {
-        self.place() == other.place()
+        self == other
     }
 }

@@ -1,11 +1,12 @@
 -- A written tree tells what was written.
 use Rattle.std.proofs.Common.{◌≡◌, ℕ, ◌<◌, ◌^◌, Bool, true, false, ◌&&◌, nat_le, decimal, cond, List, [], codes, Option, Some, None, option_map, option_and_then, unwrap_or, Ok, refl, ap, arith}
 use Rattle.std.specs.Option.{option_or}
+use Rattle.disco_instance.specs.declared.lease.Lease.{Lease}
 use Rattle.disco_instance.specs.declared.port.Port.{Port}
 use Rattle.disco_instance.specs.declared.status.Status.{Status}
 use Rattle.disco_instance.specs.declared.status.Status.TheVariants.{Unknown, Up}
 use Rattle.disco_instance.specs.Status.{status_name, status_named}
-use Rattle.disco_instance.specs.Row.{Row, LeaseNumbers, IsWellFormed}
+use Rattle.disco_instance.specs.Row.{Row, IsWellFormed}
 use Rattle.disco_instance.specs.Text.{in_upper_case}
 use Rattle.disco_instance.specs.Instance.{key_at, key_by, row_at, action_at, lease_at}
 use Rattle.disco_instance.specs.Members.{not_empty, digits_number, port_at}
@@ -22,7 +23,7 @@ use Rattle.serde_json.specs.Data.{object, member, no_members}
 pub_port : (p : Port) (default : ℕ) (enabled : Bool) → p.number < 2 ^ 16 → port_at (codes "port") default enabled (object (member (codes "port") (port_tree p) no_members)) ≡ p
 pub_port p default enabled small = λ i. record { number = in_range 0 65535 default p.number (omega arith) (omega arith) i; enabled = unwrap_or (flag_again p.enabled i) enabled }
 
-lease_again : (l : LeaseNumbers) → 0 < l.duration_secs → l.duration_secs < 2 ^ 31 → l.renewal_interval_secs < 2 ^ 31 → l.eviction < 2 ^ 64 → l.last_renewal < 2 ^ 64 → l.registration < 2 ^ 64 → l.service_up < 2 ^ 64 → lease_at (lease_tree l) ≡ l
+lease_again : (l : Lease) → 0 < l.duration_secs → l.duration_secs < 2 ^ 31 → l.renewal_interval_secs < 2 ^ 31 → l.eviction < 2 ^ 64 → l.last_renewal < 2 ^ 64 → l.registration < 2 ^ 64 → l.service_up < 2 ^ 64 → lease_at (lease_tree l) ≡ l
 lease_again l a b c d e f g = λ i. record {
   duration_secs = in_range 1 2147483647 90 l.duration_secs (omega arith) (omega arith) i;
   renewal_interval_secs = in_range 0 2147483647 30 l.renewal_interval_secs (omega arith) (omega arith) i;

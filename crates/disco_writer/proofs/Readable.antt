@@ -15,8 +15,9 @@ use Rattle.serde_json.specs.Written.{outline, items_outline, members_outline, co
 use Rattle.serde_json.proofs.Numbers.{number_of-decimal}
 use Rattle.serde_json.proofs.Texts.{print-outline}
 use Rattle.disco_instance.specs.Entries.{is_by_name}
-use Rattle.disco_instance.specs.Row.{IsWellFormed, LeaseNumbers}
+use Rattle.disco_instance.specs.Row.{IsWellFormed}
 use Rattle.disco_instance.specs.declared.data_center.DataCenter.{DataCenter}
+use Rattle.disco_instance.specs.declared.lease.Lease.{Lease}
 use Rattle.disco_instance.specs.declared.port.Port.{Port}
 use Rattle.disco_instance.specs.declared.form.Form.{Form}
 use Rattle.disco_instance.specs.declared.form.Form.TheVariants.{Full, Compact}
@@ -117,7 +118,7 @@ metadata_again es sorted = tree_again (entry_fields es) (put_fields es no_member
 port_again : (p : Port) → p.number < 2 ^ 16 → IsReadable (port_tree p)
 port_again p small = tree_again (port_fields p) refl (whole_again p.number (omega arith), (string_again _, (tt)))
 
-lease_tree_again : (l : LeaseNumbers) → l.duration_secs < 2 ^ 31 → l.renewal_interval_secs < 2 ^ 31 → l.eviction < 2 ^ 64 → l.last_renewal < 2 ^ 64 → l.registration < 2 ^ 64 → l.service_up < 2 ^ 64
+lease_tree_again : (l : Lease) → l.duration_secs < 2 ^ 31 → l.renewal_interval_secs < 2 ^ 31 → l.eviction < 2 ^ 64 → l.last_renewal < 2 ^ 64 → l.registration < 2 ^ 64 → l.service_up < 2 ^ 64
     → IsReadable (lease_tree l)
 lease_tree_again l a b c d e f =
     tree_again (lease_fields l) refl (whole_again l.duration_secs (omega arith), (whole_again l.eviction c, (whole_again l.last_renewal d, (whole_again l.registration e, (whole_again l.renewal_interval_secs (omega arith), (whole_again l.service_up f, (tt)))))))

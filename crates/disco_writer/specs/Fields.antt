@@ -2,9 +2,10 @@
 use Rattle.std.specs.Prelude.{ℕ, List, [], ◌∷◌, ◌++◌, map, codes}
 use Rattle.serde_json.specs.Data.{Data, string}
 use Rattle.disco_instance.specs.Action.{action_name}
-use Rattle.disco_instance.specs.Row.{LeaseNumbers, Row}
+use Rattle.disco_instance.specs.Row.{Row}
 use Rattle.disco_instance.specs.Status.{status_name}
 use Rattle.disco_instance.specs.declared.data_center.DataCenter.{DataCenter}
+use Rattle.disco_instance.specs.declared.lease.Lease.{Lease}
 use Rattle.disco_instance.specs.declared.port.Port.{Port}
 use Rattle.disco_history.specs.Change.{Entry}
 use Rattle.disco_writer.specs.Trees.{truth, whole, digits, port_tree, data_center_tree, lease_tree, metadata_tree}
@@ -18,7 +19,7 @@ port_fields p = (codes "$", whole p.number) ∷ (codes "@enabled", truth p.enabl
 abbrev pub center_fields : DataCenter → Fields
 center_fields c = (codes "@class", string c.class) ∷ (codes "name", string c.name) ∷ []
 
-abbrev pub lease_fields : LeaseNumbers → Fields
+abbrev pub lease_fields : Lease → Fields
 lease_fields l = (codes "durationInSecs", whole l.duration_secs) ∷ (codes "evictionTimestamp", whole l.eviction) ∷ (codes "lastRenewalTimestamp", whole l.last_renewal)
     ∷ (codes "registrationTimestamp", whole l.registration) ∷ (codes "renewalIntervalInSecs", whole l.renewal_interval_secs) ∷ (codes "serviceUpTimestamp", whole l.service_up) ∷ []
 

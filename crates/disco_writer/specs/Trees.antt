@@ -4,11 +4,11 @@ use Rattle.std.specs.Str.{bytes_eq}
 use Rattle.serde_json.specs.Data.{Data, number, string, array, object, Members, no_members, member, unsigned}
 use Rattle.serde_json.specs.View.{items_of}
 use Rattle.disco_instance.specs.Action.{action_name}
-use Rattle.disco_instance.specs.Row.{LeaseNumbers}
 use Rattle.disco_instance.specs.Status.{status_name}
 use Rattle.disco_instance.specs.declared.data_center.DataCenter.{DataCenter}
 use Rattle.disco_instance.specs.declared.form.Form.{Form}
 use Rattle.disco_instance.specs.declared.form.Form.TheVariants.{Full, Compact}
+use Rattle.disco_instance.specs.declared.lease.Lease.{Lease}
 use Rattle.disco_instance.specs.declared.port.Port.{Port}
 use Rattle.disco_history.specs.Change.{Entry}
 use Rattle.disco_history.specs.Query.{Asked, all, of_app, of_vip, of_secure_vip, of_key}
@@ -39,7 +39,7 @@ port_tree p = tree ((codes "$", whole p.number) ∷ (codes "@enabled", truth p.e
 abbrev pub data_center_tree : DataCenter → Data
 data_center_tree c = tree ((codes "@class", string c.class) ∷ (codes "name", string c.name) ∷ [])
 
-abbrev pub lease_tree : LeaseNumbers → Data
+abbrev pub lease_tree : Lease → Data
 lease_tree l = tree (
     (codes "durationInSecs", whole l.duration_secs) ∷
     (codes "evictionTimestamp", whole l.eviction) ∷

@@ -4,7 +4,6 @@ ghost use Rattle.json.specs.Token.{begin_object, end_object, key};
 ghost use Rattle.serde_json.specs.Data.{string};
 ghost use Rattle.disco_instance.specs.Action.{action_name};
 ghost use Rattle.disco_instance.specs.Status.{status_name};
-ghost use Rattle.disco_instance.specs.Row.{numbers};
 ghost use Rattle.disco_writer.specs.Fields.{entry_fields, lease_fields};
 ghost use Rattle.disco_writer.specs.Tokens.{Adds, Writes};
 ghost use Rattle.disco_writer.specs.Trees.{data_center_tree, digits, lease_tree, metadata_tree, port_tree, truth, whole};
@@ -108,7 +107,7 @@ pub(crate) fn put_data_center(out: &mut Writer, center: &DataCenter) -> Result<(
 }
 
 fn put_terms(out: &mut Writer, lease: Lease) -> Result<(), AllocError>
-    ensures { Writes result out.old out.new (lease_fields (numbers lease)) }
+    ensures { Writes result out.old out.new (lease_fields lease) }
 {
     put_small(out, "durationInSecs", lease.duration_secs)?;
     put_whole(out, "evictionTimestamp", lease.eviction)?;
@@ -119,7 +118,7 @@ fn put_terms(out: &mut Writer, lease: Lease) -> Result<(), AllocError>
 }
 
 pub(crate) fn put_lease(out: &mut Writer, lease: Lease) -> Result<(), AllocError>
-    ensures { Writes result out.old out.new ((codes "leaseInfo", lease_tree (numbers lease)) ∷ []) }
+    ensures { Writes result out.old out.new ((codes "leaseInfo", lease_tree lease) ∷ []) }
 {
     begin(out, "leaseInfo")?;
     put_terms(out, lease)?;

@@ -1,4 +1,3 @@
-use Rattle.disco_instance.specs.Row.{numbers}
 use Rattle.disco_instance.proofs.SameRow.{same_row}
 use Rattle.disco_instance.proofs.record.Record.copy.Goals as goal
 
@@ -17,7 +16,7 @@ returns-clause-same c =
       is_coordinating = old.is_coordinating;
       last_dirty = old.last_dirty;
       last_updated = old.last_updated;
-      lease = numbers old.lease;
+      lease = old.lease;
       metadata = c.in_ok-copy.ensures i;
       overridden_status = old.overridden_status;
       port = old.port;
