@@ -1,14 +1,15 @@
 -- The finite map that a tree's entries stand for.
-use Rattle.std.proofs.Common.{◌≡◌, Bool, true, false, cond, List, [], ◌∷◌, map, Option, Some, None, option_map, is_some, IsSome, refl, sym, ap, subst, ◌∙◌}
+use Rattle.std.proofs.lemmas.Bool.{false≢true, true≢false}
+use Rattle.std.proofs.Common.{◌≡◌, ℕ, Bool, true, false, cond, List, [], ◌∷◌, map, Option, Some, None, option_map, is_some, IsSome, refl, sym, ap, subst, ◌∙◌}
 use Rattle.std.specs.BTreeMap.{is_at}
 use Rattle.std.specs.Map.{lookup}
 use Rattle.std.specs.Option.{option_flatten}
 use Rattle.std.specs.FinMap.{find, get, insert, remove, same_map, get-from_entries, get-insert, get-remove}
 use Rattle.disco_instance.specs.Key.{key_cmp, same_key}
 use Rattle.disco_instance.specs.declared.key.Key.{Key}
-use Rattle.disco_history.proofs.Keys.{keys_total, exact_keys, same_key-sym}
+use Rattle.disco_history.proofs.Keys.{keys_total, exact_keys, same_is, same_key-sym}
 use Rattle.disco_lease.specs.Leases as leases
-use Rattle.disco_lease.specs.Seen.{seen, seen_places}
+use Rattle.disco_lease.specs.Seen.{Moved, seen, seen_places}
 use Rattle.disco_lease.specs.declared.lease.Lease.{Lease}
 
 abbrev Entries : Type 0
@@ -72,3 +73,49 @@ seen_some (Some p) h = refl
 
 pub place_seen : (es : Entries) (q : Key) → IsSome (get (seen_places es) q) → IsSome (at_key es q)
 place_seen es q h = seen_some (at_key es q) (subst (λ (o : Option (Option leases.Lease)). IsSome o) (get_seen es q) h)
+
+some_flat : (o : Option (Option Lease)) → is_some (option_flatten o) ≡ is_some (option_flatten (seen_place o))
+some_flat None = refl
+some_flat (Some None) = refl
+some_flat (Some (Some l)) = refl
+
+pub has_lease_seen : (es : Entries) (q : Key) → is_some (option_flatten (at_key es q)) ≡ is_some (option_flatten (get (seen_places es) q))
+has_lease_seen es q = some_flat (at_key es q) ∙ ap (λ o. is_some (option_flatten o)) (sym (get_seen es q))
+
+held : (o : Option (Option Lease)) → is_some (option_flatten o) ≡ true → IsSome o
+held None h = absurd (false≢true h)
+held (Some p) h = refl
+
+moved : (now : ℕ) (o : Option (Option Lease)) → is_some (option_flatten o) ≡ true → option_map (option_map (leases.extended now)) (seen_place o) ≡ Some (option_map (leases.extended now) (option_flatten (seen_place o)))
+moved now None h = absurd (false≢true h)
+moved now (Some None) h = absurd (false≢true h)
+moved now (Some (Some l)) h = refl
+
+-- a lease that is moved by its duration
+pub one_moved : (es fs : Entries) (k : Key) (now : ℕ) → is_some (option_flatten (at_key es k)) ≡ true → (IsSome (at_key es k) → Moved now (at_key es k) (Updated es fs k)) → seen_places fs ≡ insert (seen_places es) k (option_map (leases.extended now) (option_flatten (get (seen_places es) k)))
+one_moved es fs k now has gives =
+    let m = gives (held (at_key es k) has) in
+    let is : seen_place m.0 ≡ Some (option_map (leases.extended now) (option_flatten (get (seen_places es) k))) =
+    m.1 ∙ moved now (at_key es k) has ∙ ap (λ o. Some (option_map (leases.extended now) (option_flatten o))) (sym (get_seen es k)) in
+    same_map keys_total exact_keys _ _ (λ q.
+    get_updated es fs k m.0 m.2 q ∙ ap (λ o. cond (same_key q k) o (get (seen_places es) q)) is
+    ∙ sym (get-insert keys_total (seen_places es) k _ q))
+
+kept : (es : Entries) (k q : Key) (b : Bool) → same_key q k ≡ b → cond b (get (seen_places es) k) (get (seen_places es) q) ≡ get (seen_places es) q
+kept es k q true same = ap (get (seen_places es)) (sym (same_is q k same))
+kept es k q false same = refl
+
+-- where there is no lease nothing is moved
+pub none_moved : (es fs : Entries) (k : Key) (now : ℕ) → is_some (option_flatten (at_key es k)) ≡ false → (IsSome (at_key es k) → Moved now (at_key es k) (Updated es fs k)) → (at_key es k ≡ None → fs ≡ es) → seen_places fs ≡ seen_places es
+none_moved es fs k now has gives same = by (at_key es k) refl has
+  where
+    by : (o : Option (Option Lease)) → at_key es k ≡ o → is_some (option_flatten o) ≡ false → seen_places fs ≡ seen_places es
+    by None e h = ap seen_places (same e)
+    by (Some (Some l)) e h = absurd (true≢false h)
+    by (Some None) e h =
+        let m = gives (subst (λ (o : Option (Option Lease)). IsSome o) (sym e) refl) in
+        let is : seen_place m.0 ≡ get (seen_places es) k =
+        m.1 ∙ ap (λ o. option_map (option_map (leases.extended now)) (seen_place o)) e ∙ sym (get_seen es k ∙ ap seen_place e) in
+        same_map keys_total exact_keys _ _ (λ q.
+        get_updated es fs k m.0 m.2 q ∙ ap (λ o. cond (same_key q k) o (get (seen_places es) q)) is
+        ∙ kept es k q (same_key q k) refl)

@@ -19,8 +19,8 @@ flat_cond false x y = refl
 pub lease-put : (m n : Places) (k : Key) (l : Lease) → n ≡ insert m k (Some l) → (q : Key) → option_flatten (get n q) ≡ cond (same_key q k) (Some l) (option_flatten (get m q))
 lease-put m n k l e q = ap (λ p. option_flatten (get p q)) e ∙ ap option_flatten (get-insert keys_total m k (Some l) q) ∙ flat_cond (same_key q k) (Some (Some l)) (get m q)
 
-pub lease-touch : (m n : Places) (k : Key) (now : ℕ) (l : Lease) → option_flatten (get m k) ≡ Some l → n ≡ insert m k (Some (extended now l)) → (q : Key) → option_flatten (get n q) ≡ cond (same_key q k) (option_map (extended now) (option_flatten (get m k))) (option_flatten (get m q))
-lease-touch m n k now l there e q = lease-put m n k (extended now l) e q ∙ ap (λ o. cond (same_key q k) (option_map (extended now) o) (option_flatten (get m q))) (sym there)
+pub lease-touch : (m n : Places) (k : Key) (now : ℕ) → n ≡ insert m k (option_map (extended now) (option_flatten (get m k))) → (q : Key) → option_flatten (get n q) ≡ cond (same_key q k) (option_map (extended now) (option_flatten (get m k))) (option_flatten (get m q))
+lease-touch m n k now e q = ap (λ p. option_flatten (get p q)) e ∙ ap option_flatten (get-insert keys_total m k _ q) ∙ flat_cond (same_key q k) (Some (option_map (extended now) (option_flatten (get m k)))) (get m q)
 
 pub lease-out : (m n : Places) (k : Key) → n ≡ remove m k → (q : Key) → option_flatten (get n q) ≡ cond (same_key q k) None (option_flatten (get m q))
 lease-out m n k e q = ap (λ p. option_flatten (get p q)) e ∙ ap option_flatten (get-remove keys_total m k q) ∙ flat_cond (same_key q k) None (get m q)

@@ -2,7 +2,7 @@
 use Rattle.std.specs.Borrow.{Bor}
 use Rattle.std.specs.Ordering.{eq_by_cmp, nat_cmp, ordering_then}
 use Rattle.std.specs.declared.cmp.Ordering.{Ordering}
-use Rattle.std.specs.Prelude.{ℕ, Bool, List, map, is_some, if◌then◌else◌, Option, Some, None, option_map}
+use Rattle.std.specs.Prelude.{◌≡◌, ℕ, Bool, List, map, is_some, if◌then◌else◌, Option, Some, None, option_map}
 use Rattle.std.specs.List.{filter_map}
 use Rattle.std.specs.FinMap.{FinMap, from_entries}
 use Rattle.disco_instance.specs.Key.{key_cmp}
@@ -41,3 +41,7 @@ pairs now es = filter_map (pair now) es
 abbrev pub at_pair : ℕ × Key → Option ((ℕ × Key) × Unit {0}) → Option (Unit {0})
 at_pair q None = None
 at_pair q (Some e) = if eq_by_cmp due_cmp q e.0 then Some tt else None
+
+-- what a key is given whose place is this: a lease that is moved by its duration, or what there is
+abbrev pub Moved : ℕ → Option (Option Lease) → (Option (Option Lease) → Type 0) → Type 0
+Moved now place Gets = (new : Option (Option Lease)) × (option_map (option_map seen) new ≡ option_map (option_map (leases.extended now)) (option_map (option_map seen) place)) × Gets new

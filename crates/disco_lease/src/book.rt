@@ -103,11 +103,11 @@ impl LeaseBook {
         ensures renewals { self.new.renewals ≡ self.old.renewals }
         ensures closed { self.new.closed ≡ self.old.closed }
     {
-        let Some(lease) = self.places.lease(key) else {
-            return Err(Fault::NotFound);
-        };
-        self.places.put(key, lease.extended(now));
-        Ok(())
+        if self.places.extend(key, now) {
+            Ok(())
+        } else {
+            Err(Fault::NotFound)
+        }
     }
 
     /// The key has no lease any more, and no place for one. Refused as `NotFound` exactly where it

@@ -5,7 +5,8 @@ ghost use Rattle.std.specs.FinMap as finmap;
 ghost use Rattle.std.specs.Option.{option_flatten};
 ghost use Rattle.disco_instance.specs.Key.{key_cmp};
 ghost use Rattle.disco_lease.specs.Due.{due_moment, overdue};
-ghost use Rattle.disco_lease.specs.Seen.{seen};
+ghost use Rattle.disco_lease.specs.Leases.{extended};
+ghost use Rattle.disco_lease.specs.Seen.{Moved, seen};
 
 use crate::lease::Lease;
 use crate::overdue::{any_overdue, overdue_keys};
@@ -41,6 +42,32 @@ fn set(places: &mut BTreeMap<Key, Option<Lease>>, key: &Key, lease: Lease)
 {
     if let Some(place) = places.get_mut(key) {
         *place = Some(lease);
+    }
+}
+
+/// Moves a lease, if there is one, and answers whether there is.
+fn extend(place: &mut Option<Lease>, now: u64) -> bool
+    ensures there { result ≡ is_some place.old }
+    ensures moved { option_map seen place.new ≡ option_map (extended now) (option_map seen place.old) }
+{
+    match place {
+        Some(lease) => {
+            *lease = lease.extended(now);
+            true
+        }
+        None => false,
+    }
+}
+
+/// Moves the lease in the place of a key, if there is one, and answers whether there is.
+fn extend_at(places: &mut BTreeMap<Key, Option<Lease>>, key: &Key, now: u64) -> bool
+    ensures there { result ≡ is_some (option_flatten (tree.get key_cmp places.old key.now)) }
+    ensures moved { IsSome (tree.get key_cmp places.old key.now) → Moved now (tree.get key_cmp places.old key.now) (λ p. tree.Updates key_cmp places.old places.new key.now p) }
+    ensures same { tree.get key_cmp places.old key.now ≡ None → places.new ≡ places.old }
+{
+    match places.get_mut(key) {
+        Some(place) => extend(place, now),
+        None => false,
     }
 }
 
@@ -86,6 +113,16 @@ impl Places {
         ensures { self.new ≡ finmap.insert self.old key.now (Some (seen lease)) }
     {
         set(&mut self.places, key, lease);
+    }
+
+    /// Moves the lease of a key, if it has one, to one duration from now. Answers whether it has
+    /// one.
+    pub(crate) fn extend(&mut self, key: &Key, now: u64) -> bool
+        ensures there { result ≡ is_some (option_flatten (finmap.get self.old key.now)) }
+        ensures moved { IsTrue result → self.new ≡ finmap.insert self.old key.now (option_map (extended now) (option_flatten (finmap.get self.old key.now))) }
+        ensures same { result ≡ false → self.new ≡ self.old }
+    {
+        extend_at(&mut self.places, key, now)
     }
 
     /// Takes the place of a key out.
