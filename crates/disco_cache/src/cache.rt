@@ -42,7 +42,7 @@ impl Model for DocCache {
 }
 
 /// Where the document of a key is, or where it would go.
-fn place(docs: &[Arc<Payload, Global>], key: &DocKey) -> Result<usize, usize>
+pub(crate) fn place(docs: &[Arc<Payload, Global>], key: &DocKey) -> Result<usize, usize>
     requires { AreSorted docs.now }
     ensures found { IfOk result (λ i. IsAt docs.now key.now i) }
     ensures absent { IfErr result (λ i. IsGap docs.now key.now i) }
@@ -99,6 +99,13 @@ impl DocCache {
             docs: Vec::new(alloc),
             max: entries,
         }
+    }
+
+    /// How many documents it keeps at most.
+    pub fn entries(&self) -> u64
+        ensures { result ≡ self.now.max }
+    {
+        self.max
     }
 
     /// The document of a key, if it is kept. Takes no memory.

@@ -2,10 +2,12 @@
 #![tactic(auto)]
 
 mod cache;
+mod edition;
 mod key;
 mod named;
 mod payload;
 
 pub use cache::DocCache;
+pub use edition::Edition;
 pub use key::DocKey;
 pub use payload::Payload;

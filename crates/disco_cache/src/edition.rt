@@ -1,0 +1,86 @@
+//! Documents that a publisher shows to readers.
+ghost use Rattle.std.specs.Prelude.{◌≡◌, IfErr, IfSome, OnErr, OnOk, option_map};
+ghost use Rattle.std.specs.FinMap as finmap;
+ghost use Rattle.disco_instance.specs.declared.fault.Fault.TheVariants.{OutOfMemory};
+
+use crate::cache::place;
+use crate::key::DocKey;
+use crate::payload::Payload;
+use disco_instance::Fault;
+use std::alloc::Global;
+use std::marker::Model;
+use std::sync::Arc;
+
+/// Documents by key, as many as were copied.
+#[derive(Drop)]
+pub struct Edition {
+    docs: Vec<Arc<Payload, Global>>,
+}
+
+impl Model for Edition {
+    ghost use Rattle.std.specs.Coded.{codes};
+    ghost use Rattle.std.specs.FinMap.{FinMap, code};
+    ghost use Rattle.disco_cache.specs.Keys.{doc_cmp};
+    ghost use Rattle.disco_cache.specs.Kept.{AreSorted, map_of};
+    ghost use Rattle.disco_cache.specs.declared.payload.Payload.{Payload};
+
+    ghost Value = { FinMap doc_cmp Payload };
+
+    ghost coded = { Prim.hlevel (codes, code) };
+
+    ghost view = { λ e. map_of e.docs.items };
+
+    ghost invariant = { λ e. AreSorted e.docs.items };
+}
+
+impl Edition {
+    /// No documents.
+    pub fn new(alloc: Global) -> Edition
+        ensures { result ≡ finmap.empty }
+    {
+        Edition {
+            docs: Vec::new(alloc),
+        }
+    }
+
+    /// How many documents there are.
+    pub fn len(&self) -> usize
+        ensures { result ≡ finmap.len self.now }
+    {
+        self.docs.len()
+    }
+
+    /// The document of a key, if there is one. Takes no memory.
+    pub fn get(&self, key: &DocKey) -> Option<&Arc<Payload, Global>>
+        ensures found { option_map (λ d. d.now.value) result ≡ finmap.get self.now key.now }
+        ensures same_key { IfSome result (λ d. d.now.value.key ≡ key.now) }
+    {
+        match place(&self.docs, key) {
+            Ok(i) => Some(&self.docs[i]),
+            Err(_) => None,
+        }
+    }
+
+    /// Puts a document in, in the place of that of its key where there is one. Refused only as
+    /// `OutOfMemory`.
+    pub fn put(&mut self, doc: Arc<Payload, Global>) -> Result<(), Fault>
+        ensures docs { OnOk result (self.new ≡ finmap.insert self.old doc.value.key doc.value) }
+        ensures err { OnErr result (self.new ≡ self.old) }
+        ensures memory { IfErr result (λ e. e ≡ OutOfMemory) }
+    {
+        match place(&self.docs, &doc.key) {
+            Ok(i) => self.docs[i] = doc,
+            Err(i) => self.docs.insert(i, doc)?,
+        }
+        Ok(())
+    }
+
+    /// Takes the document of a key out, if there is one. Takes no memory.
+    pub fn remove(&mut self, key: &DocKey)
+        ensures { self.new ≡ finmap.remove self.old key.now }
+    {
+        if let Ok(i) = place(&self.docs, key) {
+            let _ = self.docs.remove(i);
+        }
+    }
+}
