@@ -1,11 +1,12 @@
 //! The registry and all that follows its changes.
-ghost use Rattle.std.specs.Prelude.{◌≡◌, ◌≢◌, ◌<◌, ◌≤◌, ◌+◌, ◌-◌, List, IfErr, IfOk, OnErr, OnOk, Ok, Some, None, length, map, true, false, option_map};
+ghost use Rattle.std.specs.Prelude.{◌≡◌, ◌≢◌, ◌<◌, ◌≤◌, ◌+◌, ◌-◌, List, IfErr, IfNone, IfOk, IfSome, OnErr, OnOk, Ok, Some, None, length, map, true, false, option_map};
 ghost use Rattle.std.specs.FinMap.{len};
 ghost use Rattle.disco_instance.specs.declared.fault.Fault.TheVariants.{OutOfMemory};
 ghost use Rattle.disco_instance.specs.Row.{row};
 ghost use Rattle.disco_history.specs.Change.{Entry, key_of, seen};
 ghost use Rattle.disco_history.specs.Held.{record_at};
-ghost use Rattle.disco_history.specs.Registry.{put_of};
+ghost use Rattle.disco_history.specs.Query.{is_absent};
+ghost use Rattle.disco_history.specs.Registry.{put_of, reg};
 ghost use Rattle.disco_index.specs.Tally.{tally_in};
 ghost use Rattle.disco_index.specs.Vips as vip;
 ghost use Rattle.disco_lease.specs.Leases as lease;
@@ -15,7 +16,7 @@ ghost use Rattle.disco_registry.specs.Commit as commit;
 ghost use Rattle.disco_registry.specs.Commit.{Takes, changes_properly, done_by, held_after};
 ghost use Rattle.disco_registry.specs.Op.{Ask, ask_of};
 ghost use Rattle.disco_registry.specs.State as registry;
-ghost use Rattle.disco_writer.specs.Documents.{IsWritten, is_delta};
+ghost use Rattle.disco_writer.specs.Documents.{IsWritten, asked_by, is_delta};
 ghost use Rattle.disco_cache.specs.Payloads.{IsTrue};
 ghost use Rattle.disco_core.specs.Past.{Past, cleaned, history, minute_closed, nothing, taken_in, with_done};
 ghost use Rattle.disco_core.specs.Refusals.{doc_of_id, doc_of_key, refusal_of, refusal_of_id};
@@ -371,56 +372,55 @@ impl Core {
         }
     }
 
-    /// The document that is asked for, written anew. An app's name has to be in upper case. Refused
-    /// as `NotFound` exactly where an app, a vip, a secure vip or an instance is asked for and there
-    /// is none, as `DeltaDisabled` exactly for a delta where deltas are off, and as `OutOfMemory`.
-    pub fn load(&self, key: &DocKey) -> Result<Arc<Payload, Global>, Fault>
-        ensures key { IfOk result (λ d. d.value.key ≡ key.now) }
-        ensures version { IfOk result (λ d. d.value.version ≡ self.now.registry.version) }
-        ensures base { IfOk result (λ d. is_delta key.now.query ≡ true → d.value.base ≡ self.now.queue.base) }
-        ensures true_now { IfOk result (λ d. (p : Past) → StandsFor self.now p → IsTrue d.value (history p)) }
-        ensures allowed { IfOk result (λ _. (p : Past) → StandsFor self.now p → refusal_of self.now.delta key.now.query (history p) ≡ None) }
-        ensures refused { IfErr result (λ e. e ≢ OutOfMemory → (p : Past) → StandsFor self.now p → refusal_of self.now.delta key.now.query (history p) ≡ Some e) }
+    /// The document that is asked for, written anew: none exactly where an app, a vip, a secure vip
+    /// or an instance is asked for and there is none. An app's name has to be in upper case. A delta
+    /// is written also where deltas are off. Refused only as `OutOfMemory`.
+    pub fn document(&self, key: &DocKey) -> Result<Option<Arc<Payload, Global>>, Fault>
+        ensures key { IfOk result (λ o. IfSome o (λ d. d.value.key ≡ key.now)) }
+        ensures version { IfOk result (λ o. IfSome o (λ d. d.value.version ≡ self.now.registry.version)) }
+        ensures base { IfOk result (λ o. IfSome o (λ d. is_delta key.now.query ≡ true → d.value.base ≡ self.now.queue.base)) }
+        ensures true_now { IfOk result (λ o. IfSome o (λ d. (p : Past) → StandsFor self.now p → IsTrue d.value (history p))) }
+        ensures absent { IfOk result (λ o. IfNone o ((p : Past) → StandsFor self.now p → is_absent (reg (history p)) (asked_by key.now.query) ≡ true)) }
+        ensures memory { IfErr result (λ e. e ≡ OutOfMemory) }
     {
         if key.query.is_delta() {
-            return Ok(self.load_delta(key)?);
+            self.delta_document(key)
+        } else {
+            self.held_document(key)
         }
-        Ok(self.load_held(key)?)
     }
 
-    fn load_delta(&self, key: &DocKey) -> Result<Arc<Payload, Global>, Fault>
+    fn delta_document(&self, key: &DocKey) -> Result<Option<Arc<Payload, Global>>, Fault>
         requires { is_delta key.now.query ≡ true }
-        ensures key { IfOk result (λ d. d.value.key ≡ key.now) }
-        ensures version { IfOk result (λ d. d.value.version ≡ self.now.registry.version) }
-        ensures base { IfOk result (λ d. d.value.base ≡ self.now.queue.base) }
-        ensures true_now { IfOk result (λ d. (p : Past) → StandsFor self.now p → IsTrue d.value (history p)) }
-        ensures allowed { IfOk result (λ _. (p : Past) → StandsFor self.now p → refusal_of self.now.delta key.now.query (history p) ≡ None) }
-        ensures refused { IfErr result (λ e. e ≢ OutOfMemory → (p : Past) → StandsFor self.now p → refusal_of self.now.delta key.now.query (history p) ≡ Some e) }
+        ensures key { IfOk result (λ o. IfSome o (λ d. d.value.key ≡ key.now)) }
+        ensures version { IfOk result (λ o. IfSome o (λ d. d.value.version ≡ self.now.registry.version)) }
+        ensures base { IfOk result (λ o. IfSome o (λ d. d.value.base ≡ self.now.queue.base)) }
+        ensures true_now { IfOk result (λ o. IfSome o (λ d. (p : Past) → StandsFor self.now p → IsTrue d.value (history p))) }
+        ensures absent { IfOk result (λ o. IfNone o ((p : Past) → StandsFor self.now p → is_absent (reg (history p)) (asked_by key.now.query) ≡ true)) }
+        ensures memory { IfErr result (λ e. e ≡ OutOfMemory) }
     {
-        if !self.delta {
-            return Err(Fault::DeltaDisabled);
-        }
         match self.text_of(key)? {
-            Some(text) => Ok(self.payload(key, self.queue.base(), text)?),
-            None => Err(Fault::NotFound),
+            Some(text) => Ok(Some(self.payload(key, self.queue.base(), text)?)),
+            None => Ok(None),
         }
     }
 
-    fn load_held(&self, key: &DocKey) -> Result<Arc<Payload, Global>, Fault>
+    fn held_document(&self, key: &DocKey) -> Result<Option<Arc<Payload, Global>>, Fault>
         requires { is_delta key.now.query ≡ false }
-        ensures key { IfOk result (λ d. d.value.key ≡ key.now) }
-        ensures version { IfOk result (λ d. d.value.version ≡ self.now.registry.version) }
-        ensures true_now { IfOk result (λ d. (h : List Entry) → registry.StandsFor self.now.registry h → IsTrue d.value h) }
-        ensures allowed { IfOk result (λ _. (h : List Entry) → registry.StandsFor self.now.registry h → refusal_of self.now.delta key.now.query h ≡ None) }
-        ensures refused { IfErr result (λ e. e ≢ OutOfMemory → (h : List Entry) → registry.StandsFor self.now.registry h → refusal_of self.now.delta key.now.query h ≡ Some e) }
+        ensures key { IfOk result (λ o. IfSome o (λ d. d.value.key ≡ key.now)) }
+        ensures version { IfOk result (λ o. IfSome o (λ d. d.value.version ≡ self.now.registry.version)) }
+        ensures true_now { IfOk result (λ o. IfSome o (λ d. (h : List Entry) → registry.StandsFor self.now.registry h → IsTrue d.value h)) }
+        ensures absent { IfOk result (λ o. IfNone o ((h : List Entry) → registry.StandsFor self.now.registry h → is_absent (reg h) (asked_by key.now.query) ≡ true)) }
+        ensures memory { IfErr result (λ e. e ≡ OutOfMemory) }
     {
         match self.text_of(key)? {
-            Some(text) => Ok(self.payload(key, self.registry.version(), text)?),
-            None => Err(Fault::NotFound),
+            Some(text) => Ok(Some(self.payload(key, self.registry.version(), text)?)),
+            None => Ok(None),
         }
     }
 
-    /// The document of an instance, as [`Core::load`] gives it.
+    /// The document of an instance, written anew. Refused as `NotFound` exactly where there is none,
+    /// and as `OutOfMemory`.
     pub fn instance(&self, key: &Key, form: Form) -> Result<Arc<Payload, Global>, Fault>
         ensures key { IfOk result (λ p. p.value.key ≡ doc_of_key key.now form) }
         ensures version { IfOk result (λ p. p.value.version ≡ self.now.registry.version) }
@@ -432,11 +432,14 @@ impl Core {
             query: Query::Instance(key.clone()?),
             form,
         };
-        Ok(self.load_held(&key)?)
+        match self.held_document(&key)? {
+            Some(doc) => Ok(doc),
+            None => Err(Fault::NotFound),
+        }
     }
 
-    /// The document of the instance of an id, as [`Core::load`] gives it: of several apps' the one
-    /// with the least app. Refused as `NotFound` exactly where there is none, and as `OutOfMemory`.
+    /// The document of the instance of an id, written anew: of several apps' the one with the least
+    /// app. Refused as `NotFound` exactly where there is none, and as `OutOfMemory`.
     pub fn by_id(&self, id: &str, form: Form) -> Result<Arc<Payload, Global>, Fault>
         ensures key { IfOk result (λ p. (h : List Entry) → registry.StandsFor self.now.registry h → doc_of_id id.now form h ≡ Some p.value.key) }
         ensures version { IfOk result (λ p. p.value.version ≡ self.now.registry.version) }

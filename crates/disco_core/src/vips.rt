@@ -1,17 +1,18 @@
 //! How the index of vips follows a change.
-ghost use Rattle.std.specs.Prelude.{◌≡◌, IfErr, IfSome, OnOk, Some};
+ghost use Rattle.std.specs.Prelude.{◌≡◌, IfErr, OnOk, Some, option_map};
 ghost use Rattle.std.specs.FinMap.{get};
 ghost use Rattle.disco_instance.specs.declared.fault.Fault.TheVariants.{OutOfMemory};
 ghost use Rattle.disco_history.specs.Change.{key_of, seen};
+ghost use Rattle.disco_history.specs.Held.{entry_of};
 ghost use Rattle.disco_history.specs.Registry.{put_of};
 ghost use Rattle.disco_index.specs.Vips.{IsIndexOf, IsSame, KeepsPlaces, TakesAny};
 ghost use Rattle.disco_registry.specs.Commit.{held_after};
 ghost use Rattle.disco_core.specs.Moves.{OthersStay};
 ghost use Rattle.disco_core.specs.State.{AddsAny, HasVipPlaces, IsSwept};
 
-use disco_history::Change;
+use disco_history::{Change, Held};
 use disco_index::VipIndex;
-use disco_instance::{Action, Fault, Key};
+use disco_instance::{Action, Fault};
 use disco_registry::Registry;
 
 /// Makes the places that a change needs. Refused only as `OutOfMemory`.
@@ -45,13 +46,12 @@ pub(crate) fn close(vips: &mut VipIndex, change: &Change)
     }
 }
 
-/// The instance of a key has no vip any more.
-fn take(vips: &mut VipIndex, registry: &Registry, key: &Key)
-    ensures vips { TakesAny (get registry.now.held key.now) vips.old vips.new }
+/// The instance of a held record has no vip any more.
+fn take(vips: &mut VipIndex, held: Option<&Held>)
+    ensures vips { TakesAny (option_map (λ h. entry_of h.now) held.entry) vips.old vips.new }
     ensures places { KeepsPlaces vips.old vips.new }
-    ensures own_key { IfSome (get registry.now.held key.now) (λ e. key_of e ≡ key.now) }
 {
-    if let Some(held) = registry.held(key) {
+    if let Some(held) = held {
         vips.take(&held.rec);
     }
 }
@@ -71,12 +71,12 @@ fn add(vips: &mut VipIndex, change: &Change)
     }
 }
 
-/// Gives back the places of the held record of a key that stand empty.
-fn sweep(vips: &mut VipIndex, registry: &Registry, key: &Key)
+/// Gives back the places of a held record that stand empty.
+fn sweep(vips: &mut VipIndex, held: Option<&Held>)
     ensures same { IsSame vips.old vips.new }
-    ensures swept { IsSwept vips.new (get registry.now.held key.now) }
+    ensures swept { IsSwept vips.new (option_map (λ h. entry_of h.now) held.entry) }
 {
-    if let Some(held) = registry.held(key) {
+    if let Some(held) = held {
         vips.sweep(&held.rec);
     }
 }
@@ -89,7 +89,8 @@ pub(crate) fn follow(vips: &mut VipIndex, registry: &Registry, change: &Change)
     ensures index { IsIndexOf vips.new (held_after registry.now.held (Some (seen change.now))) }
     ensures swept { IsSwept vips.new (get registry.now.held (key_of (seen change.now))) }
 {
-    take(vips, registry, change.key());
+    let held = registry.held(change.key());
+    take(vips, held);
     add(vips, change);
-    sweep(vips, registry, change.key());
+    sweep(vips, held);
 }

@@ -1,5 +1,5 @@
 -- What becomes of kept documents: those that a change doesn't name stay true.
-use Rattle.std.proofs.Common.{◌≡◌, ℕ, ◌+◌, ◌≤◌, ◌==◌, ◌&&◌, ◌||◌, not, Bool, true, false, cond, List, [], ◌∷◌, ◌++◌, length, map, ◌⊎◌, inl, inr, Option, Some, None, option_map, Result, Ok, Err, IfOk, OnErr, refl, sym, ap, subst, ◌∙◌, arith}
+use Rattle.std.proofs.Common.{◌≡◌, ℕ, ◌≤◌, ◌==◌, ◌&&◌, ◌||◌, not, Bool, true, false, cond, List, [], ◌∷◌, ◌++◌, ◌⊎◌, inl, inr, Option, Some, None, option_map, Result, Ok, Err, IfOk, OnErr, refl, sym, ap, subst, ◌∙◌, arith}
 use Rattle.std.proofs.lemmas.List.{length-append, map-append, take-append-le}
 use Rattle.std.proofs.lemmas.Option.{same_Some}
 use Rattle.std.specs.FinMap.{FinMap, empty, get, get-empty, get-insert, insert, len, values}
@@ -11,7 +11,7 @@ use Rattle.disco_instance.specs.Row.{Row}
 use Rattle.disco_instance.specs.declared.fault.Fault.{Fault}
 use Rattle.disco_instance.specs.declared.fault.Fault.TheVariants.{DeltaDisabled, NotFound}
 use Rattle.disco_instance.specs.declared.form.Form.{Form}
-use Rattle.disco_history.specs.Change.{Entry, front, key_of}
+use Rattle.disco_history.specs.Change.{Entry, key_of}
 use Rattle.disco_history.specs.Hash.{hash}
 use Rattle.disco_history.specs.Held.{record_at}
 use Rattle.disco_history.specs.Mentions.{delta}
@@ -19,10 +19,10 @@ use Rattle.disco_history.specs.Query.{asks_for, is_absent, is_named, may_be_empt
 use Rattle.disco_history.specs.Registry.{put_of, reg, said}
 use Rattle.disco_history.proofs.Sets.{get-said_reg}
 use Rattle.disco_history.proofs.Untouched.{untouched_law}
-use Rattle.disco_queue.specs.Timed.{Timed, changes}
+use Rattle.disco_queue.specs.Timed.{Timed}
 use Rattle.disco_registry.specs.Op.{Ask}
 use Rattle.disco_registry.specs.State as registry
-use Rattle.disco_writer.specs.Documents.{IsTrueFor, asked_by, hash_of, if_many, is_delta, kind, meaning_for, mentioned, told}
+use Rattle.disco_writer.specs.Documents.{IsTrueFor, asked_by, if_many, is_delta, kind, meaning_for, mentioned, told}
 use Rattle.disco_writer.specs.Rows.{mentions_in}
 use Rattle.disco_writer.specs.declared.query.Query.{Query}
 use Rattle.disco_writer.specs.declared.query.Query.TheVariants as query
@@ -32,7 +32,7 @@ use Rattle.disco_cache.specs.Payloads.{IsTrue}
 use Rattle.disco_cache.specs.declared.key.DocKey.{DocKey}
 use Rattle.disco_cache.specs.declared.payload.Payload.{Payload}
 use Rattle.disco_cache.proofs.Orders.{docs_total, exact_docs}
-use Rattle.disco_core.specs.Past.{Past, history, nothing, with_done}
+use Rattle.disco_core.specs.Past.{Past, history, with_done}
 use Rattle.disco_core.specs.Refusals.{refusal_of}
 use Rattle.disco_core.specs.State as core
 use Rattle.disco_hub.specs.Kept.{Forgets, KeepsAtMost}

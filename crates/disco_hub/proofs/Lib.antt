@@ -1,2 +1,7 @@
 mod Cancels
 mod Documents
+pub mod InStep
+pub mod KeySets
+mod NewKeys
+pub mod Notes
+pub mod Shown

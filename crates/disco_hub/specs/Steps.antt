@@ -7,6 +7,7 @@ use Rattle.disco_history.specs.Change.{Entry}
 use Rattle.disco_registry.specs.Op.{cancel}
 use Rattle.disco_hub.specs.Expiry.{cancel_of}
 use Rattle.disco_core.specs.Past.{Past, with_done}
+use Rattle.disco_hub.specs.Rounds.{Rounds}
 use Rattle.disco_hub.specs.State.{State, StandsFor, rules_of}
 
 -- one cancel is accepted, and the hub then stands for what has happened with it
@@ -16,3 +17,7 @@ Cancels old new now k = (p : Past) → StandsFor old p → (c : Option Entry) ×
 -- one cancel is refused, and the hub stands for what it stood for
 abbrev pub Declines : State → State → ℕ → Key → Fault → Type 0
 Declines old new now k e = (p : Past) → StandsFor old p → StandsFor new p × (e ≢ OutOfMemory → cancel_of (rules_of old) p now k ≡ Err e)
+
+-- what no operation moves: the rounds, and how many documents may be kept
+abbrev pub beside : State → Rounds × ℕ
+beside s = (s.rounds, s.docs.max)

@@ -4,7 +4,7 @@ ghost use Rattle.disco_instance.specs.declared.fault.Fault.TheVariants.{OutOfMem
 ghost use Rattle.disco_hub.specs.Expiry.{Expires};
 ghost use Rattle.disco_core.specs.Past.{Past, taken_in};
 ghost use Rattle.disco_hub.specs.State.{StandsFor, rules_of};
-ghost use Rattle.disco_hub.specs.Steps.{Cancels, Declines};
+ghost use Rattle.disco_hub.specs.Steps.{Cancels, Declines, beside};
 
 use crate::hub::Hub;
 use disco_instance::{Fault, Key};
@@ -35,6 +35,7 @@ fn cancel(hub: &mut Hub, key: &Key, now: u64) -> Result<Applied, Fault>
     ensures done { OnOk result (Cancels hub.old hub.new now key.now) }
     ensures refused { IfErr result (Declines hub.old hub.new now key.now) }
     ensures rules { rules_of hub.new ≡ rules_of hub.old }
+    ensures beside { beside hub.new ≡ beside hub.old }
 {
     let key = key.clone()?;
     hub.write(Op::Cancel(key), now)
@@ -43,6 +44,7 @@ fn cancel(hub: &mut Hub, key: &Key, now: u64) -> Result<Applied, Fault>
 fn cancel_all(hub: &mut Hub, keys: &[Key], now: u64) -> Expired
     ensures history { Expires hub.old hub.new now (λ _. keys.now) result.gone result.stopped }
     ensures rules { rules_of hub.new ≡ rules_of hub.old }
+    ensures beside { beside hub.new ≡ beside hub.old }
 {
     let mut gone = 0;
     for key in keys {
@@ -74,6 +76,7 @@ fn taken(alloc: Global, hub: &Hub, now: u64) -> Result<Vec<Key>, Fault>
 pub(crate) fn expire(alloc: Global, hub: &mut Hub, now: u64) -> Expired
     ensures history { Expires hub.old hub.new now (λ p. taken_in p now) result.gone result.stopped }
     ensures rules { rules_of hub.new ≡ rules_of hub.old }
+    ensures beside { beside hub.new ≡ beside hub.old }
 {
     match taken(alloc, hub, now) {
         Ok(keys) => cancel_all(hub, keys.as_slice(), now),

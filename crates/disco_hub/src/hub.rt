@@ -1,6 +1,7 @@
 //! The hub: one state behind all documents, with the documents that are kept.
-ghost use Rattle.std.specs.Prelude.{◌≡◌, ◌≢◌, ◌<◌, List, IfErr, IfOk, OnErr, OnOk, Ok, None, Some, length, map, true};
-ghost use Rattle.disco_instance.specs.declared.fault.Fault.TheVariants.{OutOfMemory};
+ghost use Rattle.std.specs.Prelude.{◌≡◌, ◌≢◌, ◌<◌, List, [], IfErr, IfNone, IfOk, IfSome, OnErr, OnOk, Ok, None, Some, is_some, length, map, option_map, slice_get, true};
+ghost use Rattle.std.specs.FinMap as finmap;
+ghost use Rattle.disco_instance.specs.declared.fault.Fault.TheVariants.{NoRound, OutOfMemory, RoundOpen};
 ghost use Rattle.disco_history.specs.Change.{Entry};
 ghost use Rattle.disco_registry.specs.Accept.{Refuses, accepts};
 ghost use Rattle.disco_registry.specs.Commit.{Takes, changes_properly, done_by};
@@ -12,10 +13,13 @@ ghost use Rattle.disco_core.specs.Past.{Past, cleaned, history, minute_closed, n
 ghost use Rattle.disco_core.specs.Refusals.{doc_of_id, doc_of_key, refusal_of, refusal_of_id};
 ghost use Rattle.disco_core.specs.State.{AddsNoPlaces, IsFor, IsReady, IsSweptAfter, change_in, moment_in, rules};
 ghost use Rattle.disco_hub.specs.Expiry.{Expires};
-ghost use Rattle.disco_hub.specs.State.{IsSame, MayServe, StandsFor, rules_of};
+ghost use Rattle.disco_hub.specs.Rounds.{Advances, Begins, Ends, StaysOpen, round_keys};
+ghost use Rattle.disco_hub.specs.State.{IsCopied, IsSame, MayServe, StandsFor, is_doc, rules_of};
 
+use crate::copied::Copied;
 use crate::expiry::{Expired, expire};
 use crate::keeping::{forget, keep};
+use crate::rounds::Rounds;
 use disco_cache::{DocCache, DocKey, Payload};
 use disco_core::{Core, Minute, Ready, Settings};
 use disco_instance::{Fault, Form, Key};
@@ -31,6 +35,7 @@ pub struct Hub {
     alloc: Global,
     core: Core,
     cache: DocCache,
+    rounds: Rounds,
 }
 
 impl Model for Hub {
@@ -42,7 +47,7 @@ impl Model for Hub {
 
     ghost coded = { Prim.hlevel (codes, code) };
 
-    ghost view = { λ h. record { core = h.core; docs = h.cache } };
+    ghost view = { λ h. record { core = h.core; docs = h.cache; rounds = h.rounds } };
 }
 
 impl Hub {
@@ -51,11 +56,13 @@ impl Hub {
         ensures empty { StandsFor result nothing }
         ensures rules { rules_of result ≡ rules settings.now }
         ensures room { result.docs.max ≡ settings.now.entries }
+        ensures rounds { result.rounds ≡ record { edition = finmap.empty; round = None } }
     {
         Hub {
             alloc,
             core: Core::new(alloc, settings),
             cache: DocCache::new(alloc, settings.entries),
+            rounds: Rounds::new(alloc),
         }
     }
 
@@ -91,6 +98,8 @@ impl Hub {
         ensures swept { IsSweptAfter self.old.core.registry.held (change_in ready) self.new.core.vips self.new.core.leases }
         ensures history { (p : Past) (ask : Ask) → IsFor self.old.core ready ask → StandsFor self.old p → StandsFor self.new (with_done (rules_of self.old).queue p (moment_in ready) ask (done_by result)) }
         ensures rules { rules_of self.new ≡ rules_of self.old }
+        ensures rounds { self.new.rounds ≡ self.old.rounds }
+        ensures room { self.new.docs.max ≡ self.old.docs.max }
     {
         forget(&mut self.cache, &self.core, &ready);
         self.core.commit(ready)
@@ -103,6 +112,8 @@ impl Hub {
         ensures proper { IfOk result (λ a. changes_properly a ≡ true) }
         ensures refused { IfErr result (Refuses self.old.core.registry (ask_of op) now) }
         ensures rules { rules_of self.new ≡ rules_of self.old }
+        ensures rounds { self.new.rounds ≡ self.old.rounds }
+        ensures room { self.new.docs.max ≡ self.old.docs.max }
         ensures history { IfOk result (λ a. (p : Past) → StandsFor self.old p → StandsFor self.new (with_done (rules_of self.old).queue p now (ask_of op) (done_by a))) }
         ensures refused_history { OnErr result ((p : Past) → StandsFor self.old p → StandsFor self.new p) }
         ensures swept { IfOk result (λ a. IsSweptAfter self.old.core.registry.held (done_by a) self.new.core.vips self.new.core.leases) }
@@ -119,6 +130,7 @@ impl Hub {
         ensures base { result ≡ self.new.core.queue.base }
         ensures registry { self.new.core.registry ≡ self.old.core.registry }
         ensures docs { self.new.docs ≡ self.old.docs }
+        ensures rounds { self.new.rounds ≡ self.old.rounds }
         ensures rules { rules_of self.new ≡ rules_of self.old }
         ensures history { (p : Past) → StandsFor self.old p → StandsFor self.new (cleaned (rules_of self.old).retention p now) }
     {
@@ -131,6 +143,7 @@ impl Hub {
         ensures kept { (p : Past) → StandsFor self.old p → result ≡ (minute_closed p).closed }
         ensures registry { self.new.core.registry ≡ self.old.core.registry }
         ensures docs { self.new.docs ≡ self.old.docs }
+        ensures rounds { self.new.rounds ≡ self.old.rounds }
         ensures rules { rules_of self.new ≡ rules_of self.old }
         ensures history { (p : Past) → StandsFor self.old p → StandsFor self.new (minute_closed p) }
     {
@@ -155,6 +168,8 @@ impl Hub {
     pub fn expire(&mut self, now: u64) -> Expired
         ensures history { Expires self.old self.new now (λ p. taken_in p now) result.gone result.stopped }
         ensures rules { rules_of self.new ≡ rules_of self.old }
+        ensures rounds { self.new.rounds ≡ self.old.rounds }
+        ensures room { self.new.docs.max ≡ self.old.docs.max }
     {
         expire(self.alloc, self, now)
     }
@@ -171,6 +186,7 @@ impl Hub {
         ensures history { (p : Past) → StandsFor self.old p → StandsFor self.new p }
         ensures core { self.new.core ≡ self.old.core }
         ensures room { self.new.docs.max ≡ self.old.docs.max }
+        ensures rounds { self.new.rounds ≡ self.old.rounds }
     {
         if key.query.is_delta() && !self.core.serves_deltas() {
             return Err(Fault::DeltaDisabled);
@@ -178,7 +194,9 @@ impl Hub {
         if let Some(doc) = self.cache.get(key) {
             return Ok(Arc::try_clone(doc)?);
         }
-        let doc = self.core.load(key)?;
+        let Some(doc) = self.core.document(key)? else {
+            return Err(Fault::NotFound);
+        };
         keep(&mut self.cache, &doc);
         Ok(doc)
     }
@@ -203,5 +221,106 @@ impl Hub {
         ensures refused { IfErr result (λ e. e ≢ OutOfMemory → (p : Past) → StandsFor self.now p → refusal_of_id id.now (history p) ≡ Some e) }
     {
         self.core.by_id(id, form)
+    }
+
+    /// Begins a round: a publisher copies one after another the keys of the edition, then those of
+    /// kept documents in their order until there are as many as may be kept. Answers how many keys
+    /// it has. Refused as `RoundOpen` in an open round, and as `OutOfMemory`.
+    pub fn begin(&mut self) -> Result<usize, Fault>
+        ensures begun { IfOk result (λ n. Begins (round_keys self.old.rounds.edition self.old.docs) n self.old.rounds self.new.rounds) }
+        ensures refused { IfErr result (λ e. e ≢ OutOfMemory → (e ≡ RoundOpen) × (self.old.rounds.round ≢ None)) }
+        ensures rest { self.new ≡ record self.old { rounds = self.new.rounds } }
+        ensures as_before { OnErr result (self.new ≡ self.old) }
+    {
+        self.rounds.begin(self.alloc, &self.cache)
+    }
+
+    /// What a copy of the first key that is left of the open round gives: its document, the kept one
+    /// or else one that is written now and not kept, or that there is none; nothing where no key is
+    /// left. The round stays as it was. Refused as `NoRound` where none is open, and as
+    /// `OutOfMemory`.
+    pub fn next_copy(&self) -> Result<Option<Copied>, Fault>
+        ensures copied { IfOk result (λ o. IfSome o (λ c. (p : Past) → StandsFor self.now p → IfSome self.now.rounds.round (λ r. IfSome (slice_get r.left 0) (λ k. IsCopied k c p)))) }
+        ensures next { IfOk result (λ o. IfSome self.now.rounds.round (λ r. is_some (slice_get r.left 0) ≡ is_some o)) }
+        ensures open { OnOk result (self.now.rounds.round ≢ None) }
+        ensures refused { IfErr result (λ e. e ≢ OutOfMemory → (e ≡ NoRound) × (self.now.rounds.round ≡ None)) }
+    {
+        match self.rounds.first()? {
+            Some(key) => Ok(Some(self.copied(key)?)),
+            None => Ok(None),
+        }
+    }
+
+    /// What a copy of a key gives.
+    fn copied(&self, key: &DocKey) -> Result<Copied, Fault>
+        ensures copied { IfOk result (λ c. (p : Past) → StandsFor self.now p → IsCopied key.now c p) }
+        ensures memory { IfErr result (λ e. e ≡ OutOfMemory) }
+    {
+        if let Some(doc) = self.cache.get(key) {
+            return Ok(Copied::Doc(Arc::try_clone(doc)?));
+        }
+        match self.core.document(key)? {
+            Some(doc) => Ok(Copied::Doc(doc)),
+            None => Ok(Copied::Drop(key.clone()?)),
+        }
+    }
+
+    /// Takes out the first key that is left of the open round; when the round is finished it is a
+    /// key of the edition exactly where it was kept. Takes no memory. Refused as `NoRound` where no
+    /// round is open or no key is left.
+    pub fn mark(&mut self, kept: bool) -> Result<(), Fault>
+        ensures marked { OnOk result (Advances kept self.old.rounds self.new.rounds) }
+        ensures refused { IfErr result (λ e. (e ≡ NoRound) × IfSome self.old.rounds.round (λ r. r.left ≡ [])) }
+        ensures rest { self.new ≡ record self.old { rounds = self.new.rounds } }
+        ensures as_before { OnErr result (self.new ≡ self.old) }
+    {
+        self.rounds.mark(kept)
+    }
+
+    /// Copies the first key that is left of the open round, as [`Hub::next_copy`] gives it, and takes
+    /// it out, kept where it has a document. Refused as that, and then all is as before.
+    pub fn copy_one(&mut self) -> Result<Option<Copied>, Fault>
+        ensures copied { IfOk result (λ o. IfSome o (λ c. (p : Past) → StandsFor self.old p → IfSome self.old.rounds.round (λ r. IfSome (slice_get r.left 0) (λ k. IsCopied k c p)))) }
+        ensures marked { IfOk result (λ o. IfSome o (λ c. Advances (is_doc c) self.old.rounds self.new.rounds)) }
+        ensures none { IfOk result (λ o. IfNone o ((self.new ≡ self.old) × IfSome self.old.rounds.round (λ r. r.left ≡ []) × (self.old.rounds.round ≢ None))) }
+        ensures refused { IfErr result (λ e. e ≢ OutOfMemory → (e ≡ NoRound) × (self.old.rounds.round ≡ None)) }
+        ensures rest { self.new ≡ record self.old { rounds = self.new.rounds } }
+        ensures as_before { OnErr result (self.new ≡ self.old) }
+    {
+        let Some(copied) = self.next_copy()? else {
+            return Ok(None);
+        };
+        self.mark(matches!(copied, Copied::Doc(_)))?;
+        Ok(Some(copied))
+    }
+
+    /// Ends an open round of which no key was copied. Takes no memory. Refused as `NoRound` where
+    /// there is no such round.
+    pub fn abandon(&mut self) -> Result<(), Fault>
+        ensures abandoned { OnOk result (IfSome self.old.rounds.round (λ r. r.done ≡ []) × (self.old.rounds.round ≢ None) × (self.new.rounds ≡ record self.old.rounds { round = None })) }
+        ensures refused { IfErr result (λ e. (e ≡ NoRound) × IfSome self.old.rounds.round (λ r. r.done ≢ [])) }
+        ensures rest { self.new ≡ record self.old { rounds = self.new.rounds } }
+        ensures as_before { OnErr result (self.new ≡ self.old) }
+    {
+        self.rounds.abandon()
+    }
+
+    /// How many keys of the open round are left, if one is open. Takes no memory.
+    pub fn round(&self) -> Option<usize>
+        ensures { result ≡ option_map (λ r. length r.left) self.now.rounds.round }
+    {
+        self.rounds.left()
+    }
+
+    /// Ends the open round: the edition's keys are those that had a document. Answers how many these
+    /// are. Takes no memory. Refused as `NoRound` where no round is open, and as `KeysLeft` where not
+    /// all of its keys were copied.
+    pub fn finish(&mut self) -> Result<usize, Fault>
+        ensures finished { IfOk result (λ n. Ends n self.old.rounds self.new.rounds) }
+        ensures refused { IfErr result (λ e. StaysOpen e self.old.rounds.round) }
+        ensures rest { self.new ≡ record self.old { rounds = self.new.rounds } }
+        ensures as_before { OnErr result (self.new ≡ self.old) }
+    {
+        self.rounds.finish()
     }
 }

@@ -9,7 +9,7 @@ there : (ks : List Key) (i : ℕ) (k : Key) → i < length ks → k ≡ get_or k
 there ks i k lt is = slice_get-get_or ks i k lt ∙ ap (λ y. Some y) (sym is)
 
 pub loop-key-init : goal.loop-key-init
-loop-key-init c = (refl, did_nothing c.args.hub.now c.args.now c.args.keys.now)
+loop-key-init c = (refl, did_nothing c.args.hub.now c.args.now c.args.keys.now, refl)
 
 pub loop-key-preserved : goal.loop-key-preserved
 loop-key-preserved c =
@@ -17,6 +17,7 @@ loop-key-preserved c =
     let k = c.key-item.result in (
       ap (λ n. n + 1) c.loop-key.invariant.0,
       did_more c.args.hub.now c.loop-key.hub c.cancel.new.hub c.args.now c.args.keys.now i k (there c.args.keys.now i k c.loop-key-test.true c.key-item.is) c.loop-key.invariant.1 c.in_default.ensures.done c.cancel.ensures.rules,
+      c.cancel.ensures.beside ∙ c.loop-key.invariant.2,
     )
 
 pub returns-in-Err-clause-history : goal.returns-in-Err-clause-history

@@ -11,7 +11,7 @@ returns-clause-history c = λ p ask is stands.
     let r = c.args.ready in
     let was = subst (λ (s : State). StandsFor s p) (sym c.self.view_is) stands in
     let most = c.self.inside.core.queue.max in
-    let new : State = record { core = c.commit.new.self; docs = c.forget.new.cache } in
+    let new : State = record { core = c.commit.new.self; docs = c.forget.new.cache; rounds = c.self.inside.rounds } in
     let docs = subst (λ o. AreKept c.forget.new.cache.docs (with_done most p (moment_in r) ask o)) (sym c.commit.ensures.change)
     (docs_after c.self.inside.core.registry p was.core.registry most (moment_in r) ask (change_in r) c.self.inside.cache c.forget.new.cache c.forget.ensures was.docs) in
     let on : StandsFor new (with_done most p (moment_in r) ask (done_by c.commit.result)) = record {

@@ -1,4 +1,4 @@
-use Rattle.std.proofs.Common.{◌≡◌, None, true, ap, rules, sym, subst, ◌∙◌}
+use Rattle.std.proofs.Common.{◌≡◌, None, true, ap, rules, sym, subst}
 use Rattle.disco_writer.specs.Documents.{is_delta}
 use Rattle.disco_cache.specs.declared.key.DocKey.{DocKey}
 use Rattle.disco_cache.specs.declared.payload.Payload.{Payload}
@@ -28,6 +28,9 @@ returns-in-Some-clause-allowed c = λ p stands.
 pub returns-clause-history : goal.returns-clause-history
 returns-clause-history c = λ p stands.
     let was = subst (λ (s : State). StandsFor s p) (sym c.self.view_is) stands in
-    let d = c.in_ok-doc.doc.value in
-    let may = written_now c.self.inside.core p d was.core (c.in_ok-doc.ensures.true_now p was.core) (λ of_delta. c.in_ok-doc.ensures.base (subst (λ (k : DocKey). is_delta k.query ≡ true) c.in_ok-doc.ensures.key of_delta)) in
+    let d = c.in-Some-2.doc.value in
+    let true_now = rw c.in-Some-2.is at c.in_ok-doc.ensures.true_now in
+    let base = rw c.in-Some-2.is at c.in_ok-doc.ensures.base in
+    let key = rw c.in-Some-2.is at c.in_ok-doc.ensures.key in
+    let may = written_now c.self.inside.core p d was.core (true_now p was.core) (λ of_delta. base (subst (λ (k : DocKey). is_delta k.query ≡ true) key of_delta)) in
     record { core = was.core; docs = keeps d c.self.inside.cache c.keep.new.cache p c.keep.ensures.kept may was.docs }

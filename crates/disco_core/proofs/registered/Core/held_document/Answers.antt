@@ -2,7 +2,7 @@ use Rattle.std.proofs.Common.{length, Option, Vec, Global, ℕ, option_map, subs
 use Rattle.disco_writer.specs.Documents.{IsWritten}
 use Rattle.disco_core.specs.State.{State}
 use Rattle.disco_core.proofs.Loads.{held_true, made}
-use Rattle.disco_core.proofs.registered.Core.load_held.Goals as goal
+use Rattle.disco_core.proofs.registered.Core.held_document.Goals as goal
 
 pub returns-in_ok-payload-in-Some-clause-true_now : goal.returns-in_ok-payload-in-Some-clause-true_now
 returns-in_ok-payload-in-Some-clause-true_now c = λ h stands.
