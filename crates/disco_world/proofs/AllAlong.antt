@@ -1,5 +1,6 @@
 -- After each event of a run, what clients can take is true of a version, and each copy means the version at which it is known.
-use Rattle.std.proofs.Common.{◌≡◌, ℕ, zero, suc, Bool, true, false, cond, eqb, List, [], ◌∷◌, ◌++◌, length, Option, Some, None, Result, Ok, Err, slice_get, refl, sym, ap, subst, ◌∙◌}
+use Rattle.std.specs.FinMap.{get}
+use Rattle.std.proofs.Common.{◌≡◌, ℕ, zero, suc, ◌≤◌, arith, Bool, true, false, cond, eqb, List, [], ◌∷◌, ◌++◌, length, Option, Some, None, Result, Ok, Err, slice_get, refl, sym, ap, subst, ◌∙◌}
 use Rattle.std.specs.declared.alloc.Global.{Global}
 use Rattle.std.specs.declared.sync.Arc.{Arc}
 use Rattle.std.proofs.lemmas.Option.{same_Some}
@@ -9,19 +10,22 @@ use Rattle.disco_registry.specs.Op.{Ask, cancel}
 use Rattle.disco_instance.specs.declared.key.Key.{Key}
 use Rattle.disco_queue.specs.Timed.{Timed, changes}
 use Rattle.disco_writer.specs.Documents.{is_delta}
+use Rattle.disco_cache.specs.declared.key.DocKey.{DocKey}
 use Rattle.disco_cache.specs.declared.payload.Payload.{Payload}
+use Rattle.disco_hub.specs.Press.{edition_of}
 use Rattle.disco_hub.specs.Expiry.{after_cancel, after_next, cancel_of, cancelled}
 use Rattle.disco_core.specs.Past.{Past, history, taken_in, with_done}
 use Rattle.disco_core.specs.State.{Rules}
 use Rattle.disco_world.specs.Answers.{AreAnswers, AreKnown, IsAnswer}
 use Rattle.disco_world.specs.Clients.{MeansVersion, taken}
-use Rattle.disco_world.specs.Events.{Deed, World, writes, loads, cleans, closes, expires, takes, shows, bad, after, after_run, after_at, after_write, clients_done, deed, doc_in, doc_of_event, done, for_clients, past_after, past_done, ran_out, takes_any, world}
+use Rattle.disco_world.specs.Events.{Deed, World, writes, loads, cleans, closes, expires, begins, copies, publishes, looks, takes, shows, bad, after, after_run, after_at, after_write, clients_done, deed, doc_in, doc_of_event, done, for_clients, past_after, past_done, ran_out, takes_any, world}
 use Rattle.disco_world.specs.Steps.{AreReadable}
 use Rattle.disco_world.specs.declared.clients.Client.{Client}
 use Rattle.disco_world.specs.declared.event.Event.{Event}
-use Rattle.disco_world.specs.declared.event.Event.TheVariants.{Register, Cancel, Renew, SetStatus, DropStatus, Metadata, Load, LoadById, Clean, Minute, Expire, Take, Show}
+use Rattle.disco_world.specs.declared.event.Event.TheVariants.{Register, Cancel, Renew, SetStatus, DropStatus, Metadata, Load, LoadById, Clean, Minute, Expire, Begin, Copy, Publish, Look, LookById, Take, Show}
 use Rattle.disco_world.specs.declared.event.Reply.{Reply}
-use Rattle.disco_world.specs.declared.event.Reply.TheVariants.{Changed, Same, Doc, Cleaned, Closed, Expired, Taken, Held, Refused}
+use Rattle.disco_world.specs.declared.event.Reply.TheVariants.{Changed, Same, Doc, Cleaned, Closed, Expired, Begun, Copied, Done, Published, Missed, Taken, Held, Refused}
+use Rattle.disco_world.proofs.Editions.{Sees, ShowsFresh, sees_at}
 use Rattle.disco_world.proofs.Histories.{Place, below, at, beyond, get_front, get_last, get_past, place_of}
 use Rattle.disco_world.proofs.Known.{Extends, IsOf, delta_means, extends_more, extends_on, extends_same, full_means, means_on, of_now, of_on, readable}
 
@@ -62,6 +66,11 @@ run_extends rules p now Same = extends_same (history p)
 run_extends rules p now (Doc d) = extends_same (history p)
 run_extends rules p now (Cleaned b) = extends_same (history p)
 run_extends rules p now (Closed minute) = extends_same (history p)
+run_extends rules p now (Begun n) = extends_same (history p)
+run_extends rules p now (Copied c) = extends_same (history p)
+run_extends rules p now Done = extends_same (history p)
+run_extends rules p now (Published n) = extends_same (history p)
+run_extends rules p now Missed = extends_same (history p)
 run_extends rules p now (Taken equal version) = extends_same (history p)
 run_extends rules p now (Held holdings) = extends_same (history p)
 run_extends rules p now (Refused e) = extends_same (history p)
@@ -72,11 +81,15 @@ done_extends rules p (expires now) r = run_extends rules p now r
 done_extends rules p (writes now asked) r = write_extends rules.queue p now asked (done rules p now asked)
 done_extends rules p (loads k) r = extends_same (history p)
 done_extends rules p (cleans now) r = extends_same (history p)
+done_extends rules p begins r = extends_same (history p)
+done_extends rules p copies r = extends_same (history p)
+done_extends rules p publishes r = extends_same (history p)
+done_extends rules p (looks key) r = extends_same (history p)
 done_extends rules p (takes client d) r = extends_same (history p)
 done_extends rules p (shows client) r = extends_same (history p)
 done_extends rules p bad r = extends_same (history p)
 
-past_extends : (rules : Rules) (p : Past) (what : Deed) (r : Reply) (b : Bool) → Extends (history p) (history (cond b p (past_done rules p what r)))
+pub past_extends : (rules : Rules) (p : Past) (what : Deed) (r : Reply) (b : Bool) → Extends (history p) (history (cond b p (past_done rules p what r)))
 past_extends rules p what r true = extends_same (history p)
 past_extends rules p what r false = done_extends rules p what r
 
@@ -85,6 +98,10 @@ past_extends rules p what r false = done_extends rules p what r
 pub record Holds (w : World) : Type 0 where
   pub docs : (k : ℕ) (d : Payload) → doc_of_event w.replies k ≡ Some d → IsOf (history w.past) d
   pub copies : (q : ℕ) (c : Client) → w.clients q ≡ Some c → MeansVersion (history w.past) c
+
+-- what readers see that a client can take is true of a version
+abbrev Seen : World → Type 0
+Seen w = (k : DocKey) (d : Payload) → get (edition_of w.press.published) k ≡ Some d → for_clients d.key.query ≡ true → IsOf (history w.past) d
 
 pub all_readable : (w : World) → Holds w → AreReadable w.replies
 all_readable w holds = λ k d is. readable (history w.past) d (holds.docs k d is)
@@ -110,6 +127,11 @@ good rules w (LoadById id form) holds = tt
 good rules w (Clean now) holds = tt
 good rules w Minute holds = tt
 good rules w (Expire now) holds = tt
+good rules w Begin holds = tt
+good rules w Copy holds = tt
+good rules w Publish holds = tt
+good rules w (Look key) holds = tt
+good rules w (LookById id form) holds = tt
 good rules w (Take client event) holds = take_good (history w.past) client (doc_of_event w.replies event) (holds.docs event)
 good rules w (Show client) holds = tt
 
@@ -119,33 +141,45 @@ kind_of : (d : Arc Payload Global) (e : Payload) (b : Bool) → for_clients d.va
 kind_of d e true kind is = (kind, same_Some _ _ is)
 kind_of d e false kind is = absurd (cc)
 
-served_is : (rules : Rules) (w : World) (what : Deed) (r : Reply) (d : Payload) → IsAnswer rules w what r → doc_in (Some r) ≡ Some d → IsOf (history w.past) d
-served_is rules w (loads k) (Doc p) d answer is =
+served_is : (rules : Rules) (w : World) → Seen w → (what : Deed) (r : Reply) (d : Payload) → IsAnswer rules w what r → doc_in (Some r) ≡ Some d → IsOf (history w.past) d
+served_is rules w seen (loads k) (Doc p) d answer is =
     let kind = kind_of p d (for_clients p.value.key.query) refl is in
-    subst (IsOf (history w.past)) kind.1 (of_now (history w.past) p.value answer.served.true_now kind.0)
-served_is rules w (writes now asked) (Doc p) d answer is = absurd answer
-served_is rules w (cleans now) (Doc p) d answer is = absurd answer
-served_is rules w closes (Doc p) d answer is = absurd answer
-served_is rules w (expires now) (Doc p) d answer is = absurd answer
-served_is rules w (takes client other) (Doc p) d answer is = absurd answer
-served_is rules w (shows client) (Doc p) d answer is = absurd answer
-served_is rules w bad (Doc p) d answer is = absurd answer
-served_is rules w what (Changed v) d answer is = absurd (cc)
-served_is rules w what Same d answer is = absurd (cc)
-served_is rules w what (Cleaned b) d answer is = absurd (cc)
-served_is rules w what (Closed minute) d answer is = absurd (cc)
-served_is rules w what (Expired run) d answer is = absurd (cc)
-served_is rules w what (Taken equal version) d answer is = absurd (cc)
-served_is rules w what (Held holdings) d answer is = absurd (cc)
-served_is rules w what (Refused e) d answer is = absurd (cc)
+    subst (IsOf (history w.past)) kind.1 (of_now (history w.past) p.value answer.1.true_now kind.0)
+served_is rules w seen (looks (Some k)) (Doc p) d answer is =
+    let kind = kind_of p d (for_clients p.value.key.query) refl is in
+    subst (IsOf (history w.past)) kind.1 (seen k p.value answer kind.0)
+served_is rules w seen (looks None) (Doc p) d answer is = absurd (cc)
+served_is rules w seen begins (Doc p) d answer is = absurd answer
+served_is rules w seen copies (Doc p) d answer is = absurd answer
+served_is rules w seen publishes (Doc p) d answer is = absurd answer
+served_is rules w seen (writes now asked) (Doc p) d answer is = absurd answer
+served_is rules w seen (cleans now) (Doc p) d answer is = absurd answer
+served_is rules w seen closes (Doc p) d answer is = absurd answer
+served_is rules w seen (expires now) (Doc p) d answer is = absurd answer
+served_is rules w seen (takes client other) (Doc p) d answer is = absurd answer
+served_is rules w seen (shows client) (Doc p) d answer is = absurd answer
+served_is rules w seen bad (Doc p) d answer is = absurd answer
+served_is rules w seen what (Changed v) d answer is = absurd (cc)
+served_is rules w seen what Same d answer is = absurd (cc)
+served_is rules w seen what (Cleaned b) d answer is = absurd (cc)
+served_is rules w seen what (Closed minute) d answer is = absurd (cc)
+served_is rules w seen what (Expired run) d answer is = absurd (cc)
+served_is rules w seen what (Begun n) d answer is = absurd (cc)
+served_is rules w seen what (Copied c) d answer is = absurd (cc)
+served_is rules w seen what Done d answer is = absurd (cc)
+served_is rules w seen what (Published n) d answer is = absurd (cc)
+served_is rules w seen what Missed d answer is = absurd (cc)
+served_is rules w seen what (Taken equal version) d answer is = absurd (cc)
+served_is rules w seen what (Held holdings) d answer is = absurd (cc)
+served_is rules w seen what (Refused e) d answer is = absurd (cc)
 
-docs_after : (rules : Rules) (w : World) (what : Deed) (r : Reply) → Holds w → IsAnswer rules w what r → (k : ℕ) (d : Payload) → doc_of_event (w.replies ++ r ∷ []) k ≡ Some d → IsOf (history w.past) d
-docs_after rules w what r holds answer zero d is = absurd (cc)
-docs_after rules w what r holds answer (suc i) d is = by (place_of i (length w.replies))
+docs_after : (rules : Rules) (w : World) → Seen w → (what : Deed) (r : Reply) → Holds w → IsAnswer rules w what r → (k : ℕ) (d : Payload) → doc_of_event (w.replies ++ r ∷ []) k ≡ Some d → IsOf (history w.past) d
+docs_after rules w seen what r holds answer zero d is = absurd (cc)
+docs_after rules w seen what r holds answer (suc i) d is = by (place_of i (length w.replies))
   where
     by : Place i (length w.replies) → IsOf (history w.past) d
     by (below lt) = holds.docs (suc i) d (ap doc_in (sym (get_front w.replies r i lt)) ∙ is)
-    by (at e) = served_is rules w what r d answer (ap doc_in (sym (get_last w.replies r) ∙ ap (slice_get (w.replies ++ r ∷ [])) (sym e)) ∙ is)
+    by (at e) = served_is rules w seen what r d answer (ap doc_in (sym (get_last w.replies r) ∙ ap (slice_get (w.replies ++ r ∷ [])) (sym e)) ∙ is)
     by (beyond lt) = absurd (let bad = ap doc_in (sym (get_past w.replies r i lt)) ∙ is in cc)
 
 -- ---- copies
@@ -170,6 +204,10 @@ copies_done h clients (cleans now) q c is means e = means q c e
 copies_done h clients closes q c is means e = means q c e
 copies_done h clients (expires now) q c is means e = means q c e
 copies_done h clients (shows client) q c is means e = means q c e
+copies_done h clients begins q c is means e = means q c e
+copies_done h clients copies q c is means e = means q c e
+copies_done h clients publishes q c is means e = means q c e
+copies_done h clients (looks key) q c is means e = means q c e
 copies_done h clients bad q c is means e = means q c e
 
 copies_after : (h : List Entry) (clients : ℕ → Option Client) (what : Deed) (r : Bool) (q : ℕ) (c : Client) → IsGood h what → ((q : ℕ) (o : Client) → clients q ≡ Some o → MeansVersion h o)
@@ -179,12 +217,12 @@ copies_after h clients what false q c is means e = copies_done h clients what q 
 
 -- ---- one event on, and all
 
-holds_after : (rules : Rules) (w : World) (e : Event) (r : Reply) → Holds w → IsAnswer rules w (deed rules w e) r → Holds (after rules w (deed rules w e) r)
-holds_after rules w e r holds answer =
+holds_after : (rules : Rules) (w : World) → Seen w → (e : Event) (r : Reply) → Holds w → IsAnswer rules w (deed rules w e) r → Holds (after rules w (deed rules w e) r)
+holds_after rules w seen e r holds answer =
     let what = deed rules w e in
     let ext = past_extends rules w.past what r (ran_out r) in
     record {
-      docs = λ k d is. of_on (history w.past) (history (past_after rules w.past what r)) d ext (docs_after rules w what r holds answer k d is);
+      docs = λ k d is. of_on (history w.past) (history (past_after rules w.past what r)) d ext (docs_after rules w seen what r holds answer k d is);
       copies = λ q c is. means_on (history w.past) (history (past_after rules w.past what r)) c ext (copies_after (history w.past) w.clients what (ran_out r) q c (good rules w e holds) holds.copies is);
     }
 
@@ -192,15 +230,40 @@ no_docs : (k : ℕ) (d : Payload) → doc_of_event [] k ≡ Some d → ⊥
 no_docs zero d is = cc
 no_docs (suc i) d is = cc
 
-one_on : (rules : Rules) (es : List Event) (rs : List Reply) → AreAnswers rules es rs → (i : ℕ) → Holds (world rules es rs i) → (e : Option Event) → slice_get es i ≡ e → (r : Option Reply) → slice_get rs i ≡ r → Holds (after_at rules (world rules es rs i) e r)
-one_on rules es rs answers i holds (Some e) event (Some r) reply = holds_after rules (world rules es rs i) e r holds (answers i e r event reply)
-one_on rules es rs answers i holds None event r reply = holds
-one_on rules es rs answers i holds (Some e) event None reply = holds
+-- ---- a history goes on from event to event
 
-pub holds_at : (rules : Rules) (es : List Event) (rs : List Reply) → AreAnswers rules es rs → (i : ℕ) → Holds (world rules es rs i)
+world_extends : (rules : Rules) (w : World) (e : Option Event) (r : Option Reply) → Extends (history w.past) (history (after_at rules w e r).past)
+world_extends rules w (Some e) (Some r) = past_extends rules w.past (deed rules w e) r (ran_out r)
+world_extends rules w None r = extends_same (history w.past)
+world_extends rules w (Some e) None = extends_same (history w.past)
+
+on_to : (rules : Rules) (es : List Event) (rs : List Reply) (j i : ℕ) → (j ≤ i → Extends (history (world rules es rs j).past) (history (world rules es rs i).past)) → Place j (suc i) → j ≤ suc i
+    → Extends (history (world rules es rs j).past) (history (world rules es rs (suc i)).past)
 unfolding world
-holds_at rules es rs answers zero = record { docs = λ k d is. absurd (no_docs k d is); copies = λ q c is. absurd (cc) }
-holds_at rules es rs answers (suc i) = one_on rules es rs answers i (holds_at rules es rs answers i) (slice_get es i) refl (slice_get rs i) refl
+on_to rules es rs j i so (below lt) le = extends_on _ _ _ (so (omega (arith, lt))) (world_extends rules (world rules es rs i) (slice_get es i) (slice_get rs i))
+on_to rules es rs j i so (at is) le = subst (λ n. Extends (history (world rules es rs n).past) (history (world rules es rs (suc i)).past)) (sym is) (extends_same (history (world rules es rs (suc i)).past))
+on_to rules es rs j i so (beyond lt) le = absurd (omega (arith, lt, le))
 
-pub known : (rules : Rules) (es : List Event) (rs : List Reply) → AreAnswers rules es rs → AreKnown rules es rs
-known rules es rs answers = λ i client c is. (holds_at rules es rs answers i).copies client c is
+between : (rules : Rules) (es : List Event) (rs : List Reply) (j i : ℕ) → j ≤ i → Extends (history (world rules es rs j).past) (history (world rules es rs i).past)
+between rules es rs j zero le = let is : 0 ≡ j = omega (arith, le) in subst (λ n. Extends (history (world rules es rs n).past) (history (world rules es rs 0).past)) is (extends_same (history (world rules es rs 0).past))
+between rules es rs j (suc i) le = on_to rules es rs j i (between rules es rs j i) (place_of j (suc i)) le
+
+seen_at : (rules : Rules) (es : List Event) (rs : List Reply) (i : ℕ) → Sees rules es rs i → Seen (world rules es rs i)
+seen_at rules es rs i sees = λ k d is kind.
+    let was = sees.sees.shown k d is in
+    of_on (history (world rules es rs was.after).past) (history (world rules es rs i).past) d (between rules es rs was.after i was.within) (of_now (history (world rules es rs was.after).past) d was.served.true_now kind)
+
+one_on : (rules : Rules) (es : List Event) (rs : List Reply) → AreAnswers rules es rs → (i : ℕ) → Seen (world rules es rs i) → Holds (world rules es rs i) → (e : Option Event) → slice_get es i ≡ e → (r : Option Reply) → slice_get rs i ≡ r → Holds (after_at rules (world rules es rs i) e r)
+one_on rules es rs answers i seen holds (Some e) event (Some r) reply = holds_after rules (world rules es rs i) seen e r holds (answers i e r event reply)
+one_on rules es rs answers i seen holds None event r reply = holds
+one_on rules es rs answers i seen holds (Some e) event None reply = holds
+
+pub holds_at : (rules : Rules) (es : List Event) (rs : List Reply) → AreAnswers rules es rs → (i : ℕ) → ((j : ℕ) → j ≤ i → ShowsFresh rules es rs j) → Holds (world rules es rs i)
+unfolding world
+holds_at rules es rs answers zero fresh = record { docs = λ k d is. absurd (no_docs k d is); copies = λ q c is. absurd (cc) }
+holds_at rules es rs answers (suc i) fresh =
+    let before : (j : ℕ) → j ≤ i → ShowsFresh rules es rs j = λ j le. fresh j (omega (arith, le)) in
+    one_on rules es rs answers i (seen_at rules es rs i (sees_at rules es rs answers i before)) (holds_at rules es rs answers i before) (slice_get es i) refl (slice_get rs i) refl
+
+pub known : (rules : Rules) (es : List Event) (rs : List Reply) → AreAnswers rules es rs → ((i : ℕ) → ShowsFresh rules es rs i) → AreKnown rules es rs
+known rules es rs answers fresh = λ i client c is. (holds_at rules es rs answers i (λ j le. fresh j)).copies client c is

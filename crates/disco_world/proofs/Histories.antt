@@ -1,14 +1,25 @@
 -- Runs of events, one event on.
-use Rattle.std.proofs.Common.{◌≡◌, ℕ, zero, suc, ◌+◌, ◌<◌, ◌≤◌, List, [], ◌∷◌, ◌++◌, length, get_or, Option, Some, None, slice_get, refl, sym, ap, subst, ◌∙◌, arith, length-append, add-one}
+use Rattle.std.proofs.Common.{◌≡◌, ℕ, zero, suc, ◌+◌, ◌<◌, ◌≤◌, List, [], ◌∷◌, ◌++◌, length, get_or, Option, Some, None, IfSome, Result, slice_get, refl, sym, ap, subst, ◌∙◌, arith, length-append, add-one}
 use Rattle.std.specs.declared.alloc.Global.{Global}
 use Rattle.std.specs.declared.sync.Arc.{Arc}
 use Rattle.std.proofs.lemmas.Option.{slice_get-get_or, same_Some}
 use Rattle.disco_cache.specs.declared.payload.Payload.{Payload}
 use Rattle.disco_core.specs.State.{Rules}
-use Rattle.disco_hub.specs.State.{State, StandsFor, rules_of}
-use Rattle.disco_world.specs.Answers.{AreAnswers, AreServed, IsAnswer, IsFirstBadEvent, IsServed}
+use Rattle.disco_core.specs.Past.{history, nothing}
+use Rattle.disco_hub.specs.Press.{IsPublishable, Note, copied_in}
+use Rattle.disco_hub.specs.Rounds.{KeySet, Round, Rounds}
+use Rattle.disco_hub.specs.State.{MayServe, StandsFor, rules_of}
+use Rattle.disco_hub.proofs.InStep.{nothing_noted}
+use Rattle.disco_world.specs.Rounds.{new_press}
+use Rattle.std.specs.FinMap.{empty}
+use Rattle.disco_world.specs.Answers.{AreAnswers, AreServed, IsAnswer, IsFirstBadEvent, IsPressed, IsServed, key_asked}
+use Rattle.disco_world.specs.Levels.{AreLevelsOf}
+use Rattle.disco_world.specs.declared.levels.Levels.{Levels}
+use Rattle.disco_world.proofs.Editions.{Sees, ShowsFresh, sees_at}
+use Rattle.disco_instance.specs.declared.fault.Fault.{Fault}
 use Rattle.disco_instance.specs.declared.fault.Fault.TheVariants.{BadEvent}
-use Rattle.disco_world.specs.Events.{Deed, World, writes, loads, cleans, closes, expires, takes, shows, bad, after, after_at, clients_after, deed, past_after, world}
+use Rattle.disco_cache.specs.declared.key.DocKey.{DocKey}
+use Rattle.disco_world.specs.Events.{Deed, World, writes, loads, cleans, closes, expires, begins, copies, publishes, looks, takes, shows, bad, after, after_at, clients_after, deed, new_world, world}
 use Rattle.disco_world.specs.Steps.{AreHeld}
 use Rattle.disco_world.specs.declared.clients.Client.{Client}
 use Rattle.disco_world.specs.declared.event.Event.{Event}
@@ -69,18 +80,23 @@ world-suc : (rules : Rules) (es : List Event) (rs : List Reply) (i : ℕ) (e : E
 unfolding world
 world-suc rules es rs i e r event reply = ap (world rules es rs) (add-one i) ∙ (λ k. after_at rules (world rules es rs i) (event k) (reply k))
 
+-- what was noted is as it has to be after the first k events
+abbrev pub IsPressedAt : Rules → List Event → List Reply → ℕ → Type 0
+IsPressedAt rules es rs k = let w = world rules es rs k in (edition : KeySet) × (round : Option Round) × IsPressed w.press (history w.past) edition round
+
 -- what is true of a run after its first i events
-pub record IsRun (rules : Rules) (es : List Event) (rs : List Reply) (i : ℕ) (s : State) (clients : ℕ → Option Client) : Type 0 where
+pub record IsRun (rules : Rules) (es : List Event) (rs : List Reply) (i : ℕ) (s : Levels) (clients : ℕ → Option Client) : Type 0 where
   pub count : length rs ≡ i
-  pub stands : StandsFor s (world rules es rs i).past
+  pub levels : AreLevelsOf s (world rules es rs i)
+  pub pressed : (k : ℕ) → k ≤ i → IsPressedAt rules es rs k
   pub held : AreHeld clients (world rules es rs i)
   pub replies : (world rules es rs i).replies ≡ rs
-  pub rules_are : rules_of s ≡ rules
+  pub rules_are : rules_of s.hub ≡ rules
   pub answers : AreAnswers rules es rs
 
 -- what one event more answers and leaves
-abbrev pub Goes : Rules → World → Event → Reply → State → (ℕ → Option Client) → Type 0
-Goes rules w e r new clients = let what = deed rules w e in IsAnswer rules w what r × StandsFor new (past_after rules w.past what r) × AreHeld clients (record w { clients = clients_after w.clients what r })
+abbrev pub Goes : Rules → World → Event → Reply → Levels → (ℕ → Option Client) → Type 0
+Goes rules w e r new clients = let what = deed rules w e in IsAnswer rules w what r × AreLevelsOf new (after rules w what r) × AreHeld clients (record w { clients = clients_after w.clients what r })
 
 module _ (rules : Rules) (es : List Event) (rs : List Reply) (i : ℕ) (e : Event) (r : Reply) (count : length rs ≡ i) (event : slice_get es i ≡ Some e) where
   last_reply : slice_get (rs ++ r ∷ []) i ≡ Some r
@@ -107,14 +123,23 @@ module _ (rules : Rules) (es : List Event) (rs : List Reply) (i : ℕ) (e : Even
   pub answers_more : answers_event rules (world rules es rs i) e r → AreAnswers rules es rs → AreAnswers rules es (rs ++ r ∷ [])
   answers_more here so_far = λ k f q ev rep. answer_at here so_far k f q ev rep (place_of k (length rs))
 
-  pub run_more : (old new : State) (held now : ℕ → Option Client) → IsRun rules es rs i old held
-      → ((w : World) → w.replies ≡ rs → AreHeld held w → StandsFor old w.past → Goes (rules_of old) w e r new now) → rules_of new ≡ rules_of old → IsRun rules es (rs ++ r ∷ []) (i + 1) new now
+  pressed_at : (new : Levels) → AreLevelsOf new (after_event rules (world rules es rs i) e r) → ((k : ℕ) → k ≤ i → IsPressedAt rules es rs k) → (k : ℕ) → k ≤ i + 1 → Place k (i + 1) → IsPressedAt rules es (rs ++ r ∷ []) k
+  pressed_at new levels so_far k le (below lt) =
+      subst (λ (w : World). (edition : KeySet) × (round : Option Round) × IsPressed w.press (history w.past) edition round) (sym (same_front k (omega (arith, lt, count)))) (so_far k (omega (arith, lt)))
+  pressed_at new levels so_far k le (at is) =
+      subst (λ n. IsPressedAt rules es (rs ++ r ∷ []) n) (sym is)
+      (subst (λ (w : World). (edition : KeySet) × (round : Option Round) × IsPressed w.press (history w.past) edition round) (sym world_next) (new.hub.rounds.edition, new.hub.rounds.round, levels.pressed))
+  pressed_at new levels so_far k le (beyond lt) = absurd (omega (arith, le, lt))
+
+  pub run_more : (old new : Levels) (held now : ℕ → Option Client) → IsRun rules es rs i old held
+      → ((w : World) → w.replies ≡ rs → AreHeld held w → AreLevelsOf old w → Goes (rules_of old.hub) w e r new now) → rules_of new.hub ≡ rules_of old.hub → IsRun rules es (rs ++ r ∷ []) (i + 1) new now
   run_more old new held now run goes same =
       let w = world rules es rs i in
-      let done : Goes rules w e r new now = subst (λ l. Goes l w e r new now) run.rules_are (goes w run.replies run.held run.stands) in
+      let done : Goes rules w e r new now = subst (λ l. Goes l w e r new now) run.rules_are (goes w run.replies run.held run.levels) in
       record {
         count = length-append rs (r ∷ []) ∙ ap (λ n. n + 1) count;
-        stands = subst (λ (x : World). StandsFor new x.past) (sym world_next) done.1;
+        levels = subst (AreLevelsOf new) (sym world_next) done.1;
+        pressed = λ k le. pressed_at new done.1 run.pressed k le (place_of k (i + 1));
         held = subst (AreHeld now) (sym world_next) done.2;
         replies = ap (λ (x : World). x.replies) world_next ∙ ap (λ xs. xs ++ r ∷ []) run.replies;
         rules_are = same ∙ run.rules_are;
@@ -123,31 +148,55 @@ module _ (rules : Rules) (es : List Event) (rs : List Reply) (i : ℕ) (e : Even
 
 -- ---- served documents
 
--- a deed that serves a document leaves what has happened to the registry
-kept : (rules : Rules) (w : World) (what : Deed) (d : Arc Payload Global) → IsAnswer rules w what (Doc d) → IsServed what (past_after rules w.past what (Doc d)) d.value
-kept rules w (loads asked) d is = is
-kept rules w (writes now asked) d is = absurd is
-kept rules w (cleans now) d is = absurd is
-kept rules w closes d is = absurd is
-kept rules w (expires now) d is = absurd is
-kept rules w (takes client p) d is = absurd is
-kept rules w (shows client) d is = absurd is
-kept rules w bad d is = absurd is
+-- a document that is answered comes from a load or a look, after which what readers see is as before
+load_or_look : (rules : Rules) (es : List Event) (rs : List Reply) (i : ℕ) → Sees rules es rs i → (what : Deed) (d : Arc Payload Global) → IsAnswer rules (world rules es rs i) what (Doc d)
+    → (v : World) → world rules es rs (i + 1) ≡ v → v ≡ after rules (world rules es rs i) what (Doc d) → IsServed rules es rs i what d.value
+load_or_look rules es rs i sees (loads asked) d answer v next is =
+    let same : world rules es rs (i + 1) ≡ after rules (world rules es rs i) (loads asked) (Doc d) = next ∙ is in record {
+      after = i + 1;
+      floor = omega (arith, ap (λ (w : World). w.press.floor) same, sees.sees.floor, sees.count);
+      within = omega arith;
+      load = λ _. refl;
+      asked = ap (λ (a : Result DocKey Fault). key_asked (loads a)) answer.0;
+      served = subst (λ (w : World). MayServe d.value w.past) (sym same) answer.1;
+    }
+load_or_look rules es rs i sees (looks (Some k)) d answer v next is =
+    let was = sees.sees.shown k d.value answer in
+    let same : world rules es rs (i + 1) ≡ after rules (world rules es rs i) (looks (Some k)) (Doc d) = next ∙ is in record {
+      after = was.after;
+      floor = omega (arith, ap (λ (w : World). w.press.floor) same, was.since);
+      within = omega (arith, was.within);
+      load = λ loads. absurd (cc);
+      asked = ap Some (sym was.key);
+      served = was.served;
+    }
+load_or_look rules es rs i sees (looks None) d answer v next is = absurd (cc)
+load_or_look rules es rs i sees (writes now asked) d answer v next is = absurd answer
+load_or_look rules es rs i sees (cleans now) d answer v next is = absurd answer
+load_or_look rules es rs i sees closes d answer v next is = absurd answer
+load_or_look rules es rs i sees (expires now) d answer v next is = absurd answer
+load_or_look rules es rs i sees begins d answer v next is = absurd answer
+load_or_look rules es rs i sees copies d answer v next is = absurd answer
+load_or_look rules es rs i sees publishes d answer v next is = absurd answer
+load_or_look rules es rs i sees (takes client p) d answer v next is = absurd answer
+load_or_look rules es rs i sees (shows client) d answer v next is = absurd answer
+load_or_look rules es rs i sees bad d answer v next is = absurd answer
 
 in_range : {A : Type 0} (xs : List A) (i : ℕ) (x : A) → slice_get xs i ≡ Some x → i < length xs
 in_range [] i x is = absurd (cc)
 in_range (y ∷ xs) zero x is = omega arith
 in_range (y ∷ xs) (suc i) x is = omega (arith, in_range xs i x is)
 
-pub served : (rules : Rules) (es : List Event) (rs : List Reply) → AreAnswers rules es rs → AreServed rules es rs
-served rules es rs answers = λ i e d event is.
-    let w = world rules es rs i in
-    subst (λ (x : World). IsServed (deed rules w e) x.past d.value) (sym (world-suc rules es rs i e (Doc d) event is)) (kept rules w (deed rules w e) d (answers i e (Doc d) event is))
+pub served : (rules : Rules) (es : List Event) (rs : List Reply) → AreAnswers rules es rs → ((i : ℕ) → i ≤ length rs → ShowsFresh rules es rs i) → AreServed rules es rs
+served rules es rs answers fresh = λ i e d event is.
+    let lt = in_range rs i (Doc d) is in
+    let sees = sees_at rules es rs answers i (λ j le. fresh j (omega (arith, le, lt))) in
+    load_or_look rules es rs i sees (deed rules (world rules es rs i) e) d (answers i e (Doc d) event is) _ refl (world-suc rules es rs i e (Doc d) event is)
 
 -- ---- the first event that can't be run
 
-pub first_bad : (rules : Rules) (es : List Event) (rs : List Reply) (i : ℕ) (e : Event) (n : ℕ) (s : State) (held : ℕ → Option Client) → IsRun rules es rs i s held → slice_get es i ≡ Some e → n ≡ length rs
-    → ((w : World) → w.replies ≡ rs → deed (rules_of s) w e ≡ bad) → IsFirstBadEvent rules es (BadEvent (n + 1))
+pub first_bad : (rules : Rules) (es : List Event) (rs : List Reply) (i : ℕ) (e : Event) (n : ℕ) (s : Levels) (held : ℕ → Option Client) → IsRun rules es rs i s held → slice_get es i ≡ Some e → n ≡ length rs
+    → ((w : World) → w.replies ≡ rs → deed (rules_of s.hub) w e ≡ bad) → IsFirstBadEvent rules es (BadEvent (n + 1))
 first_bad rules es rs i e n s held run event number is = record {
   replies = rs;
   event = e;
@@ -165,3 +214,59 @@ at_index xs i x lt is = slice_get-get_or xs i x lt ∙ ap (λ y. Some y) (sym is
 
 pub no_answers : (rules : Rules) (es : List Event) (rs : List Reply) → rs ≡ [] → AreAnswers rules es rs
 no_answers rules es rs none = λ i event reply ev is. absurd (let bad = ap (λ xs. slice_get xs i) (sym none) ∙ is in cc)
+
+-- ---- nothing has happened yet
+
+pressed_first : IsPressed new_press [] empty None
+pressed_first = record { changes = refl; legal = λ before n after is. absurd (nothing_before before n after is); publishable = refl; in_step = nothing_noted; keys = refl }
+  where
+    nothing_before : (before : List Note) (n : Note) (after : List Note) → [] ≡ before ++ n ∷ after → ⊥
+    nothing_before [] n after is = absurd (cc)
+    nothing_before (x ∷ before) n after is = absurd (cc)
+
+pub new_levels : (s : Levels) → StandsFor s.hub nothing → s.hub.rounds ≡ record { edition = empty; round = None } → s.published ≡ empty → AreLevelsOf s new_world
+new_levels s stands rounds published = record {
+  stands = stands;
+  pressed = subst (λ (r : Rounds). IsPressed new_press [] r.edition r.round) (sym rounds) pressed_first;
+  published = published;
+  next = subst (λ (r : Rounds). IfSome r.round (λ _. s.next ≡ copied_in [])) (sym rounds) tt;
+}
+
+pub new_pressed : (rules : Rules) (es : List Event) (rs : List Reply) (k : ℕ) → k ≤ 0 → IsPressedAt rules es rs k
+unfolding world
+new_pressed rules es rs zero le = (empty, None, pressed_first)
+new_pressed rules es rs (suc k) le = absurd (omega (arith, le))
+
+-- ---- past the last reply nothing happens
+
+get_beyond : {A : Type 0} (xs : List A) (i : ℕ) → length xs ≤ i → slice_get xs i ≡ None
+get_beyond [] zero le = refl
+get_beyond [] (suc i) le = refl
+get_beyond (x ∷ xs) zero le = absurd (omega (arith, le))
+get_beyond (x ∷ xs) (suc i) le = get_beyond xs i (omega (arith, le))
+
+stays_one : (rules : Rules) (w : World) (e : Option Event) (r : Option Reply) → r ≡ None → after_at rules w e r ≡ w
+stays_one rules w None r none = refl
+stays_one rules w (Some e) r none = ap (after_at rules w (Some e)) none
+
+world_stays : (rules : Rules) (es : List Event) (rs : List Reply) (k : ℕ) → length rs ≤ k → world rules es rs (suc k) ≡ world rules es rs k
+unfolding world
+world_stays rules es rs k le = stays_one rules (world rules es rs k) (slice_get es k) (slice_get rs k) (get_beyond rs k le)
+
+ends_so : (rules : Rules) (es : List Event) (rs : List Reply) (k : ℕ) → (length rs ≤ k → world rules es rs k ≡ world rules es rs (length rs)) → Place (length rs) (suc k) → length rs ≤ suc k → world rules es rs (suc k) ≡ world rules es rs (length rs)
+ends_so rules es rs k so (below lt) le = world_stays rules es rs k (omega (arith, lt)) ∙ so (omega (arith, lt))
+ends_so rules es rs k so (at is) le = ap (world rules es rs) (sym is)
+ends_so rules es rs k so (beyond lt) le = absurd (omega (arith, lt, le))
+
+world_end : (rules : Rules) (es : List Event) (rs : List Reply) (k : ℕ) → length rs ≤ k → world rules es rs k ≡ world rules es rs (length rs)
+world_end rules es rs zero le = let is : 0 ≡ length rs = omega (arith, le) in ap (world rules es rs) is
+world_end rules es rs (suc k) le = ends_so rules es rs k (world_end rules es rs k) (place_of (length rs) (suc k)) le
+
+-- what readers see may be published after any number of events
+pub always_fresh : (rules : Rules) (es : List Event) (rs : List Reply) → ((k : ℕ) → k ≤ length rs → IsPressedAt rules es rs k) → (i : ℕ) → ShowsFresh rules es rs i
+always_fresh rules es rs pressed i = one (place_of i (length rs))
+  where
+    one : Place i (length rs) → ShowsFresh rules es rs i
+    one (below lt) = (pressed i (omega (arith, lt))).2.publishable
+    one (at is) = (pressed i (omega (arith, is))).2.publishable
+    one (beyond lt) = subst (λ (w : World). IsPublishable w.press.published) (sym (world_end rules es rs i (omega (arith, lt)))) (pressed (length rs) (omega arith)).2.publishable

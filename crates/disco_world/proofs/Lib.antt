@@ -1,6 +1,9 @@
 mod AllAlong
+mod Editions
 mod Histories
 mod Known
 mod Shown
+mod Taken
 mod Taking
+mod Turning
 mod Writes

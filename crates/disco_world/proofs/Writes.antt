@@ -1,5 +1,5 @@
 -- What a hub answers to a write, and what it stands for then.
-use Rattle.std.proofs.Common.{◌≡◌, ◌≢◌, ℕ, ◌+◌, ◌==◌, Bool, true, false, cond, [], ◌∷◌, length, Option, Some, Result, Ok, Err, IfOk, IfErr, OnErr, refl, sym, ap, subst, ◌∙◌}
+use Rattle.std.proofs.Common.{◌≡◌, ◌≢◌, ℕ, ◌+◌, ◌==◌, Bool, true, false, cond, [], ◌∷◌, ◌++◌, length, map, Option, Some, None, Result, Ok, Err, IfOk, IfErr, OnErr, refl, sym, ap, subst, ◌∙◌}
 use Rattle.std.proofs.lemmas.List.{length-append, length-map}
 use Rattle.disco_instance.specs.Fault.{fault_number}
 use Rattle.disco_instance.specs.Instance.{Gives}
@@ -8,7 +8,13 @@ use Rattle.disco_instance.specs.declared.fault.Fault.TheVariants.{OutOfMemory}
 use Rattle.disco_history.specs.Change.{Entry}
 use Rattle.disco_core.specs.Past.{Past, history, with_done}
 use Rattle.disco_core.specs.State.{Rules}
-use Rattle.disco_hub.specs.State.{State, StandsFor, rules_of}
+use Rattle.disco_hub.specs.Press.{change}
+use Rattle.disco_hub.specs.State.{MayServe, State, StandsFor, rules_of}
+use Rattle.disco_core.specs.Refusals.{refusal_of}
+use Rattle.disco_cache.specs.declared.key.DocKey.{DocKey}
+use Rattle.disco_cache.specs.declared.payload.Payload.{Payload}
+use Rattle.std.specs.declared.alloc.Global.{Global}
+use Rattle.std.specs.declared.sync.Arc.{Arc}
 use Rattle.disco_registry.specs.Accept.{Refuses, accept_after, accepts}
 use Rattle.disco_registry.specs.Commit.{done_by}
 use Rattle.disco_registry.specs.Op.{Ask}
@@ -17,10 +23,14 @@ use Rattle.disco_registry.specs.declared.op.Applied.TheVariants as applied
 use Rattle.disco_registry.proofs.Histories.{accepts_after}
 use Rattle.disco_queue.specs.Timed.{Timed}
 use Rattle.disco_world.specs.Answers.{IsAnswer}
-use Rattle.disco_world.specs.Events.{Deed, World, clients_after, clients_done, past_after, past_done, ran_out, writes, after_write, done}
+use Rattle.disco_world.specs.Events.{Deed, World, after, changes_since, clients_after, clients_done, past_after, past_done, loaded, loads, ran_out, unless, writes, after_write, done}
 use Rattle.disco_world.specs.declared.clients.Client.{Client}
 use Rattle.disco_world.specs.declared.event.Reply.{Reply}
-use Rattle.disco_world.specs.Steps.{AreHeld, Does, reply_to}
+use Rattle.disco_world.specs.Levels.{AreLevelsOf}
+use Rattle.disco_world.specs.Steps.{AreHeld, Does, reply_of, reply_to}
+use Rattle.disco_world.specs.declared.levels.Levels.{Levels}
+use Rattle.disco_world.proofs.AllAlong.{past_extends}
+use Rattle.disco_world.proofs.Turning.{plainly}
 use Rattle.disco_world.specs.declared.event.Reply.TheVariants.{Refused}
 
 -- what a hub does is done after all that it stands for
@@ -85,12 +95,40 @@ does_nothing s asked now f refused = λ w stands.
     let why : f ≢ OutOfMemory → done (rules_of s) w.past now asked ≡ Err f = λ other. ap (done (rules_of s) w.past now) (refused other) in
     (why, subst (StandsFor s) (sym (stays (rules_of s) w.past now asked f why)) stands)
 
+-- ---- loads
+
+nothing_then : (rules : Rules) (p : Past) (asked : Result DocKey Fault) (f : Fault) → past_after rules p (loads asked) (Refused f) ≡ p
+nothing_then rules p asked f = one (ran_out (Refused f))
+  where
+    one : (b : Bool) → cond b p p ≡ p
+    one true = refl
+    one false = refl
+
+pub loads_so : (old new : State) (key : DocKey) (r : Result (Arc Payload Global) Fault) → IfOk r (λ d. d.value.key ≡ key) → IfOk r (λ d. (p : Past) → StandsFor old p → MayServe d.value p)
+    → IfOk r (λ d. (p : Past) → StandsFor old p → refusal_of (rules_of old).delta key.query (history p) ≡ None) → IfErr r (λ e. e ≢ OutOfMemory → (p : Past) → StandsFor old p → refusal_of (rules_of old).delta key.query (history p) ≡ Some e)
+    → ((p : Past) → StandsFor old p → StandsFor new p) → Does old new (λ w. loads (loaded (rules_of old).delta key (history w.past))) (reply_of r)
+loads_so old new key (Ok d) is served allowed refused on = λ w stands. ((ap (unless key) (allowed w.past stands) ∙ ap (λ k. Ok k) (sym is), served w.past stands), on w.past stands)
+loads_so old new key (Err e) is served allowed refused on = λ w stands.
+    (λ other. ap (unless key) (refused other w.past stands), subst (StandsFor new) (sym (nothing_then (rules_of old) w.past (loaded (rules_of old).delta key (history w.past)) e)) (on w.past stands))
+
 -- a deed of the hub leaves the clients
 pub clients_stay : (clients : ℕ → Option Client) (what : Deed) (r : Bool) → clients_done clients what ≡ clients → cond r clients (clients_done clients what) ≡ clients
 clients_stay clients what true same = refl
 clients_stay clients what false same = same
 
-pub with_clients : (old new : State) (held : ℕ → Option Client) (w : World) (what : Deed) (r : Reply) → clients_done w.clients what ≡ w.clients → AreHeld held w
-    → IsAnswer (rules_of old) w what r × StandsFor new (past_after (rules_of old) w.past what r)
-    → IsAnswer (rules_of old) w what r × StandsFor new (past_after (rules_of old) w.past what r) × AreHeld held (record w { clients = clients_after w.clients what r })
-with_clients old new held w what r same are so = (so.0, so.1, λ q. are q ∙ sym (ap (λ (f : ℕ → Option Client). f q) (clients_stay w.clients what (ran_out r) same)))
+module _ (old new : Levels) (held : ℕ → Option Client) (w : World) (what : Deed) (r : Reply) (same : clients_done w.clients what ≡ w.clients) (are : AreHeld held w) where
+  -- and so do the clients after it
+  held_on : AreHeld held (record w { clients = clients_after w.clients what r })
+  held_on q = are q ∙ sym (ap (λ (f : ℕ → Option Client). f q) (clients_stay w.clients what (ran_out r) same))
+
+  -- a deed that the hub answers alone
+  pub with_hub : (after (rules_of old.hub) w what r).press ≡ record w.press { pending = w.press.pending ++ map change (changes_since w.past (past_after (rules_of old.hub) w.past what r)) } → AreLevelsOf old w
+      → new.hub.rounds ≡ old.hub.rounds → new.published ≡ old.published → new.next ≡ old.next → IsAnswer (rules_of old.hub) w what r × StandsFor new.hub (past_after (rules_of old.hub) w.past what r)
+      → IsAnswer (rules_of old.hub) w what r × AreLevelsOf new (after (rules_of old.hub) w what r) × AreHeld held (record w { clients = clients_after w.clients what r })
+  with_hub press levels rounds published next so =
+      (so.0, plainly old new w (after (rules_of old.hub) w what r) levels press (past_extends (rules_of old.hub) w.past what r (ran_out r)) so.1 rounds published next, held_on)
+
+  -- a deed of a publisher or of a reader
+  pub with_turn : IsAnswer (rules_of old.hub) w what r × AreLevelsOf new (after (rules_of old.hub) w what r)
+      → IsAnswer (rules_of old.hub) w what r × AreLevelsOf new (after (rules_of old.hub) w what r) × AreHeld held (record w { clients = clients_after w.clients what r })
+  with_turn so = (so.0, so.1, held_on)

@@ -1,37 +1,47 @@
 -- What events answer.
-use Rattle.std.specs.Prelude.{◌≡◌, ◌≢◌, ℕ, ◌+◌, ◌≤◌, true, List, length, Some, None, Ok, Err, slice_get}
+use Rattle.std.specs.Prelude.{◌≡◌, ◌≢◌, ℕ, ◌+◌, ◌≤◌, Bool, true, false, List, length, Option, Some, None, Ok, Err, option_map, slice_get}
+use Rattle.std.specs.FinMap.{len}
 use Rattle.std.specs.declared.alloc.Global.{Global}
 use Rattle.std.specs.declared.sync.Arc.{Arc}
 use Rattle.disco_instance.specs.declared.fault.Fault.{Fault}
-use Rattle.disco_instance.specs.declared.fault.Fault.TheVariants.{OutOfMemory, BadEvent, NotFetched}
+use Rattle.disco_instance.specs.declared.fault.Fault.TheVariants.{OutOfMemory, BadEvent, NotFetched, NoRound, RoundOpen}
 use Rattle.disco_history.specs.Change.{Entry}
 use Rattle.disco_hub.specs.Expiry.{IsExpired}
-use Rattle.disco_core.specs.Past.{Past, cleaned, history, minute_closed, taken_in}
+use Rattle.disco_core.specs.Past.{cleaned, history, minute_closed, taken_in}
 use Rattle.disco_core.specs.State.{Rules}
-use Rattle.disco_hub.specs.State.{MayServe}
+use Rattle.disco_hub.specs.Press.{IsInStep, IsLegal, IsPublishable, changes_in, edition_of}
+use Rattle.disco_hub.specs.Rounds.{KeySet, Round}
+use Rattle.disco_hub.specs.State.{IsCopied, MayServe, key_of_copy}
+use Rattle.disco_cache.specs.declared.key.DocKey.{DocKey}
 use Rattle.disco_cache.specs.declared.payload.Payload.{Payload}
 use Rattle.disco_world.specs.Clients.{IsTold, MeansVersion, shown, taken}
 use Rattle.disco_world.specs.declared.clients.Client.{Client}
-use Rattle.disco_world.specs.Events.{Deed, writes, loads, cleans, closes, expires, takes, shows, bad, World, deed, done, world}
+use Rattle.disco_world.specs.Events.{Deed, writes, loads, cleans, closes, expires, begins, copies, publishes, looks, takes, shows, bad, World, deed, done, world}
+use Rattle.disco_world.specs.Rounds.{Press, all_of, left_in, seen_at, unfinished}
 use Rattle.disco_world.specs.declared.event.Event.{Event}
 use Rattle.disco_world.specs.declared.event.Reply.{Reply}
-use Rattle.disco_world.specs.declared.event.Reply.TheVariants.{Changed, Same, Doc, Cleaned, Closed, Expired, Taken, Held, Refused}
+use Rattle.disco_world.specs.declared.event.Reply.TheVariants.{Changed, Same, Doc, Cleaned, Closed, Expired, Begun, Copied, Done, Published, Missed, Taken, Held, Refused}
 
--- the document that was asked for, by its key and form, which may be served after what has happened
-pub record IsServed (what : Deed) (p : Past) (d : Payload) : Type 0 where
-  pub asked : what ≡ loads (Ok d.key)
-  pub served : MayServe d p
-
--- what a deed may answer after what has happened; a refused growth may be answered in place of anything but a cleaning and the closing of a minute, and stops a run that cancels instances, and nothing is answered to what can't be run
+-- what a deed may answer after what has happened; a refused growth may be answered in place of anything but a cleaning, the closing of a minute and a publish, and stops a run that cancels instances, and nothing is answered to what can't be run
 abbrev pub IsAnswer : Rules → World → Deed → Reply → Type 0
 IsAnswer rules w (writes now ask) (Changed v) = (c : Entry) × (done rules w.past now ask ≡ Ok (Some c)) × (v ≡ length (history w.past) + 1)
 IsAnswer rules w (writes now ask) Same = done rules w.past now ask ≡ Ok None
 IsAnswer rules w (writes now ask) (Refused e) = e ≢ OutOfMemory → done rules w.past now ask ≡ Err e
-IsAnswer rules w (loads asked) (Doc d) = IsServed (loads asked) w.past d.value
+IsAnswer rules w (loads asked) (Doc d) = (asked ≡ Ok d.value.key) × MayServe d.value w.past
 IsAnswer rules w (loads asked) (Refused e) = e ≢ OutOfMemory → asked ≡ Err e
 IsAnswer rules w (cleans now) (Cleaned b) = b ≡ (cleaned rules.retention w.past now).base
 IsAnswer rules w closes (Closed minute) = minute ≡ (minute_closed w.past).closed
 IsAnswer rules w (expires now) (Expired run) = IsExpired rules w.past now (taken_in w.past now) run.gone run.stopped
+IsAnswer rules w begins (Begun n) = (left_in w.press ≡ None) × (len (edition_of w.press.published) ≤ n)
+IsAnswer rules w begins (Refused e) = e ≢ OutOfMemory → (e ≡ RoundOpen) × (left_in w.press ≢ None)
+IsAnswer rules w copies (Copied c) = (n : ℕ) × (left_in w.press ≡ Some (n + 1)) × IsCopied (key_of_copy c) c w.past
+IsAnswer rules w copies Done = left_in w.press ≡ Some 0
+IsAnswer rules w copies (Refused e) = e ≢ OutOfMemory → (e ≡ NoRound) × (left_in w.press ≡ None)
+IsAnswer rules w publishes (Published n) = (unfinished (left_in w.press) ≡ None) × (n ≡ len (edition_of (all_of w.press)))
+IsAnswer rules w publishes (Refused e) = unfinished (left_in w.press) ≡ Some e
+IsAnswer rules w (looks key) (Doc d) = seen_at w.press key ≡ Some d.value
+IsAnswer rules w (looks key) Missed = seen_at w.press key ≡ None
+IsAnswer rules w (looks key) (Refused e) = e ≡ OutOfMemory
 IsAnswer rules w (takes client d) (Taken equal version) = IsTold d (taken d (w.clients client)) equal version
 IsAnswer rules w (takes client d) (Refused e) = e ≢ OutOfMemory → (e ≡ NotFetched) × (taken d (w.clients client) ≡ None)
 IsAnswer rules w (shows client) (Held holdings) = holdings ≡ shown (w.clients client)
@@ -43,10 +53,41 @@ abbrev pub AreAnswers : Rules → List Event → List Reply → Type 0
 AreAnswers rules events replies = (i : ℕ) (event : Event) (reply : Reply) → slice_get events i ≡ Some event → slice_get replies i ≡ Some reply
     → let w = world rules events replies i in IsAnswer rules w (deed rules w event) reply
 
--- each served document is the one that its event asked for, and true after the events up to it
+-- the key that a deed asks for, if it asks for a document
+abbrev pub key_asked : Deed → Option DocKey
+key_asked (loads (Ok k)) = Some k
+key_asked (looks key) = key
+key_asked _ = None
+
+abbrev pub is_load : Deed → Bool
+is_load (loads asked) = true
+is_load _ = false
+
+-- a document that is answered to an event may be served after the first so many events: a load's after all up to it, and a look's no earlier than the last published round began
+pub record IsServed (rules : Rules) (events : List Event) (replies : List Reply) (i : ℕ) (what : Deed) (d : Payload) : Type 0 where
+  pub after : ℕ
+  pub floor : (world rules events replies (i + 1)).press.floor ≤ after
+  pub within : after ≤ i + 1
+  pub load : is_load what ≡ true → after ≡ i + 1
+  pub asked : key_asked what ≡ Some d.key
+  pub served : MayServe d (world rules events replies after).past
+
+-- each served document is so
 abbrev pub AreServed : Rules → List Event → List Reply → Type 0
 AreServed rules events replies = (i : ℕ) (event : Event) (d : Arc Payload Global) → slice_get events i ≡ Some event → slice_get replies i ≡ Some (Doc d)
-    → IsServed (deed rules (world rules events replies i) event) (world rules events replies (i + 1)).past d.value
+    → IsServed rules events replies i (deed rules (world rules events replies i) event) d.value
+
+-- what was noted is legal and has these changes, what readers see may be published, and all is in step with the keys of an edition and with a round, of which as many keys are left
+pub record IsPressed (s : Press) (h : List Entry) (edition : KeySet) (round : Option Round) : Type 0 where
+  pub changes : changes_in (all_of s) ≡ h
+  pub legal : IsLegal (all_of s)
+  pub publishable : IsPublishable s.published
+  pub in_step : IsInStep s.published s.pending edition round
+  pub keys : left_in s ≡ option_map (λ r. length r.left) round
+
+-- it is so after any number of events
+abbrev pub ArePressed : Rules → List Event → List Reply → Type 0
+ArePressed rules events replies = (i : ℕ) → i ≤ length events → let w = world rules events replies i in (edition : KeySet) × (round : Option Round) × IsPressed w.press (history w.past) edition round
 
 -- each client's copy that is known at a version is exactly that version of the history, after any number of events
 abbrev pub AreKnown : Rules → List Event → List Reply → Type 0

@@ -1,5 +1,5 @@
 -- What events are for, and what has happened after them.
-use Rattle.std.specs.Prelude.{ℕ, zero, suc, ◌==◌, List, [], ◌∷◌, ◌++◌, Bool, true, false, if◌then◌else◌, Option, Some, None, Result, Ok, Err, slice_get}
+use Rattle.std.specs.Prelude.{ℕ, zero, suc, ◌+◌, ◌==◌, List, [], ◌∷◌, ◌++◌, drop, length, map, Bool, true, false, if◌then◌else◌, Option, Some, None, Result, Ok, Err, slice_get}
 use Rattle.std.specs.Str.{bytes_eq}
 use Rattle.disco_instance.specs.Fault.{fault_number}
 use Rattle.disco_instance.specs.Row.{Row}
@@ -16,6 +16,8 @@ use Rattle.disco_registry.specs.Op.{Ask, register, cancel, renew, set_status, dr
 use Rattle.disco_wire.specs.Registration.{registration_of}
 use Rattle.disco_cache.specs.declared.key.DocKey.{DocKey}
 use Rattle.disco_hub.specs.Expiry.{cancelled}
+use Rattle.disco_hub.specs.Press as press
+use Rattle.disco_hub.specs.declared.copied.Copied.TheVariants as copied
 use Rattle.disco_core.specs.Past.{Past, cleaned, history, minute_closed, nothing, taken_in, with_done}
 use Rattle.disco_core.specs.Refusals.{doc_of_key, refusal_of}
 use Rattle.disco_core.specs.State.{Rules}
@@ -23,25 +25,31 @@ use Rattle.disco_writer.specs.declared.query.Query.{Query}
 use Rattle.disco_writer.specs.declared.query.Query.TheVariants as query
 use Rattle.disco_cache.specs.declared.payload.Payload.{Payload}
 use Rattle.disco_world.specs.Clients.{clients_with}
+use Rattle.disco_world.specs.Rounds.{Press, all_of, new_press}
 use Rattle.disco_world.specs.declared.clients.Client.{Client}
 use Rattle.disco_world.specs.declared.event.Event.{Event}
-use Rattle.disco_world.specs.declared.event.Event.TheVariants.{Register, Cancel, Renew, SetStatus, DropStatus, Metadata, Load, LoadById, Clean, Minute, Expire, Take, Show}
+use Rattle.disco_world.specs.declared.event.Event.TheVariants.{Register, Cancel, Renew, SetStatus, DropStatus, Metadata, Load, LoadById, Clean, Minute, Expire, Begin, Copy, Publish, Look, LookById, Take, Show}
 use Rattle.disco_world.specs.declared.event.Reply.{Reply}
-use Rattle.disco_world.specs.declared.event.Reply.TheVariants.{Doc, Expired, Refused}
+use Rattle.disco_world.specs.declared.event.Reply.TheVariants.{Doc, Expired, Begun, Copied, Published, Refused}
 
--- what has happened: to the registry, what each event answered, and the clients that have a copy
+-- what has happened: to the registry, what each event answered, the clients that have a copy, and what was noted for readers
 pub record World : Type 0 where
   pub past : Past
   pub replies : List Reply
   pub clients : ℕ → Option Client
+  pub press : Press
 
--- what an event is for: an operation at a moment in milliseconds, or why it is none; a document, or why it isn't served; a cleaning at a moment; the closing of a minute; a run at a moment that cancels instances whose leases ran out; a document for a client; a look at a client's copy; nothing that can be run
+-- what an event is for: an operation at a moment in milliseconds, or why it is none; a document, or why it isn't served; a cleaning at a moment; the closing of a minute; a run at a moment that cancels instances whose leases ran out; the beginning of a round, a copy in it, and its publish; a look for a document, if readers can see one of its kind; a document for a client; a look at a client's copy; nothing that can be run
 pub data Deed : Type 0 where
   writes : ℕ → Result Ask Fault → Deed
   loads : Result DocKey Fault → Deed
   cleans : ℕ → Deed
   closes : Deed
   expires : ℕ → Deed
+  begins : Deed
+  copies : Deed
+  publishes : Deed
+  looks : Option DocKey → Deed
   takes : ℕ → Payload → Deed
   shows : ℕ → Deed
   bad : Deed
@@ -112,6 +120,11 @@ deed rules w (LoadById id form) = loads (loaded_of (by_id (reg (history w.past))
 deed rules w (Clean now) = cleans now
 deed rules w Minute = closes
 deed rules w (Expire now) = expires now
+deed rules w Begin = begins
+deed rules w Copy = copies
+deed rules w Publish = publishes
+deed rules w (Look key) = looks (Some (record { query = query_asked key.query; form = key.form }))
+deed rules w (LookById id form) = looks None
 deed rules w (Take client event) = takes_any client (doc_of_event w.replies event)
 deed rules w (Show client) = shows client
 
@@ -144,6 +157,18 @@ abbrev pub clients_done : (ℕ → Option Client) → Deed → ℕ → Option Cl
 clients_done clients (takes client d) = clients_with clients client d
 clients_done clients _ = clients
 
+-- the changes that there are more
+abbrev pub changes_since : Past → Past → List Entry
+changes_since p q = drop (length (history p)) (history q)
+
+-- what was noted after the deed of the event of that number, which made these changes, and its answer
+abbrev pub press_done : Press → List Entry → ℕ → Deed → Reply → Press
+press_done s cs i begins (Begun n) = record s { pending = s.pending ++ press.begin ∷ []; keys = n; begun = i }
+press_done s cs i copies (Copied (copied.Doc d)) = record s { pending = s.pending ++ press.doc d.value ∷ [] }
+press_done s cs i copies (Copied (copied.Drop k)) = record s { pending = s.pending ++ press.gone k ∷ [] }
+press_done s cs i publishes (Published n) = record s { published = all_of s; pending = []; floor = s.begun }
+press_done s cs i _ _ = record s { pending = s.pending ++ map press.change cs }
+
 -- the event found no memory
 abbrev pub ran_out : Reply → Bool
 ran_out (Refused e) = fault_number e == 1
@@ -161,11 +186,12 @@ after rules w what reply = record {
   past = past_after rules w.past what reply;
   replies = w.replies ++ reply ∷ [];
   clients = clients_after w.clients what reply;
+  press = press_done w.press (changes_since w.past (past_after rules w.past what reply)) (length w.replies + 1) what reply;
 }
 
 -- nothing has happened yet
 abbrev pub new_world : World
-new_world = record { past = nothing; replies = []; clients = λ c. None }
+new_world = record { past = nothing; replies = []; clients = λ c. None; press = new_press }
 
 abbrev pub after_at : Rules → World → Option Event → Option Reply → World
 after_at rules w (Some event) (Some reply) = after rules w (deed rules w event) reply

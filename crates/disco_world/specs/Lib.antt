@@ -1,4 +1,6 @@
 pub mod Answers
 pub mod Clients
 pub mod Events
+pub mod Levels
+pub mod Rounds
 pub mod Steps

@@ -1,7 +1,7 @@
 //! Events and their replies.
 use crate::holding::Holdings;
 use disco_cache::{DocKey, Payload};
-use disco_hub::{Expired, Minute};
+use disco_hub::{Copied, Expired, Minute};
 use disco_instance::{Bytes, Entries, Fault, Form, Text};
 use std::alloc::Global;
 use std::sync::Arc;
@@ -69,6 +69,21 @@ pub enum Event {
     Expire {
         now: u64,
     },
+    /// A publisher begins a round of copies.
+    Begin,
+    /// The next key of the round is copied.
+    Copy,
+    /// The documents of the round become the edition that readers look into.
+    Publish,
+    /// A reader looks into the edition. The name of its app counts in upper case.
+    Look {
+        key: DocKey,
+    },
+    /// A reader looks for the document of the instance of an id, which no edition has.
+    LookById {
+        id: Text,
+        form: Form,
+    },
     /// A client is given the document that an earlier event answered, by the number of that event
     /// from 1: one of all apps, or a delta.
     Take {
@@ -96,6 +111,16 @@ pub enum Reply {
     /// Instances were cancelled whose leases had run out: how many, and why the run stopped before
     /// the last one, if it did.
     Expired(Expired),
+    /// A round has begun: how many keys it has.
+    Begun(u64),
+    /// The next key was copied: its document, or the key where there is none.
+    Copied(Copied),
+    /// No key of the round is left.
+    Done,
+    /// A round was published: how many documents the edition has.
+    Published(u64),
+    /// The edition has no such document.
+    Missed,
     /// A client took a document: whether the copy's hash code is now the document's, and the
     /// version at which the copy is known, if it is known at one.
     Taken {

@@ -1,18 +1,21 @@
 //! A world of one registry: lists of events, and what each answers.
 //!
 //! [`run`] is the library's main theorem for a list of events: every served document is the
-//! registry at the version of that moment.
+//! registry at one version, restricted to what was asked for. For a load it is that of the moment,
+//! for a look one since the last published round began.
 #![tactic(auto)]
 
 mod asks;
 mod clients;
 mod event;
 mod holding;
+mod levels;
 mod loads;
+mod rounds;
 mod runs;
 
 pub use disco_cache::{DocKey, Payload};
-pub use disco_hub::{Expired, Minute, Settings};
+pub use disco_hub::{Copied, Expired, Minute, Settings};
 pub use disco_writer::Query;
 pub use event::{Event, Reply};
 pub use holding::{Holding, Holdings};

@@ -15,7 +15,7 @@ use disco_writer::Query;
 use std::alloc::Global;
 use std::sync::Arc;
 
-fn query_asked(alloc: Global, query: &Query) -> Result<Query, Fault>
+pub(crate) fn query_asked(alloc: Global, query: &Query) -> Result<Query, Fault>
     ensures query { IfOk result (λ q. q ≡ query_asked query.now) }
     ensures memory { IfErr result (λ e. e ≡ OutOfMemory) }
 {
@@ -40,6 +40,7 @@ fn served(loaded: Result<Arc<Payload, Global>, Fault>) -> Reply
 pub(crate) fn load(alloc: Global, hub: &mut Hub, key: &DocKey) -> Reply
     ensures does { Does hub.old hub.new (λ w. deed (rules_of hub.old) w (event.Load key.now)) result }
     ensures rules { rules_of hub.new ≡ rules_of hub.old }
+    ensures rounds { hub.new.rounds ≡ hub.old.rounds }
 {
     match query_asked(alloc, &key.query) {
         Ok(query) => served(hub.load(&DocKey {

@@ -7,16 +7,19 @@ ghost use Rattle.disco_instance.specs.declared.fault.Fault.{Fault};
 ghost use Rattle.disco_instance.specs.declared.fault.Fault.TheVariants.{OutOfMemory};
 ghost use Rattle.disco_registry.specs.Op.{Ask, ask_of};
 ghost use Rattle.disco_core.specs.State.{rules};
-ghost use Rattle.disco_hub.specs.State.{StandsFor, rules_of};
-ghost use Rattle.disco_world.specs.Answers.{AreAnswers, AreKnown, AreServed, IsAnswer, IsFirstBadEvent};
-ghost use Rattle.disco_world.specs.Events.{World, bad, deed, doc_in, doc_of_event, for_clients, past_after, clients_after, closes, expires, writes};
+ghost use Rattle.disco_hub.specs.State.{rules_of};
+ghost use Rattle.disco_world.specs.Answers.{AreAnswers, AreKnown, ArePressed, AreServed, IsAnswer, IsFirstBadEvent};
+ghost use Rattle.disco_world.specs.Events.{World, after, bad, clients_after, closes, deed, doc_in, doc_of_event, expires, for_clients, writes};
+ghost use Rattle.disco_world.specs.Levels.{AreLevelsOf};
 ghost use Rattle.disco_world.specs.Steps.{AreHeld, AreReadable, Does, reply_to, reply_to_show, reply_to_take};
 
 use crate::asks::{add_metadata, cancel, drop_status, register, renew, set_status};
 use crate::clients::{Clients, Told, show, take};
 use crate::event::{Event, Reply};
 use crate::holding::Holdings;
+use crate::levels::Levels;
 use crate::loads::{load, load_by_id};
+use crate::rounds::{begin, copy, look, publish};
 use disco_cache::Payload;
 use disco_hub::{Hub, Settings};
 use disco_instance::Fault;
@@ -34,14 +37,15 @@ pub fn run(alloc: Global, settings: &Settings, events: &[Event]) -> Result<Vec<R
     ensures each { IfOk result (λ replies. length replies.items ≡ length events.now) }
     ensures answers { IfOk result (λ replies. AreAnswers (rules settings.now) events.now replies.items) }
     ensures served { IfOk result (λ replies. AreServed (rules settings.now) events.now replies.items) }
+    ensures pressed { IfOk result (λ replies. ArePressed (rules settings.now) events.now replies.items) }
     ensures known { IfOk result (λ replies. AreKnown (rules settings.now) events.now replies.items) }
     ensures refused { IfErr result (λ e. e ≢ OutOfMemory → IsFirstBadEvent (rules settings.now) events.now e) }
 {
-    let mut hub = Hub::new(alloc, settings);
+    let mut levels = Levels::new(alloc, settings);
     let mut clients = BTreeMap::new(alloc);
     let mut replies = Vec::new(alloc);
     for event in events {
-        let Some(reply) = answer(alloc, &mut hub, &mut clients, replies.as_slice(), event) else {
+        let Some(reply) = answer(alloc, &mut levels, &mut clients, replies.as_slice(), event) else {
             return Err(Fault::BadEvent(replies.len() as u64 + 1));
         };
         replies.push(reply)?;
@@ -53,45 +57,58 @@ pub fn run(alloc: Global, settings: &Settings, events: &[Event]) -> Result<Vec<R
 /// be run.
 fn answer(
     alloc: Global,
-    hub: &mut Hub,
+    levels: &mut Levels,
     clients: &mut Clients,
     replies: &[Reply],
     event: &Event,
 ) -> Option<Reply>
     requires readable { AreReadable replies.now }
-    ensures is_bad { IfNone result ((w : World) → w.replies ≡ replies.now → deed (rules_of hub.old) w event.now ≡ bad) }
-    ensures does { IfSome result (λ r. (w : World) → w.replies ≡ replies.now → AreHeld (tree.get nat_cmp clients.old) w → StandsFor hub.old w.past
-        → let what = deed (rules_of hub.old) w event.now in IsAnswer (rules_of hub.old) w what r × StandsFor hub.new (past_after (rules_of hub.old) w.past what r)
+    ensures is_bad { IfNone result ((w : World) → w.replies ≡ replies.now → deed (rules_of levels.old.hub) w event.now ≡ bad) }
+    ensures does { IfSome result (λ r. (w : World) → w.replies ≡ replies.now → AreHeld (tree.get nat_cmp clients.old) w → AreLevelsOf levels.old w
+        → let what = deed (rules_of levels.old.hub) w event.now in IsAnswer (rules_of levels.old.hub) w what r × AreLevelsOf levels.new (after (rules_of levels.old.hub) w what r)
         × AreHeld (tree.get nat_cmp clients.new) (record w { clients = clients_after w.clients what r })) }
-    ensures rules { rules_of hub.new ≡ rules_of hub.old }
+    ensures rules { rules_of levels.new.hub ≡ rules_of levels.old.hub }
 {
     match event {
-        Event::Register { now, app, json } => Some(write(hub, *now, register(alloc, app, json))),
-        Event::Cancel { now, app, id } => Some(write(hub, *now, cancel(alloc, app, id))),
-        Event::Renew { now, app, id } => Some(write(hub, *now, renew(alloc, app, id))),
+        Event::Register { now, app, json } => Some(write(
+            &mut levels.hub,
+            *now,
+            register(alloc, app, json),
+        )),
+        Event::Cancel { now, app, id } => Some(write(
+            &mut levels.hub,
+            *now,
+            cancel(alloc, app, id),
+        )),
+        Event::Renew { now, app, id } => Some(write(&mut levels.hub, *now, renew(alloc, app, id))),
         Event::SetStatus {
             now,
             app,
             id,
             status,
-        } => Some(write(hub, *now, set_status(alloc, app, id, status))),
+        } => Some(write(&mut levels.hub, *now, set_status(alloc, app, id, status))),
         Event::DropStatus {
             now,
             app,
             id,
             status,
-        } => Some(write(hub, *now, drop_status(alloc, app, id, status))),
+        } => Some(write(&mut levels.hub, *now, drop_status(alloc, app, id, status))),
         Event::Metadata {
             now,
             app,
             id,
             entries,
-        } => Some(write(hub, *now, add_metadata(alloc, app, id, entries))),
-        Event::Load { key } => Some(load(alloc, hub, key)),
-        Event::LoadById { id, form } => Some(load_by_id(hub, id, *form)),
-        Event::Clean { now } => Some(Reply::Cleaned(hub.clean(*now))),
-        Event::Minute => Some(close(hub)),
-        Event::Expire { now } => Some(expire(hub, *now)),
+        } => Some(write(&mut levels.hub, *now, add_metadata(alloc, app, id, entries))),
+        Event::Load { key } => Some(load(alloc, &mut levels.hub, key)),
+        Event::LoadById { id, form } => Some(load_by_id(&levels.hub, id, *form)),
+        Event::Clean { now } => Some(Reply::Cleaned(levels.hub.clean(*now))),
+        Event::Minute => Some(close(&mut levels.hub)),
+        Event::Expire { now } => Some(expire(&mut levels.hub, *now)),
+        Event::Begin => Some(begin(alloc, levels)),
+        Event::Copy => Some(copy(levels)),
+        Event::Publish => Some(publish(alloc, levels)),
+        Event::Look { key } => Some(look(alloc, &levels.published, key)),
+        Event::LookById { .. } => Some(Reply::Missed),
         Event::Take { client, event } => match document(replies, *event) {
             Some(payload) => Some(took(take(alloc, clients, *client, payload))),
             None => None,
@@ -104,6 +121,7 @@ fn answer(
 fn close(hub: &mut Hub) -> Reply
     ensures does { Does hub.old hub.new (λ _. closes) result }
     ensures rules { rules_of hub.new ≡ rules_of hub.old }
+    ensures rounds { hub.new.rounds ≡ hub.old.rounds }
 {
     Reply::Closed(hub.close_minute())
 }
@@ -112,6 +130,7 @@ fn close(hub: &mut Hub) -> Reply
 fn expire(hub: &mut Hub, now: u64) -> Reply
     ensures does { Does hub.old hub.new (λ _. expires now) result }
     ensures rules { rules_of hub.new ≡ rules_of hub.old }
+    ensures rounds { hub.new.rounds ≡ hub.old.rounds }
 {
     Reply::Expired(hub.expire(now))
 }
@@ -168,6 +187,7 @@ fn showed(shown: Result<Holdings, Fault>) -> Reply
 fn write(hub: &mut Hub, now: u64, op: Result<Op, Fault>) -> Reply
     ensures does { (asked : Result Ask Fault) → Gives ask_of op asked → Does hub.old hub.new (λ _. writes now asked) result }
     ensures rules { rules_of hub.new ≡ rules_of hub.old }
+    ensures rounds { hub.new.rounds ≡ hub.old.rounds }
 {
     match op {
         Ok(op) => {

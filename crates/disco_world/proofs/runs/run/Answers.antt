@@ -5,7 +5,7 @@ use Rattle.disco_core.specs.State.{rules}
 use Rattle.disco_world.specs.Events.{world}
 use Rattle.disco_world.specs.Steps.{AreReadable}
 use Rattle.disco_world.specs.declared.event.Reply.{Reply}
-use Rattle.disco_world.proofs.Histories.{at_index, first_bad, no_answers, run_more, served}
+use Rattle.disco_world.proofs.Histories.{always_fresh, at_index, first_bad, new_levels, new_pressed, no_answers, run_more, served}
 use Rattle.disco_world.proofs.AllAlong.{all_readable, holds_at, known}
 use Rattle.disco_world.proofs.runs.run.Goals as goal
 
@@ -17,17 +17,18 @@ pub loop-event-init : goal.loop-event-init
 unfolding world
 loop-event-init c = record {
   count = rw c.new-replies.ensures.items refl;
-  stands = c.new-hub.ensures.empty;
+  levels = new_levels c.new-levels.result c.new-levels.ensures.stands c.new-levels.ensures.rounds c.new-levels.ensures.published;
+  pressed = new_pressed (rules c.args.settings.now) c.args.events.now c.new-replies.result.items;
   held = λ q. search (c.new-clients.ensures.empty);
   replies = sym c.new-replies.ensures.items;
-  rules_are = c.new-hub.ensures.rules;
+  rules_are = c.new-levels.ensures.rules;
   answers = no_answers (rules c.args.settings.now) c.args.events.now c.new-replies.result.items c.new-replies.ensures.items;
 }
 
 pub answer-requires : goal.answer-requires
 answer-requires c =
     let run = c.loop-event.invariant in
-    let readable : AreReadable c.loop-event.replies.items = subst AreReadable run.replies (all_readable _ (holds_at (rules c.args.settings.now) c.args.events.now c.loop-event.replies.items run.answers c.loop-event.event-index)) in
+    let readable : AreReadable c.loop-event.replies.items = subst AreReadable run.replies (all_readable _ (holds_at (rules c.args.settings.now) c.args.events.now c.loop-event.replies.items run.answers c.loop-event.event-index (λ j le. (run.pressed j le).2.publishable))) in
     record { readable = subst AreReadable (sym c.as_slice.ensures.value) readable }
 
 pub returns-in_default-clause-refused : goal.returns-in_default-clause-refused
@@ -36,7 +37,7 @@ returns-in_default-clause-refused c = λ other.
     let es = c.args.events.now in
     let i = c.loop-event.event-index in
     let e = c.event-item.result in
-    first_bad (rules c.args.settings.now) es c.loop-event.replies.items i e c.len.result c.loop-event.hub (tree.get nat_cmp c.loop-event.clients) run
+    first_bad (rules c.args.settings.now) es c.loop-event.replies.items i e c.len.result c.loop-event.levels (tree.get nat_cmp c.loop-event.clients) run
     (at_index es i e c.loop-event-test.true c.event-item.is) (omega (arith, c.len.ensures, c.loop-event.replies.ok.0))
     (λ w replies. none_by c.answer.result _ c.in_default.not-Some c.answer.ensures.is_bad w (replies ∙ sym c.as_slice.ensures.value))
 
@@ -47,11 +48,20 @@ loop-event-preserved c =
     let e = c.event-item.result in
     let run = c.loop-event.invariant in
     rw c.in_ok-push.ensures.items (run_more (rules c.args.settings.now) es c.loop-event.replies.items i e c.in-Some.reply run.count (at_index es i e c.loop-event-test.true c.event-item.is)
-    c.loop-event.hub c.answer.new.hub (tree.get nat_cmp c.loop-event.clients) (tree.get nat_cmp c.answer.new.clients) run
-    (λ w replies held stands. c.in-Some.ensures.does w (replies ∙ sym c.as_slice.ensures.value) held stands) c.answer.ensures.rules)
+    c.loop-event.levels c.answer.new.levels (tree.get nat_cmp c.loop-event.clients) (tree.get nat_cmp c.answer.new.clients) run
+    (λ w replies held levels. c.in-Some.ensures.does w (replies ∙ sym c.as_slice.ensures.value) held levels) c.answer.ensures.rules)
+
+pub returns-clause-pressed : goal.returns-clause-pressed
+returns-clause-pressed c = λ i le. c.loop-event.invariant.pressed i (omega (arith, le, c.loop-event-test.false))
 
 pub returns-clause-served : goal.returns-clause-served
-returns-clause-served c = served (rules c.args.settings.now) c.args.events.now c.loop-event.replies.items c.loop-event.invariant.answers
+returns-clause-served c =
+    let run = c.loop-event.invariant in
+    served (rules c.args.settings.now) c.args.events.now c.loop-event.replies.items run.answers (λ i le. (run.pressed i (omega (arith, le, run.count))).2.publishable)
 
 pub returns-clause-known : goal.returns-clause-known
-returns-clause-known c = known (rules c.args.settings.now) c.args.events.now c.loop-event.replies.items c.loop-event.invariant.answers
+returns-clause-known c =
+    let run = c.loop-event.invariant in
+    let es = c.args.events.now in
+    let rs = c.loop-event.replies.items in
+    known (rules c.args.settings.now) es rs run.answers (always_fresh (rules c.args.settings.now) es rs (λ k le. run.pressed k (omega (arith, le, run.count))))

@@ -1,0 +1,34 @@
+//! The two levels of documents.
+ghost use Rattle.std.specs.Prelude.{◌≡◌, None};
+ghost use Rattle.std.specs.FinMap.{empty};
+ghost use Rattle.disco_core.specs.Past.{nothing};
+ghost use Rattle.disco_core.specs.State.{rules};
+ghost use Rattle.disco_hub.specs.State.{StandsFor, rules_of};
+
+use disco_cache::Edition;
+use disco_hub::{Hub, Settings};
+use std::alloc::Global;
+
+/// A hub, the edition that readers look into, and the one that is being copied.
+#[derive(Drop)]
+pub(crate) struct Levels {
+    pub(crate) hub: Hub,
+    pub(crate) published: Edition,
+    pub(crate) next: Edition,
+}
+
+impl Levels {
+    /// An empty registry within the limits of the settings, and no document.
+    pub(crate) fn new(alloc: Global, settings: &Settings) -> Levels
+        ensures stands { StandsFor result.hub nothing }
+        ensures rules { rules_of result.hub ≡ rules settings.now }
+        ensures rounds { result.hub.rounds ≡ record { edition = empty; round = None } }
+        ensures published { result.published ≡ empty }
+    {
+        Levels {
+            hub: Hub::new(alloc, settings),
+            published: Edition::new(alloc),
+            next: Edition::new(alloc),
+        }
+    }
+}

@@ -1,0 +1,121 @@
+//! Rounds of a publisher, and looks of readers.
+ghost use Rattle.std.specs.Prelude.{◌≡◌, ◌≢◌, IfErr, IfNone, IfOk, IfSome, None, OnErr, OnOk};
+ghost use Rattle.disco_instance.specs.declared.fault.Fault.TheVariants.{NoRound, OutOfMemory};
+ghost use Rattle.disco_hub.specs.State.{rules_of};
+ghost use Rattle.disco_world.specs.Events.{begins, copies, publishes};
+ghost use Rattle.disco_world.specs.Levels.{Copies, HasNoneLeft, Looks, Turns, key_looked, put_copy};
+
+use crate::event::Reply;
+use crate::levels::Levels;
+use crate::loads::query_asked;
+use disco_cache::{DocKey, Edition};
+use disco_hub::Copied;
+use disco_instance::Fault;
+use std::alloc::Global;
+use std::mem::replace;
+use std::sync::Arc;
+
+/// Begins a round.
+pub(crate) fn begin(alloc: Global, levels: &mut Levels) -> Reply
+    ensures turns { Turns levels.old levels.new (λ _. begins) result }
+    ensures rules { rules_of levels.new.hub ≡ rules_of levels.old.hub }
+{
+    match levels.hub.begin() {
+        Ok(keys) => {
+            levels.next = Edition::new(alloc);
+            Reply::Begun(keys as u64)
+        }
+        Err(fault) => Reply::Refused(fault),
+    }
+}
+
+/// Puts what was copied into an edition.
+fn put(edition: &mut Edition, copied: &Copied) -> Result<(), Fault>
+    ensures put { OnOk result (edition.new ≡ put_copy edition.old copied.now) }
+    ensures as_before { OnErr result (edition.new ≡ edition.old) }
+    ensures memory { IfErr result (λ e. e ≡ OutOfMemory) }
+{
+    match copied {
+        Copied::Doc(doc) => edition.put(Arc::try_clone(doc)?),
+        Copied::Drop(key) => {
+            edition.remove(key);
+            Ok(())
+        }
+    }
+}
+
+/// Copies the next key of the round, if one is left.
+fn copy_next(levels: &mut Levels) -> Result<Option<Copied>, Fault>
+    ensures copied { IfOk result (λ o. IfSome o (λ c. Copies levels.old levels.new c)) }
+    ensures none { IfOk result (λ o. IfNone o (HasNoneLeft levels.old × (levels.new ≡ levels.old))) }
+    ensures refused { IfErr result (λ e. e ≢ OutOfMemory → (e ≡ NoRound) × (levels.old.hub.rounds.round ≡ None)) }
+    ensures as_before { OnErr result (levels.new ≡ levels.old) }
+    ensures rules { rules_of levels.new.hub ≡ rules_of levels.old.hub }
+{
+    let Some(copied) = levels.hub.next_copy()? else {
+        return Ok(None);
+    };
+    put(&mut levels.next, &copied)?;
+    levels.hub.mark(matches!(copied, Copied::Doc(_)))?;
+    Ok(Some(copied))
+}
+
+/// Copies the next key of the round.
+pub(crate) fn copy(levels: &mut Levels) -> Reply
+    ensures turns { Turns levels.old levels.new (λ _. copies) result }
+    ensures rules { rules_of levels.new.hub ≡ rules_of levels.old.hub }
+{
+    match copy_next(levels) {
+        Ok(Some(copied)) => Reply::Copied(copied),
+        Ok(None) => Reply::Done,
+        Err(fault) => Reply::Refused(fault),
+    }
+}
+
+/// Publishes the round: what it copied is what readers see.
+pub(crate) fn publish(alloc: Global, levels: &mut Levels) -> Reply
+    ensures turns { Turns levels.old levels.new (λ _. publishes) result }
+    ensures rules { rules_of levels.new.hub ≡ rules_of levels.old.hub }
+{
+    match levels.hub.finish() {
+        Ok(_) => {
+            levels.published = replace(&mut levels.next, Edition::new(alloc));
+            Reply::Published(levels.published.len() as u64)
+        }
+        Err(fault) => Reply::Refused(fault),
+    }
+}
+
+/// The key of a look, whose app may be in any case.
+fn key_looked(alloc: Global, key: &DocKey) -> Result<DocKey, Fault>
+    ensures key { IfOk result (λ k. k ≡ key_looked key.now) }
+    ensures memory { IfErr result (λ e. e ≡ OutOfMemory) }
+{
+    Ok(DocKey {
+        query: query_asked(alloc, &key.query)?,
+        form: key.form,
+    })
+}
+
+/// The document of a key, shared, if there is one.
+fn find(published: &Edition, key: &DocKey) -> Reply
+    ensures { Looks published.now key.now result }
+{
+    let Some(doc) = published.get(key) else {
+        return Reply::Missed;
+    };
+    match Arc::try_clone(doc) {
+        Ok(doc) => Reply::Doc(doc),
+        Err(_) => Reply::Refused(Fault::OutOfMemory),
+    }
+}
+
+/// Looks for a document, by a key whose app may be in any case.
+pub(crate) fn look(alloc: Global, published: &Edition, key: &DocKey) -> Reply
+    ensures { Looks published.now (key_looked key.now) result }
+{
+    match key_looked(alloc, key) {
+        Ok(key) => find(published, &key),
+        Err(fault) => Reply::Refused(fault),
+    }
+}
