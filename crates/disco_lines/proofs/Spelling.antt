@@ -1,8 +1,11 @@
--- What a word spells, by whether its decoded bytes are UTF-8.
-use Rattle.std.proofs.Common.{◌≡◌, ℕ, Bool, true, false, List, Some, None, if◌then◌else◌, refl}
+-- What a word spells, by whether its decoded bytes are UTF-8, and that one without an escape spells its own bytes.
+use Rattle.std.proofs.Common.{◌≡◌, ℕ, Bool, true, false, List, [], ◌∷◌, Some, None, if◌then◌else◌, ◌&&◌, ◌||◌, nat_eq, refl, sym, ◌∙◌}
+use Rattle.std.proofs.lemmas.Bool.{true≢false}
+use Rattle.std.specs.List.{list_any}
 use Rattle.std.specs.Str.{IsUtf8, is_utf8}
 use Rattle.std.proofs.lemmas.Str.{IsUtf8-from_is_utf8, is_utf8-from_IsUtf8}
 use Rattle.percent_encoding.specs.Percent.{percent_decode}
+use Rattle.disco_lines.specs.Steps.{text_of_bytes}
 use Rattle.disco_lines.specs.Words.{text_of_word}
 
 if_true : (b : Bool) (t : List ℕ) → b ≡ true → Some t ≡ (if b then Some t else None)
@@ -12,8 +15,33 @@ if_not : (b : Bool) (t : List ℕ) → (b ≡ true → ⊥) → None ≡ (if b t
 if_not true t refute = absurd (refute refl)
 if_not false t refute = refl
 
+pub text_of : (bytes text : List ℕ) → text ≡ bytes → IsUtf8 bytes → Some text ≡ text_of_bytes bytes
+text_of bytes text e utf8 = rw e (if_true (is_utf8 bytes) bytes (is_utf8-from_IsUtf8 _ utf8))
+
+pub no_text : (bytes : List ℕ) → (IsUtf8 bytes → ⊥) → None ≡ text_of_bytes bytes
+no_text bytes refute = if_not (is_utf8 bytes) bytes (λ u. refute (IsUtf8-from_is_utf8 _ u))
+
 pub spelled : (word text bytes : List ℕ) → text ≡ bytes → bytes ≡ percent_decode word → IsUtf8 bytes → Some text ≡ text_of_word word
 spelled word text bytes e f utf8 = rw (e, f) (if_true (is_utf8 (percent_decode word)) (percent_decode word) (is_utf8-from_IsUtf8 _ (rw f at utf8)))
 
 pub misspelled : (word bytes : List ℕ) → bytes ≡ percent_decode word → (IsUtf8 bytes → ⊥) → None ≡ text_of_word word
 misspelled word bytes f refute = if_not (is_utf8 (percent_decode word)) (percent_decode word) (λ yes. refute (rw f (IsUtf8-from_is_utf8 _ yes)))
+
+no_escape : (p q r more : Bool) (xs ys : List ℕ) → (p || more) ≡ false → (if p && q && r then xs else ys) ≡ ys
+no_escape false q r more xs ys none = refl
+no_escape true q r more xs ys none = absurd (true≢false none)
+
+none_behind : (p more : Bool) → (p || more) ≡ false → more ≡ false
+none_behind false more none = none
+none_behind true more none = absurd (true≢false none)
+
+unescaped : (word : List ℕ) → list_any (λ b. nat_eq b 37) word ≡ false → percent_decode word ≡ word
+unfolding percent_decode
+unescaped [] none = refl
+unescaped (b ∷ []) none = refl
+unescaped (b ∷ c ∷ []) none = refl
+unescaped (b ∷ high ∷ low ∷ rest) none =
+    no_escape (nat_eq b 37) _ _ _ _ _ none ∙ (λ i. b ∷ unescaped (high ∷ low ∷ rest) (none_behind (nat_eq b 37) _ none) i)
+
+pub plainly : (word : List ℕ) → list_any (λ b. nat_eq b 37) word ≡ false → text_of_bytes word ≡ text_of_word word
+plainly word none = λ i. text_of_bytes (sym (unescaped word none) i)

@@ -1,8 +1,8 @@
 -- Words of a line taken off its front one by one.
-use Rattle.std.proofs.Common.{◌≡◌, ◌⊎◌, inl, inr, ℕ, ◌+◌, ◌-◌, ◌<◌, ◌≤◌, Bool, not, true, false, cond, List, [], ◌∷◌, length, take, drop, Option, Some, None, MatchBool, option_map, Bor, nat_lt, refl, ap, sym, ◌∙◌, arith}
-use Rattle.std.specs.List.{position, position_or_len, before_first, after_first, onto_first, slice_split}
+use Rattle.std.proofs.Common.{◌≡◌, ◌⊎◌, inl, inr, ℕ, ◌+◌, ◌-◌, ◌≤◌, Bool, not, true, false, cond, List, [], ◌∷◌, length, take, drop, Option, Some, None, MatchBool, option_map, Bor, nat_lt, refl, ap, sym, ◌∙◌, arith}
+use Rattle.std.specs.List.{position, position_or_len, onto_first, slice_split}
 use Rattle.std.specs.Option.{is_some}
-use Rattle.std.proofs.lemmas.Bool.{ltb-true, ltb-false, lt-ltb}
+use Rattle.std.proofs.lemmas.Bool.{ltb-true, ltb-false}
 use Rattle.std.proofs.lemmas.List.{take_rest}
 use Rattle.std.proofs.lemmas.List.Splits.{slice_split_first, join_with_byte-slice_split}
 use Rattle.disco_lines.specs.Words.{words, joined, is_space}

@@ -8,10 +8,11 @@ use Rattle.disco_instance.specs.Fault.{fault_number, field_name}
 use Rattle.disco_instance.specs.declared.fault.Fault.{Fault}
 use Rattle.disco_instance.specs.declared.fault.Fault.TheVariants.{MissingField, OutOfMemory, WriteFailed}
 use Rattle.disco_cache.specs.declared.payload.Payload.{Payload}
+use Rattle.disco_hub.specs.declared.copied.Copied.TheVariants as copied
 use Rattle.disco_instance.specs.Status.{status_name}
 use Rattle.disco_world.specs.declared.holding.Holding.{Holding}
 use Rattle.disco_world.specs.declared.event.Reply.{Reply}
-use Rattle.disco_world.specs.declared.event.Reply.TheVariants.{Changed, Same, Doc, Cleaned, Closed, Expired, Taken, Held, Refused}
+use Rattle.disco_world.specs.declared.event.Reply.TheVariants.{Changed, Same, Doc, Cleaned, Closed, Expired, Begun, Copied, Done, Published, Missed, Taken, Held, Refused}
 
 -- `doc BASE VERSION TEXT`
 abbrev pub document_line : Payload → List ℕ
@@ -48,6 +49,12 @@ answer_line (Doc payload) = document_line (arc_value payload)
 answer_line (Cleaned base) = codes "base " ++ decimal base ++ codes "\n"
 answer_line (Closed minute) = codes "minute " ++ decimal minute.renewals ++ codes " " ++ decimal minute.instances ++ codes "\n"
 answer_line (Expired run) = codes "expired " ++ decimal run.gone ++ stop_text run.stopped ++ codes "\n"
+answer_line (Begun keys) = codes "round " ++ decimal keys ++ codes "\n"
+answer_line (Copied (copied.Doc payload)) = codes "copied " ++ decimal (arc_value payload).version ++ codes "\n"
+answer_line (Copied (copied.Drop key)) = codes "dropped\n"
+answer_line Done = codes "done\n"
+answer_line (Published documents) = codes "published " ++ decimal documents ++ codes "\n"
+answer_line Missed = codes "miss\n"
 answer_line (Taken equal version) = codes "copy " ++ yes_or_no equal ++ codes " " ++ version_or_dash version ++ codes "\n"
 answer_line (Held holdings) = codes "held " ++ decimal (length holdings) ++ flat_map holding_text holdings ++ codes "\n"
 answer_line (Refused fault) = refusal_line fault

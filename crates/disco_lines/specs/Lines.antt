@@ -6,8 +6,8 @@ use Rattle.std.specs.Str.{bytes_eq}
 use Rattle.disco_instance.specs.declared.fault.Fault.{Fault}
 use Rattle.disco_instance.specs.declared.fault.Fault.TheVariants.{BadEvent}
 use Rattle.disco_world.specs.declared.event.Event.{Event}
-use Rattle.disco_world.specs.declared.event.Event.TheVariants.{Register, Cancel, Renew, SetStatus, DropStatus, Metadata, Clean, Minute, Expire, Take, Show}
-use Rattle.disco_lines.specs.Loads.{load}
+use Rattle.disco_world.specs.declared.event.Event.TheVariants.{Register, Cancel, Renew, SetStatus, DropStatus, Metadata, Clean, Minute, Expire, Begin, Copy, Publish, Take, Show}
+use Rattle.disco_lines.specs.Loads.{load_of, look_for, wanted}
 use Rattle.disco_lines.specs.Query.{entries_of_query}
 use Rattle.disco_lines.specs.Words.{words, joined, text_of_word, moment_of_word, client_of_word}
 
@@ -16,15 +16,10 @@ abbrev pub registration : List (List ℕ) → Option Event
 registration (now ∷ app ∷ json ∷ more) = option_and_then (λ n. option_map (λ a. Register n a (joined (json ∷ more))) (text_of_word app)) (moment_of_word now)
 registration _ = None
 
--- `NOW APP ID`
-abbrev pub cancellation : ℕ → List ℕ → List ℕ → List (List ℕ) → Option Event
-cancellation now app id [] = Some (Cancel now app id)
-cancellation now app id _ = None
-
--- `NOW APP ID`
-abbrev pub renewal : ℕ → List ℕ → List ℕ → List (List ℕ) → Option Event
-renewal now app id [] = Some (Renew now app id)
-renewal now app id _ = None
+-- an event behind which no word stands
+abbrev pub alone : Event → List (List ℕ) → Option Event
+alone event [] = Some event
+alone event _ = None
 
 -- `NOW APP ID STATUS`
 abbrev pub status_change : ℕ → List ℕ → List ℕ → List (List ℕ) → Option Event
@@ -44,8 +39,8 @@ metadata_change now app id query = Some (Metadata now app id (entries_of_query (
 -- what a keyword means behind which a moment, an app and an id stand, and then more words
 abbrev pub event_at : List ℕ → ℕ → List ℕ → List ℕ → List (List ℕ) → Option Event
 event_at keyword now app id more =
-    if bytes_eq keyword (codes "cancel") then cancellation now app id more
-    else (if bytes_eq keyword (codes "renew") then renewal now app id more
+    if bytes_eq keyword (codes "cancel") then alone (Cancel now app id) more
+    else (if bytes_eq keyword (codes "renew") then alone (Renew now app id) more
     else (if bytes_eq keyword (codes "status") then status_change now app id more
     else (if bytes_eq keyword (codes "unstatus") then override_removal now app id more
     else (if bytes_eq keyword (codes "metadata") then metadata_change now app id more else None))))
@@ -59,11 +54,6 @@ event_of_instance keyword _ = None
 abbrev pub cleaning : List (List ℕ) → Option Event
 cleaning (now ∷ []) = option_map (λ n. Clean n) (moment_of_word now)
 cleaning _ = None
-
--- no word
-abbrev pub closing : List (List ℕ) → Option Event
-closing [] = Some Minute
-closing _ = None
 
 -- `NOW`
 abbrev pub expiring : List (List ℕ) → Option Event
@@ -85,11 +75,15 @@ abbrev pub event_named : List ℕ → List (List ℕ) → Option Event
 event_named keyword more =
     if bytes_eq keyword (codes "register") then registration more
     else (if bytes_eq keyword (codes "clean") then cleaning more
-    else (if bytes_eq keyword (codes "minute") then closing more
+    else (if bytes_eq keyword (codes "minute") then alone Minute more
     else (if bytes_eq keyword (codes "expire") then expiring more
-    else (if bytes_eq keyword (codes "load") then load more
+    else (if bytes_eq keyword (codes "begin") then alone Begin more
+    else (if bytes_eq keyword (codes "copy") then alone Copy more
+    else (if bytes_eq keyword (codes "publish") then alone Publish more
+    else (if bytes_eq keyword (codes "load") then option_map load_of (wanted more)
+    else (if bytes_eq keyword (codes "look") then option_map look_for (wanted more)
     else (if bytes_eq keyword (codes "take") then taking more
-    else (if bytes_eq keyword (codes "show") then showing more else event_of_instance keyword more))))))
+    else (if bytes_eq keyword (codes "show") then showing more else event_of_instance keyword more))))))))))
 
 -- what the words of a line mean
 abbrev pub event_of_words : List (List ℕ) → Option Event

@@ -9,7 +9,7 @@ ghost use Rattle.disco_world.specs.declared.event.Reply.TheVariants as reply;
 ghost use Rattle.disco_world.specs.declared.event.Reply.TheVariants.{Taken, Held};
 
 use disco_instance::Fault;
-use disco_world::{Expired, Holding, Minute, Payload, Reply};
+use disco_world::{Copied, Expired, Holding, Minute, Payload, Reply};
 use std::alloc::Global;
 use std::io;
 use std::io::{ErrorKind, Write};
@@ -72,6 +72,18 @@ fn write_expired<W: Write>(run: &Expired, out: &mut W) -> io::Result<()>
     }
 }
 
+fn write_copied<W: Write>(copied: &Copied, out: &mut W) -> io::Result<()>
+    ensures { OnOk result (Appends (W.contents out.old) (W.contents out.new) (answer_line (reply.Copied copied.now))) }
+{
+    match copied {
+        Copied::Doc(payload) => {
+            let version = payload.version;
+            writeln!(out, "copied {version}")
+        }
+        Copied::Drop(_) => writeln!(out, "dropped"),
+    }
+}
+
 fn write_holding<W: Write>(holding: &Holding, out: &mut W) -> io::Result<()>
     ensures { OnOk result (Appends (W.contents out.old) (W.contents out.new) (holding_text holding.now)) }
 {
@@ -108,6 +120,11 @@ fn write_answer<W: Write>(reply: &Reply, out: &mut W) -> io::Result<()>
         Reply::Cleaned(base) => writeln!(out, "base {base}"),
         Reply::Closed(minute) => write_closed(minute, out),
         Reply::Expired(run) => write_expired(run, out),
+        Reply::Begun(keys) => writeln!(out, "round {keys}"),
+        Reply::Copied(copied) => write_copied(copied, out),
+        Reply::Done => writeln!(out, "done"),
+        Reply::Published(documents) => writeln!(out, "published {documents}"),
+        Reply::Missed => writeln!(out, "miss"),
         Reply::Taken {
             hash_equal,
             version,
@@ -118,7 +135,7 @@ fn write_answer<W: Write>(reply: &Reply, out: &mut W) -> io::Result<()>
 }
 
 /// How many bytes are gathered for one write, at least.
-const ENOUGH: usize = 8_192;
+const ENOUGH: usize = 65_536;
 
 /// How many bytes can be gathered without more memory: less than enough, and one short line more.
 const ROOM: usize = 2 * ENOUGH + 64;

@@ -1,12 +1,12 @@
 //! The event that a line means. `None` stands for a line that can't be read.
 ghost use Rattle.std.specs.Prelude.{◌≡◌, IfOk, IfErr, Some};
 ghost use Rattle.disco_instance.specs.declared.fault.Fault.TheVariants.{OutOfMemory};
-ghost use Rattle.disco_lines.specs.Lines.{cancellation, cleaning, closing, event_at, event_named, event_of, event_of_instance, expiring, metadata_change, override_removal, registration, renewal, showing, status_change, taking};
+ghost use Rattle.disco_lines.specs.Lines.{alone, cleaning, event_at, event_named, event_of, event_of_instance, expiring, metadata_change, override_removal, registration, showing, status_change, taking};
 ghost use Rattle.disco_lines.specs.Words.{client_of_word, moment_of_word};
 
-use crate::load::load_of;
+use crate::load::{load_of, look_for, wanted_of};
 use crate::query::entries_of_query;
-use crate::words::{Words, text_of_word};
+use crate::words::{Words, decoded, text_of_word};
 use disco_instance::{Bytes, Fault, Text, number_of_digits};
 use disco_world::Event;
 use std::alloc::Global;
@@ -24,8 +24,9 @@ use std::alloc::Global;
 /// - `clean NOW`;
 /// - `minute`;
 /// - `expire NOW`;
-/// - `load FORM QUERY`, where the form is `full` or `compact`, and the query `apps`, `delta`,
-///   `app NAME`, `vip VIP`, `svip SVIP`, `one APP ID` or `id ID`;
+/// - `begin`, `copy` and `publish`;
+/// - `load FORM QUERY` and `look FORM QUERY`, where the form is `full` or `compact`, and the query
+///   `apps`, `delta`, `app NAME`, `vip VIP`, `svip SVIP`, `one APP ID` or `id ID`;
 /// - `take CLIENT EVENT`, where the event is the number from 1 of the line that served a document;
 /// - `show CLIENT`.
 ///
@@ -37,7 +38,7 @@ pub(crate) fn event_of(alloc: Global, line: &[u8]) -> Result<Option<Event>, Faul
     let Some((keyword, words)) = Words::of(line).split() else {
         return Ok(None);
     };
-    match text_of_word(alloc, keyword)? {
+    match decoded(alloc, keyword)? {
         Some(keyword) => event_named(alloc, keyword.as_str(), words),
         None => Ok(None),
     }
@@ -51,20 +52,34 @@ fn event_named(alloc: Global, keyword: &str, words: Words) -> Result<Option<Even
     match keyword {
         "register" => register_of(alloc, words),
         "clean" => clean_of(alloc, words),
-        "minute" => Ok(minute_of(&words)),
+        "minute" => Ok(alone(Event::Minute, &words)),
         "expire" => expire_of(alloc, words),
-        "load" => load_of(alloc, words),
+        "begin" => Ok(alone(Event::Begin, &words)),
+        "copy" => Ok(alone(Event::Copy, &words)),
+        "publish" => Ok(alone(Event::Publish, &words)),
+        "load" => Ok(wanted_of(alloc, words)?.map(load_of)),
+        "look" => Ok(wanted_of(alloc, words)?.map(look_for)),
         "take" => take_of(alloc, words),
         "show" => show_of(alloc, words),
         _ => event_of_instance(alloc, keyword, words),
     }
 }
 
+/// An event behind which no word stands.
+fn alone(event: Event, words: &Words) -> Option<Event>
+    ensures { result ≡ alone event words.now }
+{
+    if !words.is_empty() {
+        return None;
+    }
+    Some(event)
+}
+
 fn moment_of_word(alloc: Global, word: &[u8]) -> Result<Option<u64>, Fault>
     ensures value { IfOk result (λ found. found ≡ moment_of_word word.now) }
     ensures memory { IfErr result (λ e. e ≡ OutOfMemory) }
 {
-    match text_of_word(alloc, word)? {
+    match decoded(alloc, word)? {
         Some(text) => Ok(number_of_digits(text.as_str())),
         None => Ok(None),
     }
@@ -133,30 +148,12 @@ fn event_at(
     ensures memory { IfErr result (λ e. e ≡ OutOfMemory) }
 {
     match keyword {
-        "cancel" => Ok(cancel_of(now, app, id, words)),
-        "renew" => Ok(renew_of(now, app, id, words)),
+        "cancel" => Ok(alone(Event::Cancel { now, app, id }, &words)),
+        "renew" => Ok(alone(Event::Renew { now, app, id }, &words)),
         "status" => status_of(alloc, now, app, id, words),
         "unstatus" => unstatus_of(alloc, now, app, id, words),
         "metadata" => metadata_of(alloc, now, app, id, words),
         _ => Ok(None),
-    }
-}
-
-fn cancel_of(now: u64, app: Text, id: Text, words: Words) -> Option<Event>
-    ensures { result ≡ cancellation now app id words.entry }
-{
-    match words.split() {
-        None => Some(Event::Cancel { now, app, id }),
-        Some(_) => None,
-    }
-}
-
-fn renew_of(now: u64, app: Text, id: Text, words: Words) -> Option<Event>
-    ensures { result ≡ renewal now app id words.entry }
-{
-    match words.split() {
-        None => Some(Event::Renew { now, app, id }),
-        Some(_) => None,
     }
 }
 
@@ -253,15 +250,6 @@ fn clean_of(alloc: Global, words: Words) -> Result<Option<Event>, Fault>
         Some(now) => Ok(Some(Event::Clean { now })),
         None => Ok(None),
     }
-}
-
-fn minute_of(words: &Words) -> Option<Event>
-    ensures { result ≡ closing words.now }
-{
-    if !words.is_empty() {
-        return None;
-    }
-    Some(Event::Minute)
 }
 
 fn expire_of(alloc: Global, words: Words) -> Result<Option<Event>, Fault>

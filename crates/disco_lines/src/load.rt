@@ -1,13 +1,22 @@
-//! What the words behind `load` ask for.
+//! What the words behind `load` and `look` ask for.
 ghost use Rattle.std.specs.Prelude.{◌≡◌, IfOk, IfErr, option_and_then};
 ghost use Rattle.disco_instance.specs.declared.fault.Fault.TheVariants.{OutOfMemory};
-ghost use Rattle.disco_lines.specs.Loads.{form_named, instance_load, load, load_by, load_of_kind, named_load, whole_load};
+ghost use Rattle.disco_lines.specs.Loads.{form_named, instance, load_of, look_for, named, wanted, wanted_by, wanted_of_kind, whole};
 ghost use Rattle.disco_lines.specs.Words.{text_of_word};
 
-use crate::words::{Words, text_of_word};
+use crate::words::{Words, decoded, text_of_word};
 use disco_instance::{Fault, Form, Key, Text};
 use disco_world::{DocKey, Event, Query};
 use std::alloc::Global;
+
+/// The document that a reader asks for.
+#[derive(Drop)]
+pub(crate) enum Wanted {
+    /// The one of a query, in a form.
+    ByKey(DocKey),
+    /// The one of the instance of an id, in a form.
+    ById(Text, Form),
+}
 
 fn form_named(name: &str) -> Option<Form>
     ensures { result ≡ form_named name.now }
@@ -23,80 +32,83 @@ fn form_of_word(alloc: Global, word: &[u8]) -> Result<Option<Form>, Fault>
     ensures value { IfOk result (λ found. found ≡ option_and_then form_named (text_of_word word.now)) }
     ensures memory { IfErr result (λ e. e ≡ OutOfMemory) }
 {
-    match text_of_word(alloc, word)? {
+    match decoded(alloc, word)? {
         Some(name) => Ok(form_named(name.as_str())),
         None => Ok(None),
     }
 }
 
-fn load_by(form: Form, query: Query) -> Event
-    ensures { result ≡ load_by form query }
+fn wanted_by(form: Form, query: Query) -> Wanted
+    ensures { result ≡ wanted_by form query }
 {
-    Event::Load {
-        key: DocKey { query, form },
-    }
+    Wanted::ByKey(DocKey { query, form })
 }
 
 /// What is asked for by a form and a kind of query that nothing stands behind.
-fn whole_load(form: Form, kind: &str) -> Option<Event>
-    ensures { result ≡ whole_load form kind.now }
+fn whole(form: Form, kind: &str) -> Option<Wanted>
+    ensures { result ≡ whole form kind.now }
 {
     match kind {
-        "apps" => Some(load_by(form, Query::Apps)),
-        "delta" => Some(load_by(form, Query::Delta)),
+        "apps" => Some(wanted_by(form, Query::Apps)),
+        "delta" => Some(wanted_by(form, Query::Delta)),
         _ => None,
     }
 }
 
 /// What is asked for by a form, a kind of query and a text.
-fn named_load(form: Form, kind: &str, text: Text) -> Option<Event>
-    ensures { result ≡ named_load form kind.now text }
+fn named(form: Form, kind: &str, text: Text) -> Option<Wanted>
+    ensures { result ≡ named form kind.now text }
 {
     match kind {
-        "app" => Some(load_by(form, Query::App(text))),
-        "vip" => Some(load_by(form, Query::Vip(text))),
-        "svip" => Some(load_by(form, Query::Svip(text))),
-        "id" => Some(Event::LoadById { id: text, form }),
+        "app" => Some(wanted_by(form, Query::App(text))),
+        "vip" => Some(wanted_by(form, Query::Vip(text))),
+        "svip" => Some(wanted_by(form, Query::Svip(text))),
+        "id" => Some(Wanted::ById(text, form)),
         _ => None,
     }
 }
 
-fn instance_load(form: Form, kind: &str, app: Text, id: Text) -> Option<Event>
-    ensures { result ≡ instance_load form kind.now app id }
+fn instance(form: Form, kind: &str, app: Text, id: Text) -> Option<Wanted>
+    ensures { result ≡ instance form kind.now app id }
 {
     match kind {
-        "one" => Some(load_by(form, Query::Instance(Key { app, id }))),
+        "one" => Some(wanted_by(form, Query::Instance(Key { app, id }))),
         _ => None,
     }
 }
 
 /// What is asked for by a form, a kind of query and the words behind it.
-fn load_of_kind(alloc: Global, form: Form, kind: &str, words: Words) -> Result<Option<Event>, Fault>
-    ensures value { IfOk result (λ found. found ≡ load_of_kind form kind.now words.entry) }
+fn wanted_of_kind(
+    alloc: Global,
+    form: Form,
+    kind: &str,
+    words: Words,
+) -> Result<Option<Wanted>, Fault>
+    ensures value { IfOk result (λ found. found ≡ wanted_of_kind form kind.now words.entry) }
     ensures memory { IfErr result (λ e. e ≡ OutOfMemory) }
 {
     let Some((first, words)) = words.split() else {
-        return Ok(whole_load(form, kind));
+        return Ok(whole(form, kind));
     };
     let second = words.split();
     let Some(first) = text_of_word(alloc, first)? else {
         return Ok(None);
     };
     let Some((second, words)) = second else {
-        return Ok(named_load(form, kind, first));
+        return Ok(named(form, kind, first));
     };
     if words.split().is_some() {
         return Ok(None);
     }
     match text_of_word(alloc, second)? {
-        Some(second) => Ok(instance_load(form, kind, first, second)),
+        Some(second) => Ok(instance(form, kind, first, second)),
         None => Ok(None),
     }
 }
 
-/// The load that the words behind `load` ask for, `None` where they ask for none.
-pub(crate) fn load_of(alloc: Global, words: Words) -> Result<Option<Event>, Fault>
-    ensures value { IfOk result (λ found. found ≡ load words.entry) }
+/// What the words behind `load` or `look` ask for, `None` where they ask for nothing.
+pub(crate) fn wanted_of(alloc: Global, words: Words) -> Result<Option<Wanted>, Fault>
+    ensures value { IfOk result (λ found. found ≡ wanted words.entry) }
     ensures memory { IfErr result (λ e. e ≡ OutOfMemory) }
 {
     let Some((form, words)) = words.split() else {
@@ -108,8 +120,28 @@ pub(crate) fn load_of(alloc: Global, words: Words) -> Result<Option<Event>, Faul
     let Some(form) = form_of_word(alloc, form)? else {
         return Ok(None);
     };
-    match text_of_word(alloc, kind)? {
-        Some(kind) => load_of_kind(alloc, form, kind.as_str(), words),
+    match decoded(alloc, kind)? {
+        Some(kind) => wanted_of_kind(alloc, form, kind.as_str(), words),
         None => Ok(None),
+    }
+}
+
+/// The load of what is asked for.
+pub(crate) fn load_of(wanted: Wanted) -> Event
+    ensures { result ≡ load_of wanted }
+{
+    match wanted {
+        Wanted::ByKey(key) => Event::Load { key },
+        Wanted::ById(id, form) => Event::LoadById { id, form },
+    }
+}
+
+/// The look for what is asked for.
+pub(crate) fn look_for(wanted: Wanted) -> Event
+    ensures { result ≡ look_for wanted }
+{
+    match wanted {
+        Wanted::ByKey(key) => Event::Look { key },
+        Wanted::ById(id, form) => Event::LookById { id, form },
     }
 }

@@ -58,7 +58,8 @@ fn replay_command<'a>(alloc: Global) -> Result<Command<'a>, AllocError>
         "How many versions there are at most, 1 to 18446744073709551615 [default: 18446744073709551615]";
     let instances = "How many instances are held at most, 1 to 65536 [default: 65536]";
     let queue = "How many recent changes are kept at most, 1 to 65536 [default: 65536]";
-    let entries = "How many documents the cache keeps at most, 1 to 4096 [default: 4096]";
+    let entries =
+        "How many documents the cache keeps, and keys a round has, at most, 1 to 4096 [default: 4096]";
     let retention = "How long a recent change is kept, in milliseconds [default: 180000]";
     Command::new(alloc, "replay")
         .about("Answers the events of standard input, one a line")
