@@ -13,7 +13,8 @@ def main():
     for size in map(int, sys.argv[3:]):
         path = os.path.join(folder, "%d.events" % size)
         write_lines(path, [registration(i) for i in range(size)] + ["load full apps\n"])
-        seconds, kib = measured(program, path)
+        seconds, usage = measured(program, path)
+        kib = usage.ru_maxrss
         line = "%d registrations: %.3f s, %d KiB" % (size, seconds, kib)
         if before is not None:
             line += ", %.2f times the seconds and %.2f times the memory" % (

@@ -19,7 +19,11 @@ PR_SET_CHILD_SUBREAPER = 36
 
 # The run is left behind by its shell. Its peak would begin at this script's own size if the script
 # had started it.
-LEFT_BEHIND = '"$1" replay <"$2" >/dev/null &'
+LEFT_BEHIND = '"$1" replay <"$2" >/dev/null 2>"$3" &'
+
+# A take of what a later event will answer. A run is refused for it when all events before it are
+# answered, and prints no answer: so it costs reading and answering alone.
+BAD_EVENT = "take 1 1000000000000\n"
 
 
 def app_of(i):
@@ -41,22 +45,38 @@ def adopt():
     ctypes.CDLL(None).prctl(PR_SET_CHILD_SUBREAPER, 1, 0, 0, 0)
 
 
-def measured(program, path):
-    """The seconds and the KiB of one run. Its answers are dropped."""
+def measured(program, path, wanted=(0, "")):
+    """The seconds of one run and what it used. Its status and its message are wanted, its answers dropped."""
+    errors = path + ".errors"
     begin = time.monotonic()
-    subprocess.run(["sh", "-c", LEFT_BEHIND, "sh", program, path], check=True)
+    subprocess.run(["sh", "-c", LEFT_BEHIND, "sh", program, path, errors], check=True)
     _, status, usage = os.wait4(-1, 0)
     seconds = time.monotonic() - begin
-    code = os.waitstatus_to_exitcode(status)
-    if code != 0:
-        sys.exit("a run ended with status %d" % code)
-    return seconds, usage.ru_maxrss
+    with open(errors, encoding="ascii") as text:
+        ended = os.waitstatus_to_exitcode(status), text.read()
+    if ended != wanted:
+        sys.exit("a run ended with status %d and said: %s" % ended)
+    return seconds, usage
 
 
 def median_seconds(program, path, lines, times):
     """The median of so many runs on these lines."""
     write_lines(path, lines)
     return statistics.median(measured(program, path)[0] for _ in range(times))
+
+
+def least_unprinted(program, path, inputs, times):
+    """Of each input the least seconds of processors of so many runs, which print no answer. The inputs take
+    turns, so that what else the machine does falls on all of them alike."""
+    spent = [[] for _ in inputs]
+    for k, lines in enumerate(inputs):
+        write_lines("%s.%d" % (path, k), lines + [BAD_EVENT])
+    for _ in range(times):
+        for k, lines in enumerate(inputs):
+            refused = (1, "discovery: fault 23 at line %d\n" % (len(lines) + 1))
+            _, usage = measured(program, "%s.%d" % (path, k), refused)
+            spent[k].append(usage.ru_utime + usage.ru_stime)
+    return [min(seconds) for seconds in spent]
 
 
 def print_growth(sizes, seconds_of_one, name):

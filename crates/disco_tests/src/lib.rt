@@ -10,3 +10,5 @@ mod calls;
 mod client;
 #[cfg(test)]
 mod program;
+#[cfg(test)]
+mod rounds;
