@@ -9,8 +9,8 @@ use Rattle.disco_history.specs.Held.{entry_of}
 use Rattle.disco_history.specs.Mentions.{Mention, mention_of}
 use Rattle.disco_history.specs.declared.held.Held.{Held}
 
-abbrev pub entries_of : List Held → List Entry
-entries_of hs = map entry_of hs
+abbrev pub held_entries : List Held → List Entry
+held_entries hs = map entry_of hs
 
 -- their rows alone
 abbrev pub rows_in : List Entry → List Row

@@ -7,7 +7,7 @@ ghost use Rattle.disco_queue.specs.Queue.{Keeps};
 ghost use Rattle.disco_queue.specs.Timed.{Timed, changes};
 ghost use Rattle.disco_registry.specs.State.{StandsFor};
 ghost use Rattle.disco_writer.specs.Documents.{IsWritten};
-ghost use Rattle.disco_writer.specs.Rows.{entries_of};
+ghost use Rattle.disco_writer.specs.Rows.{held_entries};
 ghost use Rattle.disco_writer.specs.declared.query.Query.TheVariants as query;
 
 use crate::many::many_text;
@@ -20,7 +20,7 @@ use std::alloc::{AllocError, Global};
 
 /// What each of these changes did, and to which record. The records are shared.
 fn held_by(alloc: Global, changes: &[&Change]) -> Result<Vec<Held>, AllocError>
-    ensures { IfOk result (λ v. entries_of v.items ≡ map (λ c. seen c.now) changes.now) }
+    ensures { IfOk result (λ v. held_entries v.items ≡ map (λ c. seen c.now) changes.now) }
 {
     let mut list = Vec::new(alloc);
     for change in changes {

@@ -14,7 +14,7 @@ ghost use Rattle.disco_wire.specs.Documents.{document_of};
 ghost use Rattle.disco_wire.specs.Meaning.{meant};
 ghost use Rattle.disco_wire.specs.declared.wire.Shape.TheVariants.{Many};
 ghost use Rattle.disco_writer.specs.Documents.{IsWritten, is_delta};
-ghost use Rattle.disco_writer.specs.Rows.{entries_of, mentions_in, rows_in};
+ghost use Rattle.disco_writer.specs.Rows.{held_entries, mentions_in, rows_in};
 ghost use Rattle.disco_writer.specs.Trees.{document_tree};
 ghost use Rattle.disco_writer.specs.declared.query.Query.TheVariants as query;
 
@@ -138,8 +138,8 @@ fn write_some(
     version: u64,
 ) -> Result<Option<Vec<u8>>, Fault>
     ensures written { IfOk result (λ o. MatchOption o (length held.now ≡ 0) (λ v. (0 < length held.now)
-        × (v.items ≡ compact_text (document_tree form (entries_of held.now) (hash (rows_in (entries_of held.now))) version))
-        × (document_of v.items ≡ Ok (meant Many (Some (hash (rows_in (entries_of held.now)))) (Some version) (mentions_in form (entries_of held.now)))))) }
+        × (v.items ≡ compact_text (document_tree form (held_entries held.now) (hash (rows_in (held_entries held.now))) version))
+        × (document_of v.items ≡ Ok (meant Many (Some (hash (rows_in (held_entries held.now)))) (Some version) (mentions_in form (held_entries held.now)))))) }
     ensures memory { IfErr result (λ e. e ≡ OutOfMemory) }
 {
     if held.is_empty() {

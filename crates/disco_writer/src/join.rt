@@ -9,7 +9,7 @@ ghost use Rattle.disco_wire.specs.Documents.{document_of};
 ghost use Rattle.disco_wire.specs.Meaning.{meant};
 ghost use Rattle.disco_wire.specs.declared.wire.Shape.TheVariants.{Many, App, One};
 ghost use Rattle.disco_writer.specs.Joined.{AreTextsOf, HaveTexts, IsTextOf, text_in, Pushes, after_last, app_close, app_joined, app_open, before_next, in_apps, in_commas, many_close, many_joined, many_open, one_joined, shown};
-ghost use Rattle.disco_writer.specs.Rows.{entries_of, mentions_in};
+ghost use Rattle.disco_writer.specs.Rows.{held_entries, mentions_in};
 ghost use Rattle.disco_writer.specs.Trees.{app_document, document_tree, instance_document};
 
 use crate::instance::{instance_text, usual};
@@ -138,8 +138,8 @@ fn push_text(
 
 /// Applications of these instances, neighbours of one app together.
 fn push_apps(alloc: Global, out: &mut Vec<u8>, form: Form, held: &[Held]) -> Result<(), AllocError>
-    ensures pushed { OnOk result (Pushes out.old.items out.new.items (in_apps None (shown form (entries_of held.now)))) }
-    ensures texts { OnOk result (HaveTexts form (entries_of held.now)) }
+    ensures pushed { OnOk result (Pushes out.old.items out.new.items (in_apps None (shown form (held_entries held.now)))) }
+    ensures texts { OnOk result (HaveTexts form (held_entries held.now)) }
 {
     let mut room = Vec::with_capacity(alloc, usual(form))?;
     let mut last: Option<&Text> = None;
@@ -154,8 +154,8 @@ fn push_apps(alloc: Global, out: &mut Vec<u8>, form: Form, held: &[Held]) -> Res
 
 /// The texts of these instances with commas between them.
 fn push_list(alloc: Global, out: &mut Vec<u8>, form: Form, held: &[Held]) -> Result<(), AllocError>
-    ensures pushed { OnOk result (Pushes out.old.items out.new.items (in_commas false (shown form (entries_of held.now)))) }
-    ensures texts { OnOk result (HaveTexts form (entries_of held.now)) }
+    ensures pushed { OnOk result (Pushes out.old.items out.new.items (in_commas false (shown form (held_entries held.now)))) }
+    ensures texts { OnOk result (HaveTexts form (held_entries held.now)) }
 {
     let mut room = Vec::with_capacity(alloc, usual(form))?;
     let mut later = false;
@@ -203,8 +203,8 @@ pub(crate) fn push_many(
     hash: &Text,
     version: u64,
 ) -> Result<(), AllocError>
-    ensures pushed { OnOk result (Pushes out.old.items out.new.items (many_joined (shown form (entries_of held.now)) hash.now version)) }
-    ensures texts { OnOk result (HaveTexts form (entries_of held.now)) }
+    ensures pushed { OnOk result (Pushes out.old.items out.new.items (many_joined (shown form (held_entries held.now)) hash.now version)) }
+    ensures texts { OnOk result (HaveTexts form (held_entries held.now)) }
 {
     push_many_open(out)?;
     push_apps(alloc, out, form, held)?;
@@ -218,8 +218,8 @@ pub(crate) fn push_app(
     name: &Text,
     held: &[Held],
 ) -> Result<(), AllocError>
-    ensures pushed { OnOk result (Pushes out.old.items out.new.items (app_joined name.now (shown form (entries_of held.now)))) }
-    ensures texts { OnOk result (HaveTexts form (entries_of held.now)) }
+    ensures pushed { OnOk result (Pushes out.old.items out.new.items (app_joined name.now (shown form (held_entries held.now)))) }
+    ensures texts { OnOk result (HaveTexts form (held_entries held.now)) }
 {
     push_str(out, "{\"application\":")?;
     push_open(out)?;

@@ -6,7 +6,7 @@ ghost use Rattle.disco_wire.specs.Documents.{document_of};
 ghost use Rattle.disco_wire.specs.Meaning.{meant};
 ghost use Rattle.disco_wire.specs.declared.wire.Shape.TheVariants.{Many, App, One};
 ghost use Rattle.disco_writer.specs.Joined.{AreTextsOf, IsTextOf, shown};
-ghost use Rattle.disco_writer.specs.Rows.{entries_of, mentions_in};
+ghost use Rattle.disco_writer.specs.Rows.{held_entries, mentions_in};
 ghost use Rattle.disco_writer.specs.Trees.{app_document, document_tree, instance_document};
 
 use crate::instance::usual;
@@ -23,8 +23,8 @@ pub(crate) fn many_text(
     hash: &Text,
     version: u64,
 ) -> Result<Vec<u8>, AllocError>
-    ensures text { IfOk result (λ v. v.items ≡ compact_text (document_tree form (entries_of held.now) hash.now version)) }
-    ensures means { IfOk result (λ v. document_of v.items ≡ Ok (meant Many (Some hash.now) (Some version) (mentions_in form (entries_of held.now)))) }
+    ensures text { IfOk result (λ v. v.items ≡ compact_text (document_tree form (held_entries held.now) hash.now version)) }
+    ensures means { IfOk result (λ v. document_of v.items ≡ Ok (meant Many (Some hash.now) (Some version) (mentions_in form (held_entries held.now)))) }
 {
     let _hash = hash.as_str();
     let mut out = Vec::with_capacity(alloc, room(form, held))?;
@@ -39,8 +39,8 @@ pub(crate) fn app_text(
     name: &Text,
     held: &[Held],
 ) -> Result<Vec<u8>, AllocError>
-    ensures text { IfOk result (λ v. v.items ≡ compact_text (app_document form name.now (entries_of held.now))) }
-    ensures means { IfOk result (λ v. document_of v.items ≡ Ok (meant App None None (mentions_in form (entries_of held.now)))) }
+    ensures text { IfOk result (λ v. v.items ≡ compact_text (app_document form name.now (held_entries held.now))) }
+    ensures means { IfOk result (λ v. document_of v.items ≡ Ok (meant App None None (mentions_in form (held_entries held.now)))) }
 {
     let _name = name.as_str();
     let mut out = Vec::with_capacity(alloc, room(form, held))?;

@@ -7,7 +7,7 @@ ghost use Rattle.disco_history.specs.Query.{asks_for, of_secure_vip};
 ghost use Rattle.disco_index.specs.Tally.{tally_of};
 ghost use Rattle.disco_index.specs.Vips.{under};
 ghost use Rattle.disco_history.specs.Held.{entry_of};
-ghost use Rattle.disco_writer.specs.Rows.{entries_of, rows_in};
+ghost use Rattle.disco_writer.specs.Rows.{held_entries, rows_in};
 
 use disco_history::Held;
 use disco_index::{Counts, VipIndex, has_vip};
@@ -17,7 +17,7 @@ use std::alloc::{AllocError, Global};
 
 /// The records at these keys, shared.
 fn held_at(alloc: Global, registry: &Registry, keys: &[&Key]) -> Result<Vec<Held>, AllocError>
-    ensures { IfOk result (λ v. entries_of v.items ≡ filter_map (get registry.now.held) (map (λ k. k.now) keys.now)) }
+    ensures { IfOk result (λ v. held_entries v.items ≡ filter_map (get registry.now.held) (map (λ k. k.now) keys.now)) }
 {
     let mut list = Vec::new(alloc);
     for key in keys {
@@ -35,7 +35,7 @@ pub(crate) fn held_under_vip(
     vips: &VipIndex,
     vip: &Text,
 ) -> Result<Vec<Held>, Fault>
-    ensures held { IfOk result (λ v. entries_of v.items ≡ filter_map (get registry.now.held) (under vips.now vip.now)) }
+    ensures held { IfOk result (λ v. held_entries v.items ≡ filter_map (get registry.now.held) (under vips.now vip.now)) }
     ensures memory { IfErr result (λ e. e ≡ OutOfMemory) }
 {
     let keys = vips.under(alloc, vip.as_str())?;
@@ -54,7 +54,7 @@ pub(crate) fn held_under_svip(
     registry: &Registry,
     svip: &Text,
 ) -> Result<Vec<Held>, AllocError>
-    ensures { IfOk result (λ v. entries_of v.items ≡ filter (λ e. asks_for (of_secure_vip svip.now) e.0) (values registry.now.held)) }
+    ensures { IfOk result (λ v. held_entries v.items ≡ filter (λ e. asks_for (of_secure_vip svip.now) e.0) (values registry.now.held)) }
 {
     let mut list = Vec::new(alloc);
     for held in registry.records() {
@@ -67,7 +67,7 @@ pub(crate) fn held_under_svip(
 
 /// How many of these instances have each status.
 pub(crate) fn count(held: &[Held]) -> Counts
-    ensures { result ≡ tally_of (rows_in (entries_of held.now)) }
+    ensures { result ≡ tally_of (rows_in (held_entries held.now)) }
 {
     let _len = held.len();
     let mut counts = Counts::new();

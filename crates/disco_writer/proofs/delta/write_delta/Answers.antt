@@ -10,7 +10,7 @@ use Rattle.disco_history.specs.Registry.{reg}
 use Rattle.disco_history.proofs.Sets.{values-reg}
 use Rattle.disco_index.specs.Tally.{rows_of}
 use Rattle.disco_queue.specs.Timed.{changes}
-use Rattle.disco_writer.specs.Rows.{entries_of}
+use Rattle.disco_writer.specs.Rows.{held_entries}
 use Rattle.disco_writer.specs.declared.query.Query.TheVariants as query
 use Rattle.disco_writer.proofs.Written.{all_asked, all_there, some_written}
 use Rattle.disco_writer.proofs.delta.write_delta.Goals as goal
@@ -18,9 +18,9 @@ use Rattle.disco_writer.proofs.delta.write_delta.Goals as goal
 pub returns-clause-written : goal.returns-clause-written
 returns-clause-written c = λ h stands keeps.
     let hs = changes h in
-    let es = entries_of c.as_slice-2.result.now in
+    let es = held_entries c.as_slice-2.result.now in
     let same : es ≡ values (delta hs c.args.queue.now.base) =
-    ap entries_of c.as_slice-2.ensures.value ∙ c.in_ok-held.ensures ∙ ap (map (λ (x : Bor Change). seen x.now)) c.as_slice.ensures.value ∙ c.in_ok-last.ensures.history h keeps in
+    ap held_entries c.as_slice-2.ensures.value ∙ c.in_ok-held.ensures ∙ ap (map (λ (x : Bor Change). seen x.now)) c.as_slice.ensures.value ∙ c.in_ok-last.ensures.history h keeps in
     let code : c.in_ok-hash.hash ≡ hash (values (reg hs)) =
     c.in_ok-hash.ensures.text (rows_of c.args.registry.now.held) c.requires ∙ ap (λ (m : FinMap key_cmp Entry). hash (rows_of m)) stands.held ∙ ap hash (sym (values-reg hs)) in
     some_written c.args.form query.Delta hs c.args.queue.now.base es c.in_ok-hash.hash c.version.result _ same (code ∙ ap hash (sym (all_asked hs))) (c.version.ensures.version ∙ stands.version) (all_there hs) c.in_ok-many_text.ensures.text c.in_ok-many_text.ensures.means

@@ -8,7 +8,7 @@ use Rattle.disco_history.specs.Query.{of_app}
 use Rattle.disco_history.proofs.Restrictions.{values-said_restrict}
 use Rattle.disco_history.specs.Apps.{is_of_app}
 use Rattle.disco_history.specs.Held.{entry_of}
-use Rattle.disco_writer.specs.Rows.{entries_of}
+use Rattle.disco_writer.specs.Rows.{held_entries}
 use Rattle.disco_writer.specs.declared.query.Query.TheVariants as query
 use Rattle.disco_writer.proofs.Written.{none_written, some_there, some_written}
 use Rattle.disco_writer.proofs.document.write_app.Goals as goal
@@ -18,7 +18,7 @@ returns-then-is_empty-clause-written c = λ h stands.
     let name = c.args.name.now in
     let same = c.of_app-held.ensures ∙ ap (λ (m : FinMap key_cmp Entry). filter (is_of_app name) (values m)) stands.held ∙ sym (values-said_restrict h (of_app name)) in
     let none : length c.of_app-held.result.now ≡ 0 = grind (arith, nat_tests, c.is_empty.ensures, c.if-is_empty.true) in
-    none_written (of_app name) h (entries_of c.of_app-held.result.now) same (length-map c.of_app-held.result.now entry_of ∙ none) refl
+    none_written (of_app name) h (held_entries c.of_app-held.result.now) same (length-map c.of_app-held.result.now entry_of ∙ none) refl
 
 pub returns-clause-written : goal.returns-clause-written
 returns-clause-written c = λ h stands.
@@ -26,5 +26,5 @@ returns-clause-written c = λ h stands.
     let held = c.of_app-held.result.now in
     let same = c.of_app-held.ensures ∙ ap (λ (m : FinMap key_cmp Entry). filter (is_of_app name) (values m)) stands.held ∙ sym (values-said_restrict h (of_app name)) in
     let some : 0 < length held = grind (arith, nat_tests, c.is_empty.ensures, c.if-is_empty.false) in
-    let count : length (entries_of held) ≡ length held = length-map held entry_of in
-    some_written c.args.form (query.App name) h (length h) (entries_of held) _ (length h) _ same refl refl (some_there (of_app name) h (entries_of held) same (omega (arith, some, count))) c.in_ok-app_text.ensures.text c.in_ok-app_text.ensures.means
+    let count : length (held_entries held) ≡ length held = length-map held entry_of in
+    some_written c.args.form (query.App name) h (length h) (held_entries held) _ (length h) _ same refl refl (some_there (of_app name) h (held_entries held) same (omega (arith, some, count))) c.in_ok-app_text.ensures.text c.in_ok-app_text.ensures.means

@@ -7,14 +7,14 @@ use Rattle.disco_history.specs.Query.{all}
 use Rattle.disco_history.proofs.Restrictions.{values-said_all}
 use Rattle.disco_index.specs.Tally.{rows_of}
 use Rattle.disco_writer.specs.Documents.{mentioned}
-use Rattle.disco_writer.specs.Rows.{entries_of, rows_in}
+use Rattle.disco_writer.specs.Rows.{held_entries, rows_in}
 use Rattle.disco_writer.specs.declared.query.Query.TheVariants as query
 use Rattle.disco_writer.proofs.Written.{all_there, code_is, some_written}
 use Rattle.disco_writer.proofs.document.write_apps.Goals as goal
 
 pub returns-clause-written : goal.returns-clause-written
 returns-clause-written c = λ h stands.
-    let es = entries_of c.records.result.now in
+    let es = held_entries c.records.result.now in
     let version = c.version.result in
     let same : es ≡ mentioned all h = c.records.ensures ∙ ap (λ (m : FinMap key_cmp Entry). values m) stands.held ∙ sym (values-said_all h) in
     let code : c.in_ok-hash.hash ≡ hash (rows_in es) =

@@ -4,13 +4,13 @@ use Rattle.serde_json.specs.Written.{compact_text}
 use Rattle.disco_history.specs.Hash.{hash}
 use Rattle.disco_wire.specs.Meaning.{meant}
 use Rattle.disco_wire.specs.declared.wire.Shape.TheVariants.{Many}
-use Rattle.disco_writer.specs.Rows.{entries_of, mentions_in, rows_in}
+use Rattle.disco_writer.specs.Rows.{held_entries, mentions_in, rows_in}
 use Rattle.disco_writer.specs.Trees.{document_tree}
 use Rattle.disco_writer.proofs.document.write_some.Goals as goal
 
 pub returns-clause-written : goal.returns-clause-written
 returns-clause-written c =
-    let es = entries_of c.args.held.now in
+    let es = held_entries c.args.held.now in
     let some : 0 < length c.args.held.now = grind (arith, nat_tests, c.is_empty.ensures, c.if-is_empty.false) in
     let code : c.in_ok-hash.hash ≡ hash (rows_in es) = c.in_ok-hash.ensures.text (rows_in es) c.count.ensures in (
       some,

@@ -7,7 +7,7 @@ use Rattle.disco_history.specs.Query.{asks_for, of_secure_vip}
 use Rattle.disco_history.proofs.Restrictions.{values-said_restrict}
 use Rattle.disco_history.specs.Held.{entry_of}
 use Rattle.disco_writer.specs.Documents.{mentioned}
-use Rattle.disco_writer.specs.Rows.{entries_of}
+use Rattle.disco_writer.specs.Rows.{held_entries}
 use Rattle.disco_writer.specs.declared.query.Query.TheVariants as query
 use Rattle.disco_writer.proofs.Written.{many_written}
 use Rattle.disco_writer.proofs.document.write_svip.Goals as goal
@@ -15,7 +15,7 @@ use Rattle.disco_writer.proofs.document.write_svip.Goals as goal
 pub returns-clause-written : goal.returns-clause-written
 returns-clause-written c = λ h stands.
     let svip = c.args.svip.now in
-    let es = entries_of c.as_slice.result.now in
+    let es = held_entries c.as_slice.result.now in
     let same : es ≡ mentioned (of_secure_vip svip) h =
-    ap entries_of c.as_slice.ensures.value ∙ c.in_ok-held.ensures ∙ ap (λ (m : FinMap key_cmp Entry). filter (λ (e : Entry). asks_for (of_secure_vip svip) e.0) (values m)) stands.held ∙ sym (values-said_restrict h (of_secure_vip svip)) in
+    ap held_entries c.as_slice.ensures.value ∙ c.in_ok-held.ensures ∙ ap (λ (m : FinMap key_cmp Entry). filter (λ (e : Entry). asks_for (of_secure_vip svip) e.0) (values m)) stands.held ∙ sym (values-said_restrict h (of_secure_vip svip)) in
     many_written _ c.args.form (query.Svip svip) h (length h) es c.version.result _ c.in_ok-write_some.field-0 same refl (c.version.ensures.version ∙ stands.version) (sym (length-map c.as_slice.result.now entry_of)) refl refl refl c.in_ok-write_some.ensures.written

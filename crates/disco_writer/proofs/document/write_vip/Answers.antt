@@ -13,7 +13,7 @@ use Rattle.disco_index.specs.Vips.{under}
 use Rattle.disco_index.proofs.VipLaws.{under_vip_law}
 use Rattle.disco_history.specs.Held.{entry_of}
 use Rattle.disco_writer.specs.Documents.{mentioned}
-use Rattle.disco_writer.specs.Rows.{entries_of}
+use Rattle.disco_writer.specs.Rows.{held_entries}
 use Rattle.disco_writer.specs.declared.query.Query.TheVariants as query
 use Rattle.disco_writer.proofs.Written.{many_written}
 use Rattle.disco_writer.proofs.document.write_vip.Goals as goal
@@ -22,8 +22,8 @@ pub returns-clause-written : goal.returns-clause-written
 returns-clause-written c = λ h stands.
     let vip = c.args.vip.now in
     let held = c.args.registry.now.held in
-    let es = entries_of c.as_slice.result.now in
+    let es = held_entries c.as_slice.result.now in
     let keys = under_vip_law c.args.vips.now held (reg h) vip c.requires (λ k. sym (get-said_reg h k) ∙ ap (λ (m : FinMap key_cmp Entry). first_of (get m k)) (sym stands.held)) in
     let same : es ≡ mentioned (of_vip vip) h =
-    ap entries_of c.as_slice.ensures.value ∙ c.in_ok-held.ensures.held ∙ ap (λ (m : FinMap key_cmp Entry). filter_map (get m) (under c.args.vips.now vip)) stands.held ∙ ap (λ (ks : List Key). filter_map (get (said h (reg h))) ks) keys ∙ found-restrict h (of_vip vip) in
+    ap held_entries c.as_slice.ensures.value ∙ c.in_ok-held.ensures.held ∙ ap (λ (m : FinMap key_cmp Entry). filter_map (get m) (under c.args.vips.now vip)) stands.held ∙ ap (λ (ks : List Key). filter_map (get (said h (reg h))) ks) keys ∙ found-restrict h (of_vip vip) in
     many_written _ c.args.form (query.Vip vip) h (length h) es c.version.result _ c.in_ok-write_some.field-0 same refl (c.version.ensures.version ∙ stands.version) (sym (length-map c.as_slice.result.now entry_of)) refl refl refl c.in_ok-write_some.ensures.written

@@ -1,8 +1,8 @@
 use Rattle.std.proofs.Common.{◌≡◌, ◌++◌, drop, map}
 use Rattle.std.specs.FinMap.{get}
 use Rattle.std.specs.List.{filter_map}
-use Rattle.disco_writer.specs.Rows.{entries_of}
+use Rattle.disco_writer.specs.Rows.{held_entries}
 use Rattle.disco_writer.proofs.selected.held_at.Given as goal
 
 abbrev pub invariant-loop-key : goal.invariant-loop-key
-invariant-loop-key l = entries_of l.list.items ++ filter_map (get l.registry.held) (map (λ k. k.now) (drop l.key-index l.keys)) ≡ filter_map (get l.registry.held) (map (λ k. k.now) l.keys)
+invariant-loop-key l = held_entries l.list.items ++ filter_map (get l.registry.held) (map (λ k. k.now) (drop l.key-index l.keys)) ≡ filter_map (get l.registry.held) (map (λ k. k.now) l.keys)
