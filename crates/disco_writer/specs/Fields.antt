@@ -8,7 +8,7 @@ use Rattle.disco_instance.specs.declared.data_center.DataCenter.{DataCenter}
 use Rattle.disco_instance.specs.declared.lease.Lease.{Lease}
 use Rattle.disco_instance.specs.declared.port.Port.{Port}
 use Rattle.disco_history.specs.Change.{Entry}
-use Rattle.disco_writer.specs.Trees.{truth, whole, digits, port_tree, data_center_tree, lease_tree, metadata_tree}
+use Rattle.disco_writer.specs.Trees.{truth, whole, digits_text, port_tree, data_center_tree, lease_tree, metadata_tree}
 
 abbrev pub Fields : Type 0
 Fields = List (List ℕ × Data)
@@ -38,7 +38,7 @@ abbrev pub host_fields : Row → Fields
 host_fields r = (codes "hostName", string r.host_name) ∷ (codes "instanceId", string r.key.id) ∷ (codes "ipAddr", string r.ip_addr) ∷ []
 
 abbrev pub moment_fields : Row → Fields
-moment_fields r = (codes "lastDirtyTimestamp", digits r.last_dirty) ∷ (codes "lastUpdatedTimestamp", digits r.last_updated) ∷ []
+moment_fields r = (codes "lastDirtyTimestamp", digits_text r.last_dirty) ∷ (codes "lastUpdatedTimestamp", digits_text r.last_updated) ∷ []
 
 abbrev pub state_fields : Row → Fields
 state_fields r = (codes "overriddenStatus", string (status_name r.overridden_status)) ∷ (codes "port", port_tree r.port) ∷ (codes "securePort", port_tree r.secure_port)

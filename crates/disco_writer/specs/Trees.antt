@@ -30,8 +30,8 @@ abbrev pub whole : ℕ → Data
 whole n = number (unsigned n)
 
 -- a whole number as a text of its digits
-abbrev pub digits : ℕ → Data
-digits n = string (decimal n)
+abbrev pub digits_text : ℕ → Data
+digits_text n = string (decimal n)
 
 abbrev pub port_tree : Port → Data
 port_tree p = tree ((codes "$", whole p.number) ∷ (codes "@enabled", truth p.enabled) ∷ [])
@@ -84,8 +84,8 @@ instance_tree f e = let r = e.0 in tree (members_in f (
     both (codes "instanceId") (string r.key.id) ∷
     both (codes "ipAddr") (string r.ip_addr) ∷
     full (codes "isCoordinatingDiscoveryServer") (truth r.is_coordinating) ∷
-    both (codes "lastDirtyTimestamp") (digits r.last_dirty) ∷
-    both (codes "lastUpdatedTimestamp") (digits r.last_updated) ∷
+    both (codes "lastDirtyTimestamp") (digits_text r.last_dirty) ∷
+    both (codes "lastUpdatedTimestamp") (digits_text r.last_updated) ∷
     full (codes "leaseInfo") (lease_tree r.lease) ∷
     full (codes "metadata") (metadata_tree r.metadata) ∷
     both (codes "overriddenStatus") (string (status_name r.overridden_status)) ∷
@@ -120,7 +120,7 @@ many_tree apps hash version = tree ((
   tree (
       (codes "application", array (items_of apps)) ∷
       (codes "apps__hashcode", string hash) ∷
-      (codes "versions__delta", digits version) ∷ []),
+      (codes "versions__delta", digits_text version) ∷ []),
 ) ∷ [])
 
 -- a document of many apps

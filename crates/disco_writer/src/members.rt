@@ -6,7 +6,7 @@ ghost use Rattle.disco_instance.specs.Action.{action_name};
 ghost use Rattle.disco_instance.specs.Status.{status_name};
 ghost use Rattle.disco_writer.specs.Fields.{entry_fields, lease_fields};
 ghost use Rattle.disco_writer.specs.Tokens.{Adds, Writes};
-ghost use Rattle.disco_writer.specs.Trees.{data_center_tree, digits, lease_tree, metadata_tree, port_tree, truth, whole};
+ghost use Rattle.disco_writer.specs.Trees.{data_center_tree, digits_text, lease_tree, metadata_tree, port_tree, truth, whole};
 
 use disco_instance::{Action, DataCenter, Entries, Lease, Port, Status, Text};
 use json::Writer;
@@ -57,7 +57,7 @@ pub(crate) fn put_whole(out: &mut Writer, name: &str, number: u64) -> Result<(),
 }
 
 pub(crate) fn put_digits(out: &mut Writer, name: &str, number: u64) -> Result<(), AllocError>
-    ensures { Writes result out.old out.new ((name.now, digits number) ∷ []) }
+    ensures { Writes result out.old out.new ((name.now, digits_text number) ∷ []) }
 {
     out.key(name)?;
     out.quoted_u64(number)
