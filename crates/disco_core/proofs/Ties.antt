@@ -166,7 +166,7 @@ places_kept old new (Some e) keeps has = λ q k is. keeps q k (has q k is)
 
 -- what was at a change's key is taken, what it puts is added, and places are given back
 pub indexed_after : (m : FinMap key_cmp Entry) (r : Row) (a : Action) (old taken added new : VipKeys) → IsIndexOf old m → IfSome (get m r.key) (λ d. key_of d ≡ r.key)
-    → vips.TakesAny (get m r.key) old taken → AddsAny (put_of (r, a)) taken added → vips.IsSame added new → IsIndexOf new (held_after m (Some (r, a)))
+    → vips.RemovesAny (get m r.key) old taken → AddsAny (put_of (r, a)) taken added → vips.IsSame added new → IsIndexOf new (held_after m (Some (r, a)))
 indexed_after m r Added old taken added new index own takes adds swept = same_vips_law (insert m r.key (r, Added)) added new (put_vips_law m (r, Added) old taken added index own takes adds) swept
 indexed_after m r Modified old taken added new index own takes adds swept = same_vips_law (insert m r.key (r, Modified)) added new (put_vips_law m (r, Modified) old taken added index own takes adds) swept
 indexed_after m r Deleted old taken added new index own takes adds swept =

@@ -5,7 +5,7 @@ ghost use Rattle.disco_instance.specs.declared.fault.Fault.TheVariants.{OutOfMem
 ghost use Rattle.disco_history.specs.Change.{key_of, seen};
 ghost use Rattle.disco_history.specs.Held.{entry_of};
 ghost use Rattle.disco_history.specs.Registry.{put_of};
-ghost use Rattle.disco_index.specs.Vips.{IsIndexOf, IsSame, KeepsPlaces, TakesAny};
+ghost use Rattle.disco_index.specs.Vips.{IsIndexOf, IsSame, KeepsPlaces, RemovesAny};
 ghost use Rattle.disco_registry.specs.Commit.{held_after};
 ghost use Rattle.disco_core.specs.Moves.{OthersStay};
 ghost use Rattle.disco_core.specs.State.{AddsAny, HasVipPlaces, IsSwept};
@@ -48,7 +48,7 @@ pub(crate) fn close(vips: &mut VipIndex, change: &Change)
 
 /// The instance of a held record has no vip any more.
 fn take(vips: &mut VipIndex, held: Option<&Held>)
-    ensures vips { TakesAny (option_map (λ h. entry_of h.now) held.entry) vips.old vips.new }
+    ensures vips { RemovesAny (option_map (λ h. entry_of h.now) held.entry) vips.old vips.new }
     ensures places { KeepsPlaces vips.old vips.new }
 {
     if let Some(held) = held {

@@ -12,7 +12,7 @@ use Rattle.disco_history.specs.Change.{Entry, key_of}
 use Rattle.disco_history.specs.Query.{asks_for, of_vip, restrict}
 use Rattle.disco_history.proofs.Keys.{exact_keys, keys_total, same_is}
 use Rattle.disco_history.proofs.Sets.{get-restrict}
-use Rattle.disco_index.specs.Vips.{Adds, IsIndexOf, IsSame, Takes, TakesAny, VipKeys, entry_has, has, is_under, place_at, places_at, under}
+use Rattle.disco_index.specs.Vips.{Adds, IsIndexOf, IsSame, Removes, RemovesAny, VipKeys, entry_has, has, is_under, place_at, places_at, under}
 use Rattle.disco_index.proofs.Stored.{same_keys}
 
 pub no_vips_law : IsIndexOf empty empty
@@ -45,14 +45,14 @@ module _ (m : FinMap key_cmp Entry) (k : Key) (q : List ℕ) (p : Key) where
   one_gone d true there same = ap (λ o. entry_has q o && not (asks_for (of_vip q) d.0 && true)) (ap (get m) (same_is p k same) ∙ there) ∙ itself_out (asks_for (of_vip q) d.0)
   one_gone d false there same = and_none (asks_for (of_vip q) d.0) (entry_has q (get m p))
 
-gone_by : (m : FinMap key_cmp Entry) (k : Key) (o : Option Entry) (old new : VipKeys) → get m k ≡ o → IsIndexOf old m → IfSome o (λ d. key_of d ≡ k) → TakesAny o old new
+gone_by : (m : FinMap key_cmp Entry) (k : Key) (o : Option Entry) (old new : VipKeys) → get m k ≡ o → IsIndexOf old m → IfSome o (λ d. key_of d ≡ k) → RemovesAny o old new
     → (q : List ℕ) (p : Key) → has new q p ≡ entry_has q (cond (same_key p k) None (get m p))
 gone_by m k None old new there is keyed taken q p = taken q p ∙ is q p ∙ nothing_gone m k q p (same_key p k) there refl
 gone_by m k (Some d) old new there is keyed taken q p =
     taken q p ∙ (λ i. is q p i && not (asks_for (of_vip q) d.0 && same_key p (keyed i))) ∙ one_gone m k q p d (same_key p k) there refl
 
 -- what was at the key is taken
-pub gone_vips_law : (m : FinMap key_cmp Entry) (k : Key) (old new : VipKeys) → IsIndexOf old m → IfSome (get m k) (λ d. key_of d ≡ k) → TakesAny (get m k) old new → IsIndexOf new (remove m k)
+pub gone_vips_law : (m : FinMap key_cmp Entry) (k : Key) (old new : VipKeys) → IsIndexOf old m → IfSome (get m k) (λ d. key_of d ≡ k) → RemovesAny (get m k) old new → IsIndexOf new (remove m k)
 gone_vips_law m k old new is keyed taken q p = gone_by m k (get m k) old new refl is keyed taken q p ∙ sym (ap (entry_has q) (get-remove keys_total m k p))
 
 -- ---- an entry comes
@@ -70,7 +70,7 @@ one_put q e false o = other (asks_for (of_vip q) e.0)
     other false = refl
 
 -- what was at the key is taken, and then the new entry is added
-pub put_vips_law : (m : FinMap key_cmp Entry) (e : Entry) (old taken new : VipKeys) → IsIndexOf old m → IfSome (get m (key_of e)) (λ d. key_of d ≡ key_of e) → TakesAny (get m (key_of e)) old taken → Adds e.0 taken new → IsIndexOf new (insert m (key_of e) e)
+pub put_vips_law : (m : FinMap key_cmp Entry) (e : Entry) (old taken new : VipKeys) → IsIndexOf old m → IfSome (get m (key_of e)) (λ d. key_of d ≡ key_of e) → RemovesAny (get m (key_of e)) old taken → Adds e.0 taken new → IsIndexOf new (insert m (key_of e) e)
 put_vips_law m e old taken new is keyed took added q p =
     added q p
     ∙ ap (λ b. is_under e.0 q p || b) (gone_by m (key_of e) (get m (key_of e)) old taken refl is keyed took q p)
@@ -78,16 +78,16 @@ put_vips_law m e old taken new is keyed took added q p =
     ∙ sym (ap (entry_has q) (get-insert keys_total m (key_of e) e p))
 
 -- a record that was there goes
-pub record_gone : (r : Row) (m : FinMap key_cmp Entry) (e : Entry) (old new : VipKeys) → Takes r old new → e.0 ≡ r → get m (key_of e) ≡ Some e → IsIndexOf old m → IsIndexOf new (remove m (key_of e))
+pub record_gone : (r : Row) (m : FinMap key_cmp Entry) (e : Entry) (old new : VipKeys) → Removes r old new → e.0 ≡ r → get m (key_of e) ≡ Some e → IsIndexOf old m → IsIndexOf new (remove m (key_of e))
 record_gone r m e old new takes of there is =
     gone_vips_law m (key_of e) old new is (subst (λ o. IfSome o (λ d. key_of d ≡ key_of e)) (sym there) refl)
-    (subst (λ o. TakesAny o old new) (sym there) (subst (λ x. Takes x old new) (sym of) takes))
+    (subst (λ o. RemovesAny o old new) (sym there) (subst (λ x. Removes x old new) (sym of) takes))
 
 -- a record of a key that was not there comes
 pub record_put : (r : Row) (m : FinMap key_cmp Entry) (e : Entry) (old new : VipKeys) → Adds r old new → e.0 ≡ r → get m (key_of e) ≡ None → IsIndexOf old m → IsIndexOf new (insert m (key_of e) e)
 record_put r m e old new adds of none is =
     put_vips_law m e old old new is (subst (λ o. IfSome o (λ d. key_of d ≡ key_of e)) (sym none) tt)
-    (subst (λ o. TakesAny o old old) (sym none) (λ q k. refl)) (subst (λ x. Adds x old new) (sym of) adds)
+    (subst (λ o. RemovesAny o old old) (sym none) (λ q k. refl)) (subst (λ x. Adds x old new) (sym of) adds)
 
 -- ---- the keys under a vip
 

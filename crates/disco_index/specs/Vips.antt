@@ -59,13 +59,13 @@ abbrev pub Adds : Row → VipKeys → VipKeys → Type 0
 Adds r old new = (q : List ℕ) (k : Key) → has new q k ≡ (is_under r q k || has old q k)
 
 -- the row's instance has the row's vips no more
-abbrev pub Takes : Row → VipKeys → VipKeys → Type 0
-Takes r old new = (q : List ℕ) (k : Key) → has new q k ≡ (has old q k && not (is_under r q k))
+abbrev pub Removes : Row → VipKeys → VipKeys → Type 0
+Removes r old new = (q : List ℕ) (k : Key) → has new q k ≡ (has old q k && not (is_under r q k))
 
 -- the same of an entry's row, where there is one
-abbrev pub TakesAny : Option Entry → VipKeys → VipKeys → Type 0
-TakesAny None old new = IsSame old new
-TakesAny (Some e) old new = Takes e.0 old new
+abbrev pub RemovesAny : Option Entry → VipKeys → VipKeys → Type 0
+RemovesAny None old new = IsSame old new
+RemovesAny (Some e) old new = Removes e.0 old new
 
 -- the entry's record has the vip
 abbrev pub entry_has : List ℕ → Option Entry → Bool

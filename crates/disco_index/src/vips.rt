@@ -12,7 +12,7 @@ ghost use Rattle.disco_instance.specs.declared.fault.Fault.TheVariants.{OutOfMem
 ghost use Rattle.disco_history.specs.Change.{Entry, key_of};
 ghost use Rattle.disco_history.specs.Query.{of_vip, restrict, vips};
 ghost use Rattle.disco_index.specs.Places.{Alters, HasNoBareVip, IsBareOnly, opened, seen_vips, swept, written};
-ghost use Rattle.disco_index.specs.Vips.{Adds, HasNoneEmpty, HasPlaces, IsIndexOf, IsSame, KeepsOthers, KeepsPlaces, Takes, under};
+ghost use Rattle.disco_index.specs.Vips.{Adds, HasNoneEmpty, HasPlaces, IsIndexOf, IsSame, KeepsOthers, KeepsPlaces, Removes, under};
 
 use crate::address::next_vip;
 use crate::places::Places;
@@ -89,7 +89,7 @@ impl VipIndex {
     /// The record's instance has the record's vips no more. Their places stay, and stand empty.
     /// Takes no memory.
     pub fn take(&mut self, rec: &Record)
-        ensures vips { Takes (row rec.now) self.old self.new }
+        ensures vips { Removes (row rec.now) self.old self.new }
         ensures index { (m : FinMap key_cmp Entry) (e : Entry) → e.0 ≡ row rec.now → get m (key_of e) ≡ Some e → IsIndexOf self.old m → IsIndexOf self.new (remove m (key_of e)) }
         ensures places { KeepsPlaces self.old self.new }
     {
@@ -128,7 +128,7 @@ impl VipIndex {
     }
 
     fn displace(&mut self, rec: &Record)
-        ensures vips { Takes (row rec.now) self.old self.new }
+        ensures vips { Removes (row rec.now) self.old self.new }
         ensures places { KeepsPlaces self.old self.new }
     {
         self.write_all(rec, false);

@@ -12,7 +12,7 @@ use Rattle.disco_core.specs.State.{Rules}
 use Rattle.disco_world.specs.Answers.{IsAnswer}
 use Rattle.disco_world.specs.Clients.{IsTold, clients_with, shown, taken, taken_by, taken_from}
 use Rattle.disco_world.specs.Events.{World, clients_after, shows, takes}
-use Rattle.disco_world.specs.Steps.{AreHeld, Takes, reply_to_show, reply_to_take}
+use Rattle.disco_world.specs.Steps.{AreHeld, ClientTakes, reply_to_show, reply_to_take}
 use Rattle.disco_world.specs.declared.clients.Client.{Client}
 use Rattle.disco_world.specs.declared.holding.Holding.{Holding}
 
@@ -39,7 +39,7 @@ one_client false o p held now same none was is = sym is
 is_client : (q c : ℕ) (f : ℕ → Option Client) → eqb q c ≡ true → f q ≡ f c
 is_client q c f e = ap f (eqb-true q c e)
 
-pub took : (rules : Rules) (w : World) (old new : ℕ → Option Client) (client : ℕ) (d : Payload) (r : Result (Bool × Option ℕ) Fault) → AreHeld old w → Takes old new client d r
+pub took : (rules : Rules) (w : World) (old new : ℕ → Option Client) (client : ℕ) (d : Payload) (r : Result (Bool × Option ℕ) Fault) → AreHeld old w → ClientTakes old new client d r
     → IsAnswer rules w (takes client d) (reply_to_take r) × AreHeld new (record w { clients = clients_after w.clients (takes client d) (reply_to_take r) })
 took rules w old new client d (Ok told) are is = (
   subst (λ o. IsTold d o told.0 told.1) (ap (taken d) (are client)) is.0,

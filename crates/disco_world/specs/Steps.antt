@@ -53,9 +53,9 @@ abbrev pub IsReadable : Payload → Type 0
 IsReadable d = (m : Meaning) × IsMeant d m
 
 -- a client takes a document, or is refused it and all is as before
-abbrev pub Takes : (ℕ → Option Client) → (ℕ → Option Client) → ℕ → Payload → Result (Bool × Option ℕ) Fault → Type 0
-Takes old new client d (Ok told) = IsTold d (taken d (old client)) told.0 told.1 × ((q : ℕ) → new q ≡ clients_with old client d q)
-Takes old new client d (Err e) = (e ≢ OutOfMemory → (e ≡ NotFetched) × (taken d (old client) ≡ None)) × ((q : ℕ) → new q ≡ old q)
+abbrev pub ClientTakes : (ℕ → Option Client) → (ℕ → Option Client) → ℕ → Payload → Result (Bool × Option ℕ) Fault → Type 0
+ClientTakes old new client d (Ok told) = IsTold d (taken d (old client)) told.0 told.1 × ((q : ℕ) → new q ≡ clients_with old client d q)
+ClientTakes old new client d (Err e) = (e ≢ OutOfMemory → (e ≡ NotFetched) × (taken d (old client) ≡ None)) × ((q : ℕ) → new q ≡ old q)
 
 -- each of these documents can be read
 abbrev pub AreReadable : List Reply → Type 0

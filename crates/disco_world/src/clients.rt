@@ -8,7 +8,7 @@ ghost use Rattle.disco_client.specs.Copies.{hash_equal};
 ghost use Rattle.disco_wire.specs.Wire.{seen};
 ghost use Rattle.disco_writer.specs.Documents.{is_delta};
 ghost use Rattle.disco_world.specs.Clients.{moved, same_form, shown};
-ghost use Rattle.disco_world.specs.Steps.{IsMeant, IsReadable, Takes, holding};
+ghost use Rattle.disco_world.specs.Steps.{IsMeant, IsReadable, ClientTakes, holding};
 
 use crate::holding::{Holding, Holdings};
 use disco_cache::Payload;
@@ -90,7 +90,7 @@ fn replace(
 ) -> Result<Told, Fault>
     requires meant { IsMeant payload.now (seen wire) }
     requires full { is_delta payload.now.key.query ≡ false }
-    ensures { Takes (tree.get nat_cmp clients.old) (tree.get nat_cmp clients.new) client payload.now result }
+    ensures { ClientTakes (tree.get nat_cmp clients.old) (tree.get nat_cmp clients.new) client payload.now result }
 {
     let Wire {
         shape,
@@ -122,7 +122,7 @@ fn replace(
 fn overlay(clients: &mut Clients, client: u32, payload: &Payload, wire: Wire) -> Result<Told, Fault>
     requires meant { IsMeant payload.now (seen wire) }
     requires delta { is_delta payload.now.key.query ≡ true }
-    ensures { Takes (tree.get nat_cmp clients.old) (tree.get nat_cmp clients.new) client payload.now result }
+    ensures { ClientTakes (tree.get nat_cmp clients.old) (tree.get nat_cmp clients.new) client payload.now result }
 {
     let Some(held) = clients.get_mut(&client) else {
         return Err(Fault::NotFetched);
@@ -141,7 +141,7 @@ pub(crate) fn take(
     payload: &Payload,
 ) -> Result<Told, Fault>
     requires { IsReadable payload.now }
-    ensures { Takes (tree.get nat_cmp clients.old) (tree.get nat_cmp clients.new) client payload.now result }
+    ensures { ClientTakes (tree.get nat_cmp clients.old) (tree.get nat_cmp clients.new) client payload.now result }
 {
     let wire = read_document(alloc, payload.text.as_slice())?;
     if payload.key.query.is_delta() {

@@ -5,7 +5,7 @@ use Rattle.disco_history.specs.Change.{Entry, key_of, seen}
 use Rattle.disco_history.specs.Held.{entry_of}
 use Rattle.disco_history.specs.declared.held.Held.{Held}
 use Rattle.disco_history.specs.Registry.{put_of}
-use Rattle.disco_index.specs.Vips.{TakesAny}
+use Rattle.disco_index.specs.Vips.{RemovesAny}
 use Rattle.disco_core.proofs.Ties.{indexed_after, places_kept}
 use Rattle.disco_core.proofs.vips.follow.Goals as goal
 
@@ -24,5 +24,5 @@ returns-clause-index c =
     let own : IfSome (get held (key_of e)) (λ d. key_of d ≡ key_of e) =
     subst (λ (k : Key). IfSome (get held (key_of e)) (λ d. key_of d ≡ k)) c.key.ensures
     (subst (λ (o : Option Entry). IfSome o (λ d. key_of d ≡ c.key.result.now)) found (own_key c.held-held.result c.key.result.now c.held-held.ensures.same_key)) in
-    let takes = subst (λ (o : Option Entry). TakesAny o c.args.vips.now c.take.new.vips) found c.take.ensures.vips in
+    let takes = subst (λ (o : Option Entry). RemovesAny o c.args.vips.now c.take.new.vips) found c.take.ensures.vips in
     indexed_after held e.0 e.1 c.args.vips.now c.take.new.vips c.add.new.vips c.sweep.new.vips c.requires.index own takes c.add.ensures c.sweep.ensures.same
