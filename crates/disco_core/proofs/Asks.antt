@@ -266,7 +266,7 @@ module _ (s : registry.State) (v w : Leases) (p : Past) (now : ℕ) (c : Option 
 
 -- ---- a hub after what was asked
 
-longer : (most : ℕ) (p : Past) (now : ℕ) (ask : Ask) (c : Option Entry) → commit.extended (history p) c ≡ history (with_done most p now ask c)
+longer : (most : ℕ) (p : Past) (now : ℕ) (ask : Ask) (c : Option Entry) → commit.appended (history p) c ≡ history (with_done most p now ask c)
 longer most p now ask None = refl
 longer most p now ask (Some c) = sym (map-append (λ (t : Timed). t.0) p.timed ((c, now) ∷ []))
 
@@ -274,7 +274,7 @@ remembers : (q : Queue) (most : ℕ) (p : Past) (now : ℕ) (ask : Ask) (c : Opt
 remembers q most p now ask c is = record { kept = is.kept; base = is.base }
 
 -- a hub that has done what was ready stands for what has happened with it
-pub stands_on : (old new : State) (ready : Ready) (p : Past) (ask : Ask) → IsFor old ready ask → StandsFor old p → registry.StandsFor new.registry (commit.extended (history p) (change_in ready))
+pub stands_on : (old new : State) (ready : Ready) (p : Past) (ask : Ask) → IsFor old ready ask → StandsFor old p → registry.StandsFor new.registry (commit.appended (history p) (change_in ready))
     → Remembers new.queue (with_change old.queue.max p (moment_in ready) (option_map seen ready.kept)) → option_map seen ready.kept ≡ change_in ready → AreLeased new.registry.held new.leases
     → Moves (change_in ready) ready.key ready.step ready.moment old.leases new.leases → StandsFor new (with_done old.queue.max p (moment_in ready) ask (change_in ready))
 stands_on old new ready p ask is stands held recent kept leased moves =

@@ -19,7 +19,7 @@ use Rattle.disco_history.proofs.Sets.{get-said_reg, len-reg, said_gone, said_put
 use Rattle.disco_instance.specs.declared.action.Action.{Action}
 use Rattle.disco_instance.specs.declared.action.Action.TheVariants.{Added, Modified, Deleted}
 use Rattle.disco_instance.specs.Row.{Row}
-use Rattle.disco_registry.specs.Commit.{Takes, done_by, extended, held_after}
+use Rattle.disco_registry.specs.Commit.{Takes, done_by, appended, held_after}
 use Rattle.disco_registry.specs.State.{State, StandsFor, IsSame}
 
 longer : (h : List Entry) (c : Entry) → length (h ++ c ∷ []) ≡ length h + 1
@@ -30,7 +30,7 @@ said_after h r Added = said_put h (r, Added) refl
 said_after h r Modified = said_put h (r, Modified) refl
 said_after h r Deleted = said_gone h (r, Deleted) refl
 
-pub stands_after : (h : List Entry) (old new : State) (c : Option Entry) → Takes old c new → StandsFor old h → StandsFor new (extended h c)
+pub stands_after : (h : List Entry) (old new : State) (c : Option Entry) → Takes old c new → StandsFor old h → StandsFor new (appended h c)
 stands_after h old new None takes stands = record { held = takes.held ∙ stands.held; version = takes.version ∙ stands.version }
 stands_after h old new (Some c) takes stands = record {
   held = takes.held ∙ ap (λ m. held_after m (Some c)) stands.held ∙ sym (said_after h c.0 c.1);

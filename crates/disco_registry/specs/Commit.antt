@@ -64,6 +64,6 @@ outcome (Ok a) = done_by a
 outcome (Err e) = None
 
 -- a history with the change, if there is one
-abbrev pub extended : List Entry → Option Entry → List Entry
-extended h None = h
-extended h (Some c) = h ++ c ∷ []
+abbrev pub appended : List Entry → Option Entry → List Entry
+appended h None = h
+appended h (Some c) = h ++ c ∷ []

@@ -12,7 +12,7 @@ ghost use Rattle.disco_history.specs.Query.{by_id};
 ghost use Rattle.disco_history.specs.Registry.{put_of, reg};
 ghost use Rattle.disco_registry.specs.Accept.{Refuses, accept_after, accepts, is_new, limits_of, status_given};
 ghost use Rattle.disco_history.specs.Apps.{is_of_app, is_of_id};
-ghost use Rattle.disco_registry.specs.Commit.{IsPrepared, IsReady, Takes, changes_properly, done_by, extended, outcome};
+ghost use Rattle.disco_registry.specs.Commit.{IsPrepared, IsReady, Takes, changes_properly, done_by, appended, outcome};
 ghost use Rattle.disco_history.specs.Held.{entry_of, record_at, seen_record};
 ghost use Rattle.disco_registry.specs.Op.{ask_of, register, cancel, renew, set_status, drop_status, add_metadata};
 ghost use Rattle.disco_registry.specs.State.{IsSame, StandsFor, State};
@@ -355,7 +355,7 @@ impl Registry {
         ensures change { done_by result ≡ ready }
         ensures proper { changes_properly result ≡ true }
         ensures takes { Takes self.old ready self.new }
-        ensures history { (h : List Entry) → StandsFor self.old h → StandsFor self.new (extended h ready) }
+        ensures history { (h : List Entry) → StandsFor self.old h → StandsFor self.new (appended h ready) }
     {
         let Ready { change, kept } = ready;
         match change {
@@ -393,7 +393,7 @@ impl Registry {
         ensures does { (h : List Entry) → StandsFor self.old h → Gives done_by result (accept_after (limits_of self.old) h (ask_of op) now) }
         ensures proper { IfOk result (λ a. changes_properly a ≡ true) }
         ensures takes { Takes self.old (outcome result) self.new }
-        ensures history { (h : List Entry) → StandsFor self.old h → StandsFor self.new (extended h (outcome result)) }
+        ensures history { (h : List Entry) → StandsFor self.old h → StandsFor self.new (appended h (outcome result)) }
     {
         let ready = self.ready(op, now)?;
         Ok(self.commit(ready))

@@ -1,11 +1,11 @@
 use Rattle.std.proofs.Common.{Option, Some, option_map, sym, ap, subst, ◌∙◌}
 use Rattle.disco_history.specs.Change.{Entry, seen}
-use Rattle.disco_registry.specs.Commit.{extended}
+use Rattle.disco_registry.specs.Commit.{appended}
 use Rattle.disco_registry.specs.State.{StandsFor}
 use Rattle.disco_registry.proofs.Histories.{stands_after}
 use Rattle.disco_registry.proofs.registry.Registry.commit.Goals as goal
 
 pub returns-in-Some-clause-history : goal.returns-in-Some-clause-history
 returns-in-Some-clause-history c = λ h stands.
-    subst (λ (o : Option Entry). StandsFor c.take.new.self (extended h o)) (sym (ap (option_map seen) c.in-Some.is) ∙ c.ready.view_is)
+    subst (λ (o : Option Entry). StandsFor c.take.new.self (appended h o)) (sym (ap (option_map seen) c.in-Some.is) ∙ c.ready.view_is)
     (stands_after h c.args.self.now c.take.new.self (Some (seen c.in-Some.change)) c.take.ensures stands)
