@@ -52,7 +52,7 @@ tied_new s t i v q stands ts is vs keeps =
           ap (λ x. lasts (lease_at x k)) vs ∙ ap (λ o. lasts (option_flatten o)) (get-empty key_cmp k)
           ∙ sym (ap (λ m. rows_last (record_at m k)) held ∙ ap entry_lasts (get-empty key_cmp k));
       few = let none : len s.held ≡ 0 = ap len held ∙ len-empty key_cmp Entry in omega (arith, none);
-      seen = keeps.version ∙ sym stands.version;
+      follows = keeps.version ∙ sym stands.version;
     }
 
 -- ---- leases
@@ -136,7 +136,7 @@ tied_after old new c t i v₀ v q₀ q few leased seen takes counted indexed mov
   indexed = subst (λ m. IsIndexOf i m) (sym takes.held) indexed;
   leased = subst (λ m. AreLeased m v) (sym takes.held) (moves leased);
   few = few_taken old new c takes few;
-  seen = recent ∙ ap (λ n. version_after n c) seen ∙ sym takes.version;
+  follows = recent ∙ ap (λ n. version_after n c) seen ∙ sym takes.version;
 }
 
 -- what gets more places stays tied
@@ -146,7 +146,7 @@ tied_same old new t i j v w q r tied same vips_same leases_same queue_same = rec
   indexed = subst (λ m. IsIndexOf j m) (sym same.held) (same_vips_law old.held i j tied.indexed vips_same);
   leased = subst (λ m. AreLeased m w) (sym same.held) (λ k. ap lasts (leases_same.leases k) ∙ tied.leased k);
   few = few_same old new same tied.few;
-  seen = (λ k. queue_same.base k + length (queue_same.kept k)) ∙ tied.seen ∙ sym same.version;
+  follows = (λ k. queue_same.base k + length (queue_same.kept k)) ∙ tied.follows ∙ sym same.version;
 }
 
 -- what is the same as the view of a core is the same as the core

@@ -15,10 +15,10 @@ use Rattle.disco_registry.specs.State.{State}
 abbrev pub AreLeased : FinMap key_cmp Entry → Leases → Type 0
 AreLeased held v = (k : Key) → option_map (λ l. l.duration_secs) (lease_at v k) ≡ option_map (λ r. r.lease.duration_secs) (record_at held k)
 
--- the counts and the vips are those of the records, each has its lease, there are no more records than changes, and the queue has seen each change
+-- the counts and the vips are those of the records, each has its lease, there are no more records than changes, and the queue follows them to the last change
 pub record IsTied (s : State) (t : Tally) (i : VipKeys) (v : Leases) (q : Queue) : Type 0 where
   pub counts : t ≡ tally_in s.held
   pub indexed : IsIndexOf i s.held
   pub leased : AreLeased s.held v
   pub few : len s.held ≤ s.version
-  pub seen : version q ≡ s.version
+  pub follows : version q ≡ s.version

@@ -9,13 +9,13 @@ use Rattle.disco_instance.specs.Key.{key_cmp}
 use Rattle.disco_instance.specs.declared.key.Key.{Key}
 use Rattle.disco_lease.specs.Leases as leases
 use Rattle.disco_lease.specs.Due.{due_cmp, due_moment, overdue, passed}
-use Rattle.disco_lease.specs.Seen.{has_run_out, pair, pairs, seen, seen_places}
+use Rattle.disco_lease.specs.Seen.{has_run_out, pair, pairs, plain_lease, seen_places}
 use Rattle.disco_lease.specs.declared.lease.Lease.{Lease}
 use Rattle.disco_lease.proofs.Due.{dues_total, exact_dues}
 use Rattle.disco_lease.proofs.Ordered.{Entries, collected, due_of, entries_stored}
 
 paired : (now : ℕ) (e : Key × Option Lease) → is_some (pair now e) ≡ has_run_out now e.1
-paired now e = by (passed now (option_map due_moment (option_map seen e.1)))
+paired now e = by (passed now (option_map due_moment (option_map plain_lease e.1)))
   where
     by : (o : Option ℕ) → is_some {T = (ℕ × Key) × Unit {0}} (option_map (λ (m : ℕ). ((m, e.0), tt)) o) ≡ is_some o
     by None = refl

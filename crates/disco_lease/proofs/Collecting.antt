@@ -12,7 +12,7 @@ use Rattle.std.specs.FinMap.{find, from_entries, get, get-from_entries, keys, sa
 use Rattle.std.specs.FinMap.Entries.{put, by_order, find-put}
 use Rattle.disco_instance.specs.declared.key.Key.{Key}
 use Rattle.disco_lease.specs.Due.{due_cmp, due_moment}
-use Rattle.disco_lease.specs.Seen.{at_pair, pair, seen, seen_due, stored_cmp}
+use Rattle.disco_lease.specs.Seen.{at_pair, pair, plain_lease, seen_due, stored_cmp}
 use Rattle.disco_lease.specs.declared.lease.Lease.{Lease}
 use Rattle.disco_lease.proofs.Due.{dues_total, exact_dues}
 use Rattle.disco_lease.proofs.Ordered.{entries_stored, in_order}
@@ -55,7 +55,7 @@ goes_over q None rest g = refl
 goes_over q (Some e) rest g = swapped (eq_by_cmp due_cmp q e.0) e.1 (find due_cmp q rest) g
 
 -- the pair of a lease that has run out
-pub pair_is : (now : ℕ) (k : Key) (place : Option Lease) (l : Lease) (d : ℕ) → place ≡ Some l → d ≡ due_moment (seen l) → nat_lt d now ≡ true → pair now (k, place) ≡ Some ((d, k), tt)
+pub pair_is : (now : ℕ) (k : Key) (place : Option Lease) (l : Lease) (d : ℕ) → place ≡ Some l → d ≡ due_moment (plain_lease l) → nat_lt d now ≡ true → pair now (k, place) ≡ Some ((d, k), tt)
 pair_is now k place l d is due over =
     ap (λ (p : Option Lease). pair now (k, p)) is
     ∙ ap (λ x. option_map (λ m. ((m, k), tt)) (cond (nat_lt x now) (Some x) None)) (sym due)

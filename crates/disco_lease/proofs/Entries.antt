@@ -9,7 +9,7 @@ use Rattle.disco_instance.specs.Key.{key_cmp, same_key}
 use Rattle.disco_instance.specs.declared.key.Key.{Key}
 use Rattle.disco_history.proofs.Keys.{keys_total, exact_keys, same_is, same_key-sym}
 use Rattle.disco_lease.specs.Leases as leases
-use Rattle.disco_lease.specs.Seen.{Moved, seen, seen_places}
+use Rattle.disco_lease.specs.Seen.{Moved, plain_lease, seen_places}
 use Rattle.disco_lease.specs.declared.lease.Lease.{Lease}
 
 abbrev Entries : Type 0
@@ -20,18 +20,18 @@ abbrev pub at_key : Entries → Key → Option (Option Lease)
 at_key es q = lookup (is_at (key_cmp q)) es
 
 abbrev seen_place : Option (Option Lease) → Option (Option leases.Lease)
-seen_place o = option_map (option_map seen) o
+seen_place o = option_map (option_map plain_lease) o
 
-step : (b : Bool) (p : Option Lease) (x : Option (Option leases.Lease)) (o : Option (Option Lease)) → x ≡ seen_place o → cond b (Some (option_map seen p)) x ≡ seen_place (cond b (Some p) o)
+step : (b : Bool) (p : Option Lease) (x : Option (Option leases.Lease)) (o : Option (Option Lease)) → x ≡ seen_place o → cond b (Some (option_map plain_lease p)) x ≡ seen_place (cond b (Some p) o)
 step true p x o e = refl
 step false p x o e = e
 
-find_seen : (es : Entries) (q : Key) → find key_cmp q (map (λ (e : Key × Option Lease). (e.0, option_map seen e.1)) es) ≡ seen_place (at_key es q)
+find_seen : (es : Entries) (q : Key) → find key_cmp q (map (λ (e : Key × Option Lease). (e.0, option_map plain_lease e.1)) es) ≡ seen_place (at_key es q)
 find_seen [] q = refl
 find_seen (e ∷ es) q = step (is_at (key_cmp q) e.0) e.1 _ (at_key es q) (find_seen es q)
 
 pub get_seen : (es : Entries) (q : Key) → get (seen_places es) q ≡ seen_place (at_key es q)
-get_seen es q = get-from_entries keys_total (map (λ (e : Key × Option Lease). (e.0, option_map seen e.1)) es) q ∙ find_seen es q
+get_seen es q = get-from_entries keys_total (map (λ (e : Key × Option Lease). (e.0, option_map plain_lease e.1)) es) q ∙ find_seen es q
 
 through : (b : Bool) (w o : Option (Option Lease)) → seen_place (cond b w o) ≡ cond b (seen_place w) (seen_place o)
 through true w o = refl
@@ -47,8 +47,8 @@ get_updated es fs k w h q =
     ∙ ap (λ b. cond b (seen_place w) (seen_place (at_key es q))) (same_key-sym k q)
     ∙ ap (cond (same_key q k) (seen_place w)) (sym (get_seen es q))
 
-pub one_put : (es fs : Entries) (k : Key) (p : Option Lease) → Updated es fs k (Some p) → seen_places fs ≡ insert (seen_places es) k (option_map seen p)
-one_put es fs k p h = same_map keys_total exact_keys _ _ (λ q. get_updated es fs k (Some p) h q ∙ sym (get-insert keys_total (seen_places es) k (option_map seen p) q))
+pub one_put : (es fs : Entries) (k : Key) (p : Option Lease) → Updated es fs k (Some p) → seen_places fs ≡ insert (seen_places es) k (option_map plain_lease p)
+one_put es fs k p h = same_map keys_total exact_keys _ _ (λ q. get_updated es fs k (Some p) h q ∙ sym (get-insert keys_total (seen_places es) k (option_map plain_lease p) q))
 
 pub one_out : (es fs : Entries) (k : Key) → Updated es fs k None → seen_places fs ≡ remove (seen_places es) k
 one_out es fs k h = same_map keys_total exact_keys _ _ (λ q. get_updated es fs k None h q ∙ sym (get-remove keys_total (seen_places es) k q))
@@ -60,11 +60,11 @@ some_seen (Some p) = refl
 pub has_seen : (es : Entries) (q : Key) → is_some (at_key es q) ≡ is_some (get (seen_places es) q)
 has_seen es q = sym (ap is_some (get_seen es q) ∙ some_seen (at_key es q))
 
-flat : (o : Option (Option Lease)) → option_map seen (option_flatten o) ≡ option_flatten (seen_place o)
+flat : (o : Option (Option Lease)) → option_map plain_lease (option_flatten o) ≡ option_flatten (seen_place o)
 flat None = refl
 flat (Some p) = refl
 
-pub lease_seen : (es : Entries) (q : Key) → option_map seen (option_flatten (at_key es q)) ≡ option_flatten (get (seen_places es) q)
+pub lease_seen : (es : Entries) (q : Key) → option_map plain_lease (option_flatten (at_key es q)) ≡ option_flatten (get (seen_places es) q)
 lease_seen es q = flat (at_key es q) ∙ ap option_flatten (sym (get_seen es q))
 
 seen_some : (o : Option (Option Lease)) → IsSome (seen_place o) → IsSome o

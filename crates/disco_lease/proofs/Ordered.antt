@@ -22,7 +22,7 @@ use Rattle.disco_history.proofs.Keys.{keys_total, exact_keys}
 use Rattle.disco_history.proofs.Sorted.{both}
 use Rattle.disco_lease.specs.Leases as leases
 use Rattle.disco_lease.specs.Due.{due_moment, overdue, passed}
-use Rattle.disco_lease.specs.Seen.{pairs, seen, seen_places}
+use Rattle.disco_lease.specs.Seen.{pairs, plain_lease, seen_places}
 use Rattle.disco_lease.specs.declared.lease.Lease.{Lease}
 use Rattle.disco_lease.proofs.Entries.{at_key, lease_seen}
 
@@ -47,14 +47,14 @@ entries_stored {R = R} total exact es h =
 abbrev pub Entries : Type 0
 Entries = List (Key × Option Lease)
 
-keys_alike : (es : Entries) → map (λ (e : Key × Option leases.Lease). e.0) (map (λ (e : Key × Option Lease). (e.0, option_map seen e.1)) es) ≡ keys_of es
+keys_alike : (es : Entries) → map (λ (e : Key × Option leases.Lease). e.0) (map (λ (e : Key × Option Lease). (e.0, option_map plain_lease e.1)) es) ≡ keys_of es
 keys_alike [] = refl
 keys_alike (e ∷ es) = ap (λ ks. e.0 ∷ ks) (keys_alike es)
 
 -- the keys of the places, in their order
 keys_stored : (es : Entries) → IsStrictlySortedBy key_cmp (keys_of es) → keys (seen_places es) ≡ keys_of es
 keys_stored es h =
-    ap (map (λ (e : Key × Option leases.Lease). e.0)) (entries_stored keys_total exact_keys (map (λ (e : Key × Option Lease). (e.0, option_map seen e.1)) es) (in_order key_cmp key_cmp (λ k. k) (option_map seen) (λ a b. refl) es h))
+    ap (map (λ (e : Key × Option leases.Lease). e.0)) (entries_stored keys_total exact_keys (map (λ (e : Key × Option Lease). (e.0, option_map plain_lease e.1)) es) (in_order key_cmp key_cmp (λ k. k) (option_map plain_lease) (λ a b. refl) es h))
     ∙ keys_alike es
 
 -- when the lease of a key runs out
@@ -65,7 +65,7 @@ abbrev pair_of : ℕ → (Key → Option ℕ) → Key → Option ((ℕ × Key) �
 pair_of now due k = option_map (λ m. ((m, k), tt)) (passed now (due k))
 
 abbrev says : (Key → Option ℕ) → Key × Option Lease → Type 0
-says due e = due e.0 ≡ option_map due_moment (option_map seen e.1)
+says due e = due e.0 ≡ option_map due_moment (option_map plain_lease e.1)
 
 pairs_by_key : (now : ℕ) (due : Key → Option ℕ) (es : Entries) → All (says due) es → pairs now es ≡ filter_map (pair_of now due) (keys_of es)
 pairs_by_key now due [] all = refl
@@ -73,8 +73,8 @@ pairs_by_key now due (e ∷ es) all =
     ap (λ o. cons_option (option_map (λ m. ((m, e.0), tt)) (passed now o)) (pairs now es)) (sym (All-head (says due) e es all))
     ∙ ap (cons_option (pair_of now due e.0)) (pairs_by_key now due es (All-tail (says due) e es all))
 
-found_due : (es : Entries) (e : Key × Option Lease) → at_key es e.0 ≡ Some e.1 → due_of (seen_places es) e.0 ≡ option_map due_moment (option_map seen e.1)
-found_due es e is = ap (option_map due_moment) (sym (lease_seen es e.0)) ∙ ap (λ o. option_map due_moment (option_map seen (option_flatten o))) is
+found_due : (es : Entries) (e : Key × Option Lease) → at_key es e.0 ≡ Some e.1 → due_of (seen_places es) e.0 ≡ option_map due_moment (option_map plain_lease e.1)
+found_due es e is = ap (option_map due_moment) (sym (lease_seen es e.0)) ∙ ap (λ o. option_map due_moment (option_map plain_lease (option_flatten o))) is
 
 -- what is collected is what is overdue
 pub collected : (m : BTreeMap Key (Option Lease)) (now : ℕ) → tree.IsOrdered key_cmp m → from_entries (pairs now m.entries) ≡ overdue (due_of (seen_places m.entries)) (keys (seen_places m.entries)) now

@@ -12,11 +12,11 @@ pub(crate) struct Lease {
 }
 
 impl Lease {
-    ghost use Rattle.disco_lease.specs.Seen.{seen};
+    ghost use Rattle.disco_lease.specs.Seen.{plain_lease};
 
     /// The lease of an instance that registers.
     pub(crate) fn marked(duration_secs: u32, now: u64) -> Lease
-        ensures { seen result ≡ marked duration_secs now }
+        ensures { plain_lease result ≡ marked duration_secs now }
     {
         Lease {
             duration_secs,
@@ -33,7 +33,7 @@ impl Lease {
 
     /// The lease with its mark one duration from now.
     pub(crate) fn extended(self, now: u64) -> Lease
-        ensures { seen result ≡ extended now (seen self) }
+        ensures { plain_lease result ≡ extended now (plain_lease self) }
     {
         Lease {
             duration_secs: self.duration_secs,
@@ -43,7 +43,7 @@ impl Lease {
 
     /// When the lease runs out, in milliseconds.
     pub(crate) fn due(self) -> u128
-        ensures { result ≡ due_moment (seen self) }
+        ensures { result ≡ due_moment (plain_lease self) }
     {
         self.mark + self.duration()
     }

@@ -6,7 +6,7 @@ ghost use Rattle.std.specs.Option.{option_flatten};
 ghost use Rattle.disco_instance.specs.Key.{key_cmp};
 ghost use Rattle.disco_lease.specs.Due.{due_moment, overdue};
 ghost use Rattle.disco_lease.specs.Leases.{extended};
-ghost use Rattle.disco_lease.specs.Seen.{Moved, seen};
+ghost use Rattle.disco_lease.specs.Seen.{Moved, plain_lease};
 
 use crate::lease::Lease;
 use crate::overdue::{any_overdue, overdue_keys};
@@ -48,7 +48,7 @@ fn set(places: &mut BTreeMap<Key, Option<Lease>>, key: &Key, lease: Lease)
 /// Moves a lease, if there is one, and answers whether there is.
 fn extend(place: &mut Option<Lease>, now: u64) -> bool
     ensures there { result ≡ is_some place.old }
-    ensures moved { option_map seen place.new ≡ option_map (extended now) (option_map seen place.old) }
+    ensures moved { option_map plain_lease place.new ≡ option_map (extended now) (option_map plain_lease place.old) }
 {
     match place {
         Some(lease) => {
@@ -93,7 +93,7 @@ impl Places {
     }
 
     pub(crate) fn lease(&self, key: &Key) -> Option<Lease>
-        ensures { option_map seen result ≡ option_flatten (finmap.get self.now key.now) }
+        ensures { option_map plain_lease result ≡ option_flatten (finmap.get self.now key.now) }
     {
         self.places.get(key).copied().flatten()
     }
@@ -110,7 +110,7 @@ impl Places {
     /// Puts a lease into the place of a key.
     pub(crate) fn put(&mut self, key: &Key, lease: Lease)
         requires { IsSome (finmap.get self.old key.now) }
-        ensures { self.new ≡ finmap.insert self.old key.now (Some (seen lease)) }
+        ensures { self.new ≡ finmap.insert self.old key.now (Some (plain_lease lease)) }
     {
         set(&mut self.places, key, lease);
     }

@@ -3,7 +3,7 @@ use Rattle.std.proofs.Common.{◌≡◌, List, [], ◌∷◌, get_or, drop, refl
 use Rattle.disco_instance.proofs.SameRow.{same_row}
 use Rattle.disco_wire.specs.declared.wire.Mention.{Mention}
 use Rattle.disco_wire.specs.declared.wire.Wire.{Wire}
-use Rattle.disco_wire.specs.Wire.{seen, tell, tell_all}
+use Rattle.disco_wire.specs.Wire.{wire_meaning, tell, tell_all}
 use Rattle.disco_wire.specs.Laws.{OneMeaning}
 use Rattle.std.proofs.lemmas.Option.{same_Some}
 
@@ -19,10 +19,10 @@ same_mentions (m ∷ ms) (n ∷ ns) e =
     let rest = same_mentions ms ns (ap (drop 1) e) in
     λ i. first i ∷ rest i
 
-same_wire : (v w : Wire) → seen v ≡ seen w → v ≡ w
+same_wire : (v w : Wire) → wire_meaning v ≡ wire_meaning w → v ≡ w
 same_wire v w e =
     let ms = same_mentions v.mentions w.mentions (ap (λ m. m.mentions) e) in
     λ i. record { shape = (e i).shape; mentions = ms i; hash = (e i).hash; version = (e i).version }
 
 pub one_meaning : OneMeaning
-one_meaning d v w a b = same_wire v w (same_Some (seen v) (seen w) (sym a ∙ b))
+one_meaning d v w a b = same_wire v w (same_Some (wire_meaning v) (wire_meaning w) (sym a ∙ b))

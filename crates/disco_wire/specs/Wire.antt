@@ -11,5 +11,5 @@ tell m = (row m.rec, m.action)
 abbrev pub tell_all : List Mention → List Told
 tell_all ms = map tell ms
 
-abbrev pub seen : Wire → Meaning
-seen w = record { shape = w.shape; mentions = tell_all w.mentions; hash = w.hash; version = w.version }
+abbrev pub wire_meaning : Wire → Meaning
+wire_meaning w = record { shape = w.shape; mentions = tell_all w.mentions; hash = w.hash; version = w.version }

@@ -10,7 +10,7 @@ ghost use Rattle.disco_instance.specs.Members.{as_whole, text_at};
 ghost use Rattle.disco_wire.specs.Meaning.{all_told, app_meant, listed, listed_in, many_meant, meaning_of, one_meant, told_app, told_in, told_item};
 ghost use Rattle.disco_wire.specs.Steps.{told_on};
 ghost use Rattle.disco_wire.specs.Documents.{document_of};
-ghost use Rattle.disco_wire.specs.Wire.{seen, tell_all};
+ghost use Rattle.disco_wire.specs.Wire.{wire_meaning, tell_all};
 
 use crate::tree::{object_member, tree_of};
 use crate::wire::{Mention, Mentions, Shape, Wire};
@@ -22,7 +22,7 @@ use std::alloc::{AllocError, Global};
 /// where the bytes are no JSON text (RFC 8259), as `BadDocument` where its tree means nothing, and
 /// as `OutOfMemory`.
 pub fn read_document(alloc: Global, bytes: &[u8]) -> Result<Wire, Fault>
-    ensures { Gives seen result (document_of bytes.now) }
+    ensures { Gives wire_meaning result (document_of bytes.now) }
 {
     let tree = tree_of(alloc, bytes)?;
     from_tree(alloc, &tree)
@@ -30,7 +30,7 @@ pub fn read_document(alloc: Global, bytes: &[u8]) -> Result<Wire, Fault>
 
 #[tactic(auto, unfolding(crate::specs::Meaning::meaning_of))]
 fn from_tree(alloc: Global, tree: &Value) -> Result<Wire, Fault>
-    ensures { Gives seen result (ok_or (meaning_of (view tree.now)) BadDocument) }
+    ensures { Gives wire_meaning result (ok_or (meaning_of (view tree.now)) BadDocument) }
 {
     if let Some(applications) = object_member(tree, "applications") {
         many(alloc, applications)
@@ -44,7 +44,7 @@ fn from_tree(alloc: Global, tree: &Value) -> Result<Wire, Fault>
 }
 
 fn one_app(alloc: Global, app: &Value) -> Result<Wire, Fault>
-    ensures { Gives seen result (ok_or (app_meant (view app.now)) BadDocument) }
+    ensures { Gives wire_meaning result (ok_or (app_meant (view app.now)) BadDocument) }
 {
     let mut mentions = Vec::new(alloc);
     push_app(alloc, &mut mentions, app)?;
@@ -57,7 +57,7 @@ fn one_app(alloc: Global, app: &Value) -> Result<Wire, Fault>
 }
 
 fn one_instance(alloc: Global, instance: &Value) -> Result<Wire, Fault>
-    ensures { Gives seen result (ok_or (one_meant (view instance.now)) BadDocument) }
+    ensures { Gives wire_meaning result (ok_or (one_meant (view instance.now)) BadDocument) }
 {
     let mut mentions = Vec::new(alloc);
     push_instance(alloc, &mut mentions, None, instance)?;
@@ -70,7 +70,7 @@ fn one_instance(alloc: Global, instance: &Value) -> Result<Wire, Fault>
 }
 
 fn many(alloc: Global, applications: &Value) -> Result<Wire, Fault>
-    ensures { Gives seen result (ok_or (many_meant (view applications.now)) BadDocument) }
+    ensures { Gives wire_meaning result (ok_or (many_meant (view applications.now)) BadDocument) }
 {
     let hash = text_of_member(alloc, applications, "apps__hashcode")?;
     let version = version_of(applications);

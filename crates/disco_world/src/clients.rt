@@ -5,7 +5,7 @@ ghost use Rattle.std.specs.Ordering.{nat_cmp};
 ghost use Rattle.disco_instance.specs.Row.{row};
 ghost use Rattle.disco_instance.specs.declared.fault.Fault.TheVariants.{OutOfMemory};
 ghost use Rattle.disco_client.specs.Copies.{hash_equal};
-ghost use Rattle.disco_wire.specs.Wire.{seen};
+ghost use Rattle.disco_wire.specs.Wire.{wire_meaning};
 ghost use Rattle.disco_writer.specs.Documents.{is_delta};
 ghost use Rattle.disco_world.specs.Clients.{moved, same_form, shown};
 ghost use Rattle.disco_world.specs.Steps.{IsMeant, IsReadable, ClientTakes, holding};
@@ -88,7 +88,7 @@ fn replace(
     payload: &Payload,
     wire: Wire,
 ) -> Result<Told, Fault>
-    requires meant { IsMeant payload.now (seen wire) }
+    requires meant { IsMeant payload.now (wire_meaning wire) }
     requires full { is_delta payload.now.key.query ≡ false }
     ensures { ClientTakes (tree.get nat_cmp clients.old) (tree.get nat_cmp clients.new) client payload.now result }
 {
@@ -120,7 +120,7 @@ fn replace(
 
 /// A delta is overlaid on a client's copy.
 fn overlay(clients: &mut Clients, client: u32, payload: &Payload, wire: Wire) -> Result<Told, Fault>
-    requires meant { IsMeant payload.now (seen wire) }
+    requires meant { IsMeant payload.now (wire_meaning wire) }
     requires delta { is_delta payload.now.key.query ≡ true }
     ensures { ClientTakes (tree.get nat_cmp clients.old) (tree.get nat_cmp clients.new) client payload.now result }
 {

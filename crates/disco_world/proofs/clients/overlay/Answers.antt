@@ -2,7 +2,7 @@ use Rattle.std.proofs.Common.{◌≡◌, sym}
 use Rattle.std.specs.BTreeMap as tree
 use Rattle.std.specs.Ordering.{nat_cmp}
 use Rattle.disco_history.specs.Mentions.{overlay}
-use Rattle.disco_wire.specs.Wire.{seen}
+use Rattle.disco_wire.specs.Wire.{wire_meaning}
 use Rattle.disco_world.specs.Clients.{moved}
 use Rattle.disco_world.specs.declared.clients.Client.{Client}
 use Rattle.disco_world.proofs.Taking.{is_some_by, told_delta, took_delta, with_taken}
@@ -11,7 +11,7 @@ use Rattle.disco_world.proofs.clients.overlay.Goals as goal
 pub returns : goal.returns
 returns c =
     let d = c.args.payload.now in
-    let m = seen c.args.wire in
+    let m = wire_meaning c.args.wire in
     let old = tree.get nat_cmp c.args.clients.now in
     let held = c.in-Some.held.now in
     let now : Client = record { copy = c.overlay.new.self; known = c.moved-held.result } in

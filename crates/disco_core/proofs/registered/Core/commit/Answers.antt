@@ -12,7 +12,7 @@ use Rattle.disco_core.proofs.registered.Core.commit.Goals as goal
 pub invariant_of-self : goal.invariant_of-self
 invariant_of-self c =
     tied_after c.self.inside.registry c.commit.new.self (change_in c.args.ready) c.follow.new.counts c.follow.new.index c.self.inside.leases c.follow.new.book c.self.inside.queue c.remember.new.queue
-    c.self.invariant.few c.self.invariant.leased c.self.invariant.seen c.commit.ensures.takes c.follow.ensures.counts c.follow.ensures.vips
+    c.self.invariant.few c.self.invariant.leased c.self.invariant.follows c.commit.ensures.takes c.follow.ensures.counts c.follow.ensures.vips
     (leased_by (change_in c.args.ready) c.args.ready.key c.args.ready.step c.args.ready.moment c.self.inside.leases c.follow.new.book c.follow.ensures.leases c.self.inside.registry.held)
     (c.remember.ensures.version ∙ ap (version_after (version c.self.inside.queue)) c.requires.3)
 

@@ -1,12 +1,12 @@
 use Rattle.std.proofs.Common.{◌≡◌, false, Option, Some, None, option_map, is_some, refl, sym, ◌∙◌}
 use Rattle.std.specs.FinMap.{get}
 use Rattle.std.specs.Option.{option_flatten}
-use Rattle.disco_lease.specs.Seen.{seen}
+use Rattle.disco_lease.specs.Seen.{plain_lease}
 use Rattle.disco_lease.specs.declared.lease.Lease.{Lease}
 use Rattle.disco_lease.proofs.Steps.{lease-close, no-place, none-out, others-out}
 use Rattle.disco_lease.proofs.book.LeaseBook.sweep.Goals as goal
 
-unseen : (o : Option Lease) → is_some o ≡ false → option_map seen o ≡ None
+unseen : (o : Option Lease) → is_some o ≡ false → option_map plain_lease o ≡ None
 unseen None is = refl
 unseen (Some l) is = absurd (cc)
 
