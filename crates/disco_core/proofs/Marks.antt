@@ -74,7 +74,7 @@ on_ok (Ok x) P p = p
 on_ok (Err e) P p = tt
 
 -- a sweep leaves what was set
-pub kept_by_sweep : (k : Key) (o : Option Lease) (old mid new : Leases) → leases.IsSame mid new → Sets k o old mid → Sets k o old new
+pub kept_by_sweep : (k : Key) (o : Option Lease) (old mid new : Leases) → leases.IsSameLeases mid new → Sets k o old mid → Sets k o old new
 kept_by_sweep k o old mid new same sets = λ q. same.leases q ∙ sets q
 
 -- ---- places that are given back
@@ -83,7 +83,7 @@ has_outer : (o : Option (Option Lease)) → IsSome (option_flatten o) → IsSome
 has_outer None some = absurd (cc)
 has_outer (Some p) some = refl
 
-pub no_leases_more : (k : Key) (old mid new : Leases) → leases.IsSame old mid → leases.KeepsOthers k old mid → leases.IsSame mid new → leases.KeepsOthers k mid new → leases.IsFilled k new → leases.KeepsPlaces new old
+pub no_leases_more : (k : Key) (old mid new : Leases) → leases.IsSameLeases old mid → leases.KeepsOthers k old mid → leases.IsSameLeases mid new → leases.KeepsOthers k mid new → leases.IsFilled k new → leases.KeepsPlaces new old
 no_leases_more k old mid new first others then others_then filled q some = one (same_key q k) refl
   where
     one : (b : Bool) → same_key q k ≡ b → IsSome (get old.places q)
@@ -102,7 +102,7 @@ is_there None filled some = absurd (cc)
 is_there (Some true) filled some = refl
 is_there (Some false) filled some = absurd (filled refl)
 
-pub no_vips_more : (o : Option Entry) (old mid new : VipKeys) → vips.IsSame old mid → OthersStay o old mid → vips.IsSame mid new → OthersStay o mid new → IsSwept new o → vips.KeepsPlaces new old
+pub no_vips_more : (o : Option Entry) (old mid new : VipKeys) → vips.IsSameVips old mid → OthersStay o old mid → vips.IsSameVips mid new → OthersStay o mid new → IsSwept new o → vips.KeepsPlaces new old
 no_vips_more None old mid new first others then others_then swept q k some = subst (λ (v : VipKeys). IsSome (vips.place_at v q k)) (sym (others ∙ others_then)) some
 no_vips_more (Some e) old mid new first others then others_then swept q k some = one (vips.is_under e.0 q k) refl
   where

@@ -22,7 +22,7 @@ use Rattle.disco_queue.specs.Queue as queue
 use Rattle.disco_queue.specs.Queue.{Keeps, Queue, version}
 use Rattle.disco_registry.specs.Commit.{Takes, held_after, version_after}
 use Rattle.disco_history.specs.Held.{record_at}
-use Rattle.disco_registry.specs.State.{State, StandsFor, IsSame}
+use Rattle.disco_registry.specs.State.{State, StandsFor, IsSameRegistry}
 use Rattle.disco_instance.specs.declared.action.Action.{Action}
 use Rattle.disco_instance.specs.declared.action.Action.TheVariants.{Added, Modified, Deleted}
 use Rattle.disco_core.specs.State as core
@@ -119,10 +119,10 @@ pub few_after : (m : FinMap key_cmp Entry) (c : Option Entry) (v : ℕ) → len 
 few_after m None v few = few
 few_after m (Some c) v few = let one = one_put m c (put_of c) refl in omega (arith, one, few)
 
-pub stands_same : (h : List Entry) (old new : State) → IsSame old new → StandsFor old h → StandsFor new h
+pub stands_same : (h : List Entry) (old new : State) → IsSameRegistry old new → StandsFor old h → StandsFor new h
 stands_same h old new same stands = record { held = same.held ∙ stands.held; version = same.version ∙ stands.version }
 
-few_same : (old new : State) → IsSame old new → len old.held ≤ old.version → len new.held ≤ new.version
+few_same : (old new : State) → IsSameRegistry old new → len old.held ≤ old.version → len new.held ≤ new.version
 few_same old new same few = let l = ap len same.held in let v = same.version in omega (arith, l, v, few)
 
 few_taken : (old new : State) (c : Option Entry) → Takes old c new → len old.held ≤ old.version → len new.held ≤ new.version
@@ -140,7 +140,7 @@ tied_after old new c t i v₀ v q₀ q few leased seen takes counted indexed mov
 }
 
 -- what gets more places stays tied
-pub tied_same : (old new : State) (t : Tally) (i j : VipKeys) (v w : Leases) (q r : Queue) → IsTied old t i v q → IsSame old new → vips.IsSame i j → leases.IsSame v w → queue.IsSame q r → IsTied new t j w r
+pub tied_same : (old new : State) (t : Tally) (i j : VipKeys) (v w : Leases) (q r : Queue) → IsTied old t i v q → IsSameRegistry old new → vips.IsSameVips i j → leases.IsSameLeases v w → queue.IsSameQueue q r → IsTied new t j w r
 tied_same old new t i j v w q r tied same vips_same leases_same queue_same = record {
   counts = tied.counts ∙ ap tally_in (sym same.held);
   indexed = subst (λ m. IsIndexOf j m) (sym same.held) (same_vips_law old.held i j tied.indexed vips_same);
@@ -150,8 +150,8 @@ tied_same old new t i j v w q r tied same vips_same leases_same queue_same = rec
 }
 
 -- what is the same as the view of a core is the same as the core
-pub same_from : (view old new : core.State) → view ≡ old → core.IsSame view new → core.IsSame old new
-same_from view old new is same = subst (λ s. core.IsSame s new) is same
+pub same_from : (view old new : core.State) → view ≡ old → core.IsSameCore view new → core.IsSameCore old new
+same_from view old new is same = subst (λ s. core.IsSameCore s new) is same
 
 -- a call that is refused for a missing lease alone
 pub missed : {A : Type 0} (r : Result A Fault) (P : Type 0) → (r ≡ Err NotFound → P) → IfErr r (λ e. e ≡ NotFound) → OnErr r P
@@ -166,7 +166,7 @@ places_kept old new (Some e) keeps has = λ q k is. keeps q k (has q k is)
 
 -- what was at a change's key is taken, what it puts is added, and places are given back
 pub indexed_after : (m : FinMap key_cmp Entry) (r : Row) (a : Action) (old taken added new : VipKeys) → IsIndexOf old m → IfSome (get m r.key) (λ d. key_of d ≡ r.key)
-    → vips.RemovesAny (get m r.key) old taken → AddsAny (put_of (r, a)) taken added → vips.IsSame added new → IsIndexOf new (held_after m (Some (r, a)))
+    → vips.RemovesAny (get m r.key) old taken → AddsAny (put_of (r, a)) taken added → vips.IsSameVips added new → IsIndexOf new (held_after m (Some (r, a)))
 indexed_after m r Added old taken added new index own takes adds swept = same_vips_law (insert m r.key (r, Added)) added new (put_vips_law m (r, Added) old taken added index own takes adds) swept
 indexed_after m r Modified old taken added new index own takes adds swept = same_vips_law (insert m r.key (r, Modified)) added new (put_vips_law m (r, Modified) old taken added index own takes adds) swept
 indexed_after m r Deleted old taken added new index own takes adds swept =

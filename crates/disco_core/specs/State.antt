@@ -64,11 +64,11 @@ pub record StandsFor (s : State) (p : Past) : Type 0 where
   pub leases : AreLeasesOf s.leases p
 
 -- the same but for places and room, which no answer shows
-pub record IsSame (old new : State) : Type 0 where
-  pub registry : registry.IsSame old.registry new.registry
-  pub vips : vips.IsSame old.vips new.vips
-  pub leases : leases.IsSame old.leases new.leases
-  pub queue : queue.IsSame old.queue new.queue
+pub record IsSameCore (old new : State) : Type 0 where
+  pub registry : registry.IsSameRegistry old.registry new.registry
+  pub vips : vips.IsSameVips old.vips new.vips
+  pub leases : leases.IsSameLeases old.leases new.leases
+  pub queue : queue.IsSameQueue old.queue new.queue
   pub retention : new.retention ≡ old.retention
   pub delta : new.delta ≡ old.delta
 
@@ -79,7 +79,7 @@ HasVipPlaces v (Some e) = HasPlaces v e.0
 
 -- the index with what a change puts, if it puts something
 abbrev pub AddsAny : Option Entry → VipKeys → VipKeys → Type 0
-AddsAny None old new = vips.IsSame old new
+AddsAny None old new = vips.IsSameVips old new
 AddsAny (Some e) old new = Adds e.0 old new
 
 -- no place of the entry stands empty

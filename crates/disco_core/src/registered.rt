@@ -21,7 +21,7 @@ ghost use Rattle.disco_cache.specs.Payloads.{IsTrue};
 ghost use Rattle.disco_core.specs.Past.{Past, cleaned, history, minute_closed, nothing, taken_in, with_done};
 ghost use Rattle.disco_core.specs.Refusals.{doc_of_id, doc_of_key, refusal_of, refusal_of_id};
 ghost use Rattle.disco_core.specs.Moves.{Moves, OthersStay};
-ghost use Rattle.disco_core.specs.State.{AddsNoPlaces, HasPlacesFor, HasRoomFor, IsFor, IsReady, IsSame, IsSwept, IsSweptAfter, StandsFor, change_in, moment_in, rules, rules_of};
+ghost use Rattle.disco_core.specs.State.{AddsNoPlaces, HasPlacesFor, HasRoomFor, IsFor, IsReady, IsSameCore, IsSwept, IsSweptAfter, StandsFor, change_in, moment_in, rules, rules_of};
 
 use crate::counts::count;
 use crate::leases::{Step, keep, step_of};
@@ -107,11 +107,11 @@ fn open_all(
     queue: &mut ChangedQueue,
     change: &Change,
 ) -> Result<(), Fault>
-    ensures vips { vip.IsSame index.old index.new }
+    ensures vips { vip.IsSameVips index.old index.new }
     ensures other_vips { OthersStay (put_of (seen change.now)) index.old index.new }
-    ensures leases { lease.IsSame book.old book.new }
+    ensures leases { lease.IsSameLeases book.old book.new }
     ensures other_leases { lease.KeepsOthers (key_of (seen change.now)) book.old book.new }
-    ensures queue { recent.IsSame queue.old queue.new }
+    ensures queue { recent.IsSameQueue queue.old queue.new }
     ensures places { OnOk result (HasPlacesFor index.new book.new (Some (seen change.now))) }
     ensures room { OnOk result (HasRoomFor queue.new (Some (seen change.now))) }
     ensures memory { IfErr result (λ e. e ≡ OutOfMemory) }
@@ -123,10 +123,10 @@ fn open_all(
 
 /// Gives back the places of a change that stand empty.
 fn sweep_all(index: &mut VipIndex, book: &mut LeaseBook, change: &Change)
-    ensures vips { vip.IsSame index.old index.new }
+    ensures vips { vip.IsSameVips index.old index.new }
     ensures other_vips { OthersStay (put_of (seen change.now)) index.old index.new }
     ensures swept_vips { IsSwept index.new (put_of (seen change.now)) }
-    ensures leases { lease.IsSame book.old book.new }
+    ensures leases { lease.IsSameLeases book.old book.new }
     ensures other_leases { lease.KeepsOthers (key_of (seen change.now)) book.old book.new }
     ensures swept_leases { lease.IsFilled (key_of (seen change.now)) book.new }
 {
@@ -142,9 +142,9 @@ fn open_places(
     queue: &mut ChangedQueue,
     change: Option<&Change>,
 ) -> Result<(), Fault>
-    ensures vips { vip.IsSame index.old index.new }
-    ensures leases { lease.IsSame book.old book.new }
-    ensures queue { recent.IsSame queue.old queue.new }
+    ensures vips { vip.IsSameVips index.old index.new }
+    ensures leases { lease.IsSameLeases book.old book.new }
+    ensures queue { recent.IsSameQueue queue.old queue.new }
     ensures places { OnOk result (HasPlacesFor index.new book.new (option_map (λ c. seen c.now) change.entry)) }
     ensures room { OnOk result (HasRoomFor queue.new (option_map (λ c. seen c.now) change.entry)) }
     ensures memory { IfErr result (λ e. e ≡ OutOfMemory) }
@@ -232,7 +232,7 @@ impl Core {
     /// answer. Refused as the operation is, and as `OutOfMemory`, and then no place of a vip or a
     /// lease stays that was not there.
     pub fn ready(&mut self, op: Op, now: u64) -> Result<Ready, Fault>
-        ensures same { IsSame self.old self.new }
+        ensures same { IsSameCore self.old self.new }
         ensures ready { IfOk result (λ r. accepts self.old.registry (ask_of op) now ≡ Ok (change_in r) × IsReady self.new r) }
         ensures moment { IfOk result (λ r. moment_in r ≡ now) }
         ensures asked { IfOk result (λ r. IsFor self.new r (ask_of op)) }

@@ -5,7 +5,7 @@ ghost use Rattle.disco_instance.specs.declared.fault.Fault.TheVariants.{OutOfMem
 ghost use Rattle.disco_history.specs.Change.{key_of, seen};
 ghost use Rattle.disco_history.specs.Held.{entry_of};
 ghost use Rattle.disco_history.specs.Registry.{put_of};
-ghost use Rattle.disco_index.specs.Vips.{IsIndexOf, IsSame, KeepsPlaces, RemovesAny};
+ghost use Rattle.disco_index.specs.Vips.{IsIndexOf, IsSameVips, KeepsPlaces, RemovesAny};
 ghost use Rattle.disco_registry.specs.Commit.{held_after};
 ghost use Rattle.disco_core.specs.Moves.{OthersStay};
 ghost use Rattle.disco_core.specs.State.{AddsAny, HasVipPlaces, IsSwept};
@@ -17,7 +17,7 @@ use disco_registry::Registry;
 
 /// Makes the places that a change needs. Refused only as `OutOfMemory`.
 pub(crate) fn open(vips: &mut VipIndex, change: &Change) -> Result<(), Fault>
-    ensures same { IsSame vips.old vips.new }
+    ensures same { IsSameVips vips.old vips.new }
     ensures others { OthersStay (put_of (seen change.now)) vips.old vips.new }
     ensures places { OnOk result (HasVipPlaces vips.new (put_of (seen change.now))) }
     ensures memory { IfErr result (λ e. e ≡ OutOfMemory) }
@@ -33,7 +33,7 @@ pub(crate) fn open(vips: &mut VipIndex, change: &Change) -> Result<(), Fault>
 
 /// Gives back the places of what a change puts that stand empty.
 pub(crate) fn close(vips: &mut VipIndex, change: &Change)
-    ensures same { IsSame vips.old vips.new }
+    ensures same { IsSameVips vips.old vips.new }
     ensures others { OthersStay (put_of (seen change.now)) vips.old vips.new }
     ensures swept { IsSwept vips.new (put_of (seen change.now)) }
 {
@@ -73,7 +73,7 @@ fn add(vips: &mut VipIndex, change: &Change)
 
 /// Gives back the places of a held record that stand empty.
 fn sweep(vips: &mut VipIndex, held: Option<&Held>)
-    ensures same { IsSame vips.old vips.new }
+    ensures same { IsSameVips vips.old vips.new }
     ensures swept { IsSwept vips.new (option_map (λ h. entry_of h.now) held.entry) }
 {
     if let Some(held) = held {

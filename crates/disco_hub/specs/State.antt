@@ -46,8 +46,8 @@ pub record StandsFor (s : State) (p : Past) : Type 0 where
   pub docs : AreKept s.docs.docs p
 
 -- the same but for places and room, which no answer shows
-pub record IsSame (old new : State) : Type 0 where
-  pub core : core.IsSame old.core new.core
+pub record IsSameHub (old new : State) : Type 0 where
+  pub core : core.IsSameCore old.core new.core
   pub docs : new.docs ≡ old.docs
   pub rounds : new.rounds ≡ old.rounds
 

@@ -14,7 +14,7 @@ ghost use Rattle.disco_core.specs.Refusals.{doc_of_id, doc_of_key, refusal_of, r
 ghost use Rattle.disco_core.specs.State.{AddsNoPlaces, IsFor, IsReady, IsSweptAfter, change_in, moment_in, rules};
 ghost use Rattle.disco_hub.specs.Expiry.{Expires};
 ghost use Rattle.disco_hub.specs.Rounds.{Advances, Begins, Ends, StaysOpen, round_keys};
-ghost use Rattle.disco_hub.specs.State.{IsCopied, IsSame, MayServe, StandsFor, is_doc, rules_of};
+ghost use Rattle.disco_hub.specs.State.{IsCopied, IsSameHub, MayServe, StandsFor, is_doc, rules_of};
 
 use crate::copied::Copied;
 use crate::expiry::{Expired, expire};
@@ -77,7 +77,7 @@ impl Hub {
     /// answer. Refused as the operation is, and as `OutOfMemory`, and then no place of a vip or a
     /// lease stays that was not there.
     pub fn ready(&mut self, op: Op, now: u64) -> Result<Ready, Fault>
-        ensures same { IsSame self.old self.new }
+        ensures same { IsSameHub self.old self.new }
         ensures ready { IfOk result (λ r. accepts self.old.core.registry (ask_of op) now ≡ Ok (change_in r) × IsReady self.new.core r) }
         ensures moment { IfOk result (λ r. moment_in r ≡ now) }
         ensures asked { IfOk result (λ r. IsFor self.new.core r (ask_of op)) }

@@ -6,7 +6,7 @@ use Rattle.std.specs.Str.{bytes_eq}
 use Rattle.disco_instance.specs.Key.{same_key}
 use Rattle.disco_instance.specs.declared.key.Key.{Key}
 use Rattle.disco_index.specs.Places.{Alters, opened, swept, written}
-use Rattle.disco_index.specs.Vips.{IsSame, KeepsPlaces, VipKeys, place_at}
+use Rattle.disco_index.specs.Vips.{IsSameVips, KeepsPlaces, VipKeys, place_at}
 
 -- twice is as once
 abbrev pub IsIdempotent : (Option Bool → Option Bool) → Type 0
@@ -94,7 +94,7 @@ others-step all k old vip before rest here next is among one others = λ q p apa
 
 module _ (vs : List (List ℕ)) (k : Key) (old new : VipKeys) where
   -- shows nothing
-  pub opens_same : Alters opened vs k old new → IsSame old new
+  pub opens_same : Alters opened vs k old new → IsSameVips old new
   opens_same h q p = ap there (h q p) ∙ one_opened (list_any (bytes_eq q) vs && same_key p k) (place_at old q p)
 
   -- and each place stays

@@ -12,7 +12,7 @@ use Rattle.disco_history.specs.Change.{Entry, key_of}
 use Rattle.disco_history.specs.Query.{asks_for, of_vip, restrict}
 use Rattle.disco_history.proofs.Keys.{exact_keys, keys_total, same_is}
 use Rattle.disco_history.proofs.Sets.{get-restrict}
-use Rattle.disco_index.specs.Vips.{Adds, IsIndexOf, IsSame, Removes, RemovesAny, VipKeys, entry_has, has, is_under, place_at, places_at, under}
+use Rattle.disco_index.specs.Vips.{Adds, IsIndexOf, IsSameVips, Removes, RemovesAny, VipKeys, entry_has, has, is_under, place_at, places_at, under}
 use Rattle.disco_index.proofs.Stored.{same_keys}
 
 pub no_vips_law : IsIndexOf empty empty
@@ -21,7 +21,7 @@ no_vips_law q k =
     ∙ ap (λ (o : Option Bool). unwrap_or o false) (get-empty key_cmp k) ∙ sym (ap (entry_has q) (get-empty key_cmp k))
 
 -- empty places count for nothing
-pub same_vips_law : (m : FinMap key_cmp Entry) (old new : VipKeys) → IsIndexOf old m → IsSame old new → IsIndexOf new m
+pub same_vips_law : (m : FinMap key_cmp Entry) (old new : VipKeys) → IsIndexOf old m → IsSameVips old new → IsIndexOf new m
 same_vips_law m old new is same q k = same q k ∙ is q k
 
 -- ---- an entry goes

@@ -43,8 +43,8 @@ abbrev pub HasNoneEmpty : VipKeys → Row → Type 0
 HasNoneEmpty v r = (q : List ℕ) (k : Key) → is_under r q k ≡ true → place_at v q k ≡ Some false → ⊥
 
 -- the same but for empty places, which no answer shows
-abbrev pub IsSame : VipKeys → VipKeys → Type 0
-IsSame old new = (q : List ℕ) (k : Key) → has new q k ≡ has old q k
+abbrev pub IsSameVips : VipKeys → VipKeys → Type 0
+IsSameVips old new = (q : List ℕ) (k : Key) → has new q k ≡ has old q k
 
 -- each place stays
 abbrev pub KeepsPlaces : VipKeys → VipKeys → Type 0
@@ -64,7 +64,7 @@ Removes r old new = (q : List ℕ) (k : Key) → has new q k ≡ (has old q k &&
 
 -- the same of an entry's row, where there is one
 abbrev pub RemovesAny : Option Entry → VipKeys → VipKeys → Type 0
-RemovesAny None old new = IsSame old new
+RemovesAny None old new = IsSameVips old new
 RemovesAny (Some e) old new = Removes e.0 old new
 
 -- the entry's record has the vip

@@ -12,7 +12,7 @@ ghost use Rattle.disco_instance.specs.declared.fault.Fault.TheVariants.{OutOfMem
 ghost use Rattle.disco_history.specs.Change.{Entry, key_of};
 ghost use Rattle.disco_history.specs.Query.{of_vip, restrict, vips};
 ghost use Rattle.disco_index.specs.Places.{Alters, HasNoBareVip, IsBareOnly, opened, seen_vips, swept, written};
-ghost use Rattle.disco_index.specs.Vips.{Adds, HasNoneEmpty, HasPlaces, IsIndexOf, IsSame, KeepsOthers, KeepsPlaces, Removes, under};
+ghost use Rattle.disco_index.specs.Vips.{Adds, HasNoneEmpty, HasPlaces, IsIndexOf, IsSameVips, KeepsOthers, KeepsPlaces, Removes, under};
 
 use crate::address::next_vip;
 use crate::places::Places;
@@ -62,7 +62,7 @@ impl VipIndex {
     /// shows a place that stands empty. Refused only as `OutOfMemory`, and then `sweep` gives back
     /// what was made.
     pub fn ready(&mut self, rec: &Record) -> Result<(), Fault>
-        ensures same { IsSame self.old self.new }
+        ensures same { IsSameVips self.old self.new }
         ensures ready { OnOk result (HasPlaces self.new (row rec.now)) }
         ensures others { KeepsOthers (row rec.now) self.old self.new }
         ensures places { KeepsPlaces self.old self.new }
@@ -98,7 +98,7 @@ impl VipIndex {
 
     /// Gives back the places under the record's vips that stand empty. Takes no memory.
     pub fn sweep(&mut self, rec: &Record)
-        ensures same { IsSame self.old self.new }
+        ensures same { IsSameVips self.old self.new }
         ensures swept { HasNoneEmpty self.new (row rec.now) }
         ensures others { KeepsOthers (row rec.now) self.old self.new }
     {

@@ -33,7 +33,7 @@ abbrev pub HasPlace : Leases → Key → Type 0
 HasPlace v k = IsSome (get v.places k)
 
 -- the same but for empty places, which no answer shows
-pub record IsSame (old new : Leases) : Type 0 where
+pub record IsSameLeases (old new : Leases) : Type 0 where
   pub leases : (q : Key) → lease_at new q ≡ lease_at old q
   pub renewals : new.renewals ≡ old.renewals
   pub closed : new.closed ≡ old.closed

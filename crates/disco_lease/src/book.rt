@@ -3,7 +3,7 @@ ghost use Rattle.std.specs.Prelude.{◌≡◌, ◌↔◌, ◌<◌, [], IfErr, If
 ghost use Rattle.disco_instance.specs.declared.fault.Fault.TheVariants.{NotFound, OutOfMemory};
 ghost use Rattle.std.specs.FinMap.{keys};
 ghost use Rattle.disco_lease.specs.Due.{due_at, lets_expire, taken};
-ghost use Rattle.disco_lease.specs.Leases.{HasPlace, IsFilled, IsSame, KeepsOthers, KeepsPlaces, Sets, counted, extended, lease_at, marked, no_leases};
+ghost use Rattle.disco_lease.specs.Leases.{HasPlace, IsFilled, IsSameLeases, KeepsOthers, KeepsPlaces, Sets, counted, extended, lease_at, marked, no_leases};
 
 use crate::lease::Lease;
 use crate::minute::{Minute, most_taken};
@@ -50,7 +50,7 @@ impl LeaseBook {
     /// Makes a place for a key, so that its lease can be registered. No answer shows a place
     /// without a lease, and `sweep` gives it back. Refused only as `OutOfMemory`.
     pub fn ready(&mut self, key: &Key) -> Result<(), Fault>
-        ensures same { IsSame self.old self.new }
+        ensures same { IsSameLeases self.old self.new }
         ensures place { OnOk result (HasPlace self.new key.now) }
         ensures places { KeepsPlaces self.old self.new }
         ensures others { KeepsOthers key.now self.old self.new }
@@ -132,7 +132,7 @@ impl LeaseBook {
 
     /// Gives back the place of a key where it has no lease. Takes no memory.
     pub fn sweep(&mut self, key: &Key)
-        ensures same { IsSame self.old self.new }
+        ensures same { IsSameLeases self.old self.new }
         ensures swept { IsFilled key.now self.new }
         ensures others { KeepsOthers key.now self.old self.new }
     {

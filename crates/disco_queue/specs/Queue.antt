@@ -18,7 +18,7 @@ abbrev pub HasRoom : Queue → Type 0
 HasRoom q = length q.kept < q.max → 0 < q.room
 
 -- the same but for room, which no answer shows
-pub record IsSame (old new : Queue) : Type 0 where
+pub record IsSameQueue (old new : Queue) : Type 0 where
   pub max : new.max ≡ old.max
   pub base : new.base ≡ old.base
   pub kept : new.kept ≡ old.kept

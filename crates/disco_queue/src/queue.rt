@@ -6,7 +6,7 @@ ghost use Rattle.disco_instance.specs.declared.fault.Fault.TheVariants.{OutOfMem
 ghost use Rattle.disco_history.specs.Change.{is_proper, seen};
 ghost use Rattle.disco_history.specs.Mentions.{delta};
 ghost use Rattle.disco_queue.specs.Base.{base_after_change, base_after_cleaning, first_before, leaving};
-ghost use Rattle.disco_queue.specs.Queue.{HasRoom, IsSame, Keeps, newest, version};
+ghost use Rattle.disco_queue.specs.Queue.{HasRoom, IsSameQueue, Keeps, newest, version};
 ghost use Rattle.disco_queue.specs.Timed.{Timed, changes};
 
 use crate::kept::Kept;
@@ -81,7 +81,7 @@ impl ChangedQueue {
     /// Makes room for one more change, where the queue is not full. Shows in nothing but the room.
     /// Refused only as `OutOfMemory`, and only where there is no room already.
     pub fn ready(&mut self) -> Result<(), Fault>
-        ensures same { IsSame self.old self.new }
+        ensures same { IsSameQueue self.old self.new }
         ensures history { (h : List Timed) → Keeps self.old h → Keeps self.new h }
         ensures room { OnOk result (HasRoom self.new) }
         ensures needed { OnErr result (HasRoom self.old → ⊥) }

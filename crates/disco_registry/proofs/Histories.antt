@@ -20,7 +20,7 @@ use Rattle.disco_instance.specs.declared.action.Action.{Action}
 use Rattle.disco_instance.specs.declared.action.Action.TheVariants.{Added, Modified, Deleted}
 use Rattle.disco_instance.specs.Row.{Row}
 use Rattle.disco_registry.specs.Commit.{Takes, done_by, appended, held_after}
-use Rattle.disco_registry.specs.State.{State, StandsFor, IsSame}
+use Rattle.disco_registry.specs.State.{State, StandsFor, IsSameRegistry}
 
 longer : (h : List Entry) (c : Entry) → length (h ++ c ∷ []) ≡ length h + 1
 longer h c = length-append h (c ∷ [])
@@ -47,7 +47,7 @@ found_first id (e ∷ es) = one (is_of_id id e) (found_first id es)
     one true ih = refl
     one false ih = ih
 
-pub stands_same : (h : List Entry) (old new : State) → IsSame old new → StandsFor old h → StandsFor new h
+pub stands_same : (h : List Entry) (old new : State) → IsSameRegistry old new → StandsFor old h → StandsFor new h
 stands_same h old new same stands = record { held = same.held ∙ stands.held; version = same.version ∙ stands.version }
 
 -- ---- what is shown of a registry is that of each history

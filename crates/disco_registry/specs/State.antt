@@ -14,7 +14,7 @@ pub record State : Type 0 where
   pub room : ℕ
 
 -- the same but for room, which no answer shows
-pub record IsSame (old new : State) : Type 0 where
+pub record IsSameRegistry (old new : State) : Type 0 where
   pub held : new.held ≡ old.held
   pub version : new.version ≡ old.version
   pub versions : new.versions ≡ old.versions

@@ -15,7 +15,7 @@ ghost use Rattle.disco_history.specs.Apps.{is_of_app, is_of_id};
 ghost use Rattle.disco_registry.specs.Commit.{IsPrepared, IsReady, Takes, changes_properly, done_by, appended, outcome};
 ghost use Rattle.disco_history.specs.Held.{entry_of, record_at, seen_record};
 ghost use Rattle.disco_registry.specs.Op.{ask_of, register, cancel, renew, set_status, drop_status, add_metadata};
-ghost use Rattle.disco_registry.specs.State.{IsSame, StandsFor, State};
+ghost use Rattle.disco_registry.specs.State.{IsSameRegistry, StandsFor, State};
 
 use crate::op::{Applied, Op};
 use crate::settle::settled;
@@ -226,7 +226,7 @@ impl Registry {
     /// Makes every growth that an operation needs, and changes no answer. Refused as the operation
     /// is, and as `OutOfMemory`.
     pub fn ready(&mut self, op: Op, now: u64) -> Result<Ready, Fault>
-        ensures same { IsSame self.old self.new }
+        ensures same { IsSameRegistry self.old self.new }
         ensures ready { IfOk result (λ r. accepts self.old (ask_of op) now ≡ Ok r × IsReady self.new r) }
         ensures refused { IfErr result (Refuses self.old (ask_of op) now) }
     {
@@ -247,7 +247,7 @@ impl Registry {
     }
 
     fn ready_register(&mut self, posted: Record, now: u64) -> Result<Ready, Fault>
-        ensures same { IsSame self.old self.new }
+        ensures same { IsSameRegistry self.old self.new }
         ensures ready { IfOk result (λ r. accepts self.old (register (row posted)) now ≡ Ok r × IsReady self.new r) }
         ensures refused { IfErr result (Refuses self.old (register (row posted)) now) }
     {
