@@ -14,7 +14,8 @@ use Rattle.disco_history.specs.Change.{Entry, key_of, last}
 use Rattle.disco_history.specs.Forms.{formed, in_form, mention_in}
 use Rattle.disco_history.specs.Hash.{count_of, hash, hash_by}
 use Rattle.disco_history.specs.Laws.{FormLaw}
-use Rattle.disco_history.specs.Mentions.{Mention, copied, known, overlaid_by, overlay}
+use Rattle.disco_instance.specs.Mention.{Mention}
+use Rattle.disco_history.specs.Mentions.{copied, known, overlaid_by, overlay}
 use Rattle.disco_history.specs.Query.{Asked, all, of_app, of_vip, of_secure_vip, of_key, asks_for, restrict}
 use Rattle.disco_history.specs.Registry.{put_of}
 use Rattle.disco_history.proofs.Keys.{keys_total, exact_keys, get-chosen}

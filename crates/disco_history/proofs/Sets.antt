@@ -9,7 +9,8 @@ use Rattle.disco_instance.specs.Key.{key_cmp, same_key}
 use Rattle.disco_instance.specs.Row.{Row}
 use Rattle.disco_instance.specs.declared.key.Key.{Key}
 use Rattle.disco_history.specs.Change.{Entry, key_of, last}
-use Rattle.disco_history.specs.Mentions.{Mention, delta, known, overlaid_by, overlay}
+use Rattle.disco_instance.specs.Mention.{Mention}
+use Rattle.disco_history.specs.Mentions.{delta, known, overlaid_by, overlay}
 use Rattle.disco_history.specs.Query.{Asked, asks_for, restrict}
 use Rattle.disco_history.specs.Registry.{put_of, reg, said}
 use Rattle.disco_history.proofs.Keys.{keys_total, exact_keys, get-chosen}

@@ -7,7 +7,7 @@ use Rattle.disco_instance.specs.declared.form.Form.{Form}
 use Rattle.disco_instance.specs.declared.form.Form.TheVariants.{Full, Compact}
 use Rattle.disco_instance.specs.declared.lease.Lease.{Lease}
 use Rattle.disco_history.specs.Chosen.{chosen}
-use Rattle.disco_history.specs.Mentions.{Mention}
+use Rattle.disco_instance.specs.Mention.{Mention}
 
 -- the lease of an instance that says nothing of it
 abbrev pub default_lease : Lease

@@ -8,7 +8,8 @@ use Rattle.disco_instance.specs.declared.status.Status.{Status}
 use Rattle.disco_history.specs.Change.{Entry, front, key_of}
 use Rattle.disco_history.specs.Forms.{formed, in_form, mention_in}
 use Rattle.disco_history.specs.Hash.{hash, count_of}
-use Rattle.disco_history.specs.Mentions.{Mention, copied, delta, mention_of, overlay}
+use Rattle.disco_instance.specs.Mention.{Mention}
+use Rattle.disco_history.specs.Mentions.{copied, delta, mention_of, overlay}
 use Rattle.disco_history.specs.Query.{Asked, is_named, restrict}
 use Rattle.disco_history.specs.Registry.{put_of, reg, said}
 

@@ -3,16 +3,12 @@ use Rattle.std.specs.Prelude.{ℕ, List, map, drop, ◌++◌, Option, Some, None
 use Rattle.std.specs.List.{filter_map}
 use Rattle.std.specs.FinMap.{FinMap, get, keys}
 use Rattle.disco_instance.specs.Key.{key_cmp}
+use Rattle.disco_instance.specs.Mention.{Mention}
 use Rattle.disco_instance.specs.Row.{Row}
-use Rattle.disco_instance.specs.declared.action.Action.{Action}
 use Rattle.disco_instance.specs.declared.action.Action.TheVariants.{Added}
 use Rattle.disco_history.specs.Change.{Entry, key_of, last}
 use Rattle.disco_history.specs.Chosen.{chosen}
 use Rattle.disco_history.specs.Registry.{kept_by, reg}
-
--- a mention: a record, and what was done to it where that is said
-abbrev pub Mention : Type 0
-Mention = Row × Option Action
 
 abbrev pub mention_of : Entry → Mention
 mention_of e = (e.0, Some e.1)

@@ -4,6 +4,7 @@ pub mod Fault
 pub mod Instance
 pub mod Key
 pub mod Members
+pub mod Mention
 pub mod Metadata
 pub mod Moments
 pub mod Row

@@ -5,20 +5,15 @@ use Rattle.serde_json.specs.Data.{Data, null, array, object, Items, no_items, it
 use Rattle.serde_json.specs.Find.{get}
 use Rattle.disco_instance.specs.Instance.{told_by, action_at}
 use Rattle.disco_instance.specs.Members.{text_at, as_whole}
-use Rattle.disco_instance.specs.Row.{Row}
-use Rattle.disco_instance.specs.declared.action.Action.{Action}
+use Rattle.disco_instance.specs.Mention.{Mention}
 use Rattle.disco_wire.specs.Tree.{as_tree, object_at}
 use Rattle.disco_wire.specs.declared.wire.Shape.{Shape}
 use Rattle.disco_wire.specs.declared.wire.Shape.TheVariants.{Many, App, One}
 
--- a mention: an instance's row, and what was done to it where that is said
-abbrev pub Told : Type 0
-Told = Row × Option Action
-
 -- what a document means: its shape, its mentions in the order of the text, its hash code and its version where they are given
 pub record Meaning : Type 0 where
   pub shape : Shape
-  pub mentions : List Told
+  pub mentions : List Mention
   pub hash : Option (List ℕ)
   pub version : Option ℕ
 
@@ -38,26 +33,26 @@ listed None = Some []
 listed (Some d) = listed_in d
 
 -- what all of them tell, in order; nothing where one tells nothing
-abbrev pub all_told : (Data → Option (List Told)) → List Data → Option (List Told)
+abbrev pub all_told : (Data → Option (List Mention)) → List Data → Option (List Mention)
 all_told f [] = Some []
 all_told f (d ∷ ds) = option_and_then (λ ms. option_map (λ rest. ms ++ rest) (all_told f ds)) (f d)
 
 -- an instance with an id and an app, which may be that of the application round it
-unfoldable pub told_in : Option (List ℕ) → Data → Option (List Told)
+unfoldable pub told_in : Option (List ℕ) → Data → Option (List Mention)
 told_in app d = option_map (λ r. (r, action_at d) ∷ []) (result_ok (told_by app d))
 
 -- an application
-abbrev pub told_app : Data → Option (List Told)
+abbrev pub told_app : Data → Option (List Mention)
 told_app d = option_and_then (all_told (told_in (text_at (codes "name") d))) (listed (get (codes "instance") d))
 
 -- an application in an array
-abbrev pub told_item : Data → Option (List Told)
+abbrev pub told_item : Data → Option (List Mention)
 told_item d = option_and_then told_app (as_tree d)
 
-abbrev pub told_apps : Data → Option (List Told)
+abbrev pub told_apps : Data → Option (List Mention)
 told_apps d = option_and_then (all_told told_item) (listed (get (codes "application") d))
 
-abbrev pub meant : Shape → Option (List ℕ) → Option ℕ → List Told → Meaning
+abbrev pub meant : Shape → Option (List ℕ) → Option ℕ → List Mention → Meaning
 meant shape hash version ms = record { shape = shape; mentions = ms; hash = hash; version = version }
 
 abbrev pub many_meant : Data → Option Meaning

@@ -2,9 +2,9 @@
 use Rattle.std.specs.Prelude.{List, ◌++◌, Option, Some, None, Result, Ok, Err}
 use Rattle.disco_instance.specs.declared.fault.Fault.{Fault}
 use Rattle.disco_instance.specs.declared.fault.Fault.TheVariants.{BadDocument}
-use Rattle.disco_wire.specs.Meaning.{Told}
+use Rattle.disco_instance.specs.Mention.{Mention}
 
 -- the same after what was told before
-abbrev pub told_on : List Told → Option (List Told) → Result (List Told) Fault
+abbrev pub told_on : List Mention → Option (List Mention) → Result (List Mention) Fault
 told_on before None = Err BadDocument
 told_on before (Some ms) = Ok (before ++ ms)

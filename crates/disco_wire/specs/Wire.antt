@@ -1,14 +1,15 @@
 -- What was read, as plain data.
 use Rattle.std.specs.Prelude.{List, map}
+use Rattle.disco_instance.specs.Mention.{Mention}
 use Rattle.disco_instance.specs.Row.{row}
-use Rattle.disco_wire.specs.Meaning.{Told, Meaning}
-use Rattle.disco_wire.specs.declared.wire.Mention.{Mention}
+use Rattle.disco_wire.specs.Meaning.{Meaning}
+use Rattle.disco_wire.specs.declared.wire.Mention as read
 use Rattle.disco_wire.specs.declared.wire.Wire.{Wire}
 
-abbrev pub tell : Mention → Told
+abbrev pub tell : read.Mention → Mention
 tell m = (row m.rec, m.action)
 
-abbrev pub tell_all : List Mention → List Told
+abbrev pub tell_all : List read.Mention → List Mention
 tell_all ms = map tell ms
 
 abbrev pub wire_meaning : Wire → Meaning

@@ -6,7 +6,8 @@ use Rattle.disco_instance.specs.declared.form.Form.{Form}
 use Rattle.disco_history.specs.Change.{Entry}
 use Rattle.disco_history.specs.Forms.{mention_in}
 use Rattle.disco_history.specs.Held.{entry_of}
-use Rattle.disco_history.specs.Mentions.{Mention, mention_of}
+use Rattle.disco_instance.specs.Mention.{Mention}
+use Rattle.disco_history.specs.Mentions.{mention_of}
 use Rattle.disco_history.specs.declared.held.Held.{Held}
 
 abbrev pub held_entries : List Held → List Entry
