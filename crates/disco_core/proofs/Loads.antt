@@ -1,8 +1,8 @@
 -- Why a document that was written is true.
-use Rattle.std.proofs.Common.{◌≡◌, ℕ, false, List, length, Some, Ok, refl, sym, ap, subst, ◌∙◌, arith}
+use Rattle.std.proofs.Common.{◌≡◌, ◌≤◌, ℕ, true, false, List, length, Some, Ok, refl, sym, ap, subst, ◌∙◌, arith}
 use Rattle.std.proofs.Math.Seq.{take-length}
 use Rattle.disco_history.specs.Change.{Entry, front}
-use Rattle.disco_writer.specs.Documents.{IsWritten, is_delta, meaning_for}
+use Rattle.disco_writer.specs.Documents.{IsWritten, is_delta, meaning_for, text_for}
 use Rattle.disco_cache.specs.Payloads.{IsTrue}
 use Rattle.disco_cache.specs.declared.key.DocKey.{DocKey}
 use Rattle.disco_cache.specs.declared.payload.Payload.{Payload}
@@ -13,6 +13,7 @@ made k base version text = record { key = k; base = base; version = version; tex
 -- a document of held records, written now
 pub held_true : (k : DocKey) (v : ℕ) (text : List ℕ) (p : Payload) (h : List Entry) → is_delta k.query ≡ false → v ≡ length h → IsWritten k.form k.query h (length h) (Some text) → p ≡ made k v v text → IsTrue p h
 held_true k v text p h held now written is = subst (λ q. IsTrue q h) (sym is) (record {
+  written = written.1 ∙ (λ i. text_for k.query k.form h (sym now i) (sym now i));
   meaning = written.2 ∙ (λ i. Ok (meaning_for k.query k.form h (sym now i) (sym now i)));
   there = written.0;
   start = omega arith;
@@ -20,4 +21,17 @@ held_true k v text p h held now written is = subst (λ q. IsTrue q h) (sym is) (
   past = omega (arith, now);
   now = λ kept. now;
   same = ap (λ x. meaning_for k.query k.form x v v) (ap (front h) now ∙ take-length h);
+})
+
+-- a delta, written now
+pub delta_true : (k : DocKey) (base v : ℕ) (text : List ℕ) (p : Payload) (h : List Entry) → is_delta k.query ≡ true → base ≤ v → v ≡ length h → IsWritten k.form k.query h base (Some text) → p ≡ made k base v text → IsTrue p h
+delta_true k base v text p h delta start now written is = subst (λ q. IsTrue q h) (sym is) (record {
+  written = written.1 ∙ (λ i. text_for k.query k.form h base (sym now i));
+  meaning = written.2 ∙ (λ i. Ok (meaning_for k.query k.form h base (sym now i)));
+  there = written.0;
+  start = start;
+  whole = λ held. absurd (cc);
+  past = omega (arith, now);
+  now = λ kept. now;
+  same = ap (λ x. meaning_for k.query k.form x base v) (ap (front h) now ∙ take-length h);
 })

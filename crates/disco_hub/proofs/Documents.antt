@@ -22,10 +22,11 @@ use Rattle.disco_history.proofs.Untouched.{untouched_law}
 use Rattle.disco_queue.specs.Timed.{Timed}
 use Rattle.disco_registry.specs.Op.{Ask}
 use Rattle.disco_registry.specs.State as registry
-use Rattle.disco_writer.specs.Documents.{IsTrueFor, asked_by, if_many, is_delta, kind, meaning_for, mentioned, told}
+use Rattle.disco_writer.specs.Documents.{IsTrueFor, asked_by, hash_of, if_many, is_delta, kind, meaning_for, mentioned, told}
 use Rattle.disco_writer.specs.Rows.{mentions_in}
 use Rattle.disco_writer.specs.declared.query.Query.{Query}
 use Rattle.disco_writer.specs.declared.query.Query.TheVariants as query
+use Rattle.disco_writer.proofs.Texts.{same_text}
 use Rattle.disco_cache.specs.Docs.{Docs}
 use Rattle.disco_cache.specs.Keys.{doc_cmp, same_doc}
 use Rattle.disco_cache.specs.Payloads.{IsTrue}
@@ -78,8 +79,12 @@ module _ (q : Query) (text : List ℕ) (base version : ℕ) (f : Form) (h : List
     version = if_many (kind q).shape version;
   }
 
+  code : hash_of q now ≡ hash_of q h
+  code = ap (λ s. hash (values s)) law.0
+
   still : IsTrueFor q text base version f now
   still = record {
+    written = t.written ∙ sym (same_text q f now h base version told_same code);
     meaning = t.meaning ∙ ap (λ m. Ok m) (sym means);
     there = ap (λ s. (len s == 0) && not (may_be_empty (asked_by q))) law.0 ∙ t.there;
     start = t.start;

@@ -8,3 +8,4 @@ mod Plain
 mod Pushes
 mod Readable
 mod Written
+pub mod Texts
