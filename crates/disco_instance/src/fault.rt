@@ -137,6 +137,6 @@ impl<T: Drop> From<AllocFailed<T>> for Fault {
     ghost from_gives = { λ _ e. e ≡ OutOfMemory };
 
     fn from(_e: AllocFailed<T>) -> Fault {
-        Fault::OutOfMemory
+        Fault::from(AllocError)
     }
 }

@@ -22,7 +22,7 @@ impl Lease {
     ghost use Rattle.disco_instance.specs.Moments.{put_lease};
 
     /// The lease of a record that is put at a moment.
-    pub fn put(self, registration: u64, service_up: u64, now: u64) -> Lease
+    pub(crate) fn put(self, registration: u64, service_up: u64, now: u64) -> Lease
         ensures { result ≡ put_lease self registration service_up now }
     {
         let mut new = self;
@@ -34,7 +34,7 @@ impl Lease {
     }
 
     /// The lease of an instance that is cancelled at a moment.
-    pub fn evicted(self, now: u64) -> Lease
+    pub(crate) fn evicted(self, now: u64) -> Lease
         ensures { result ≡ record self { eviction = now } }
     {
         let mut new = self;

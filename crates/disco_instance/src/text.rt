@@ -27,9 +27,7 @@ impl Text {
     pub fn new(alloc: Global, text: &str) -> Result<Text, AllocError>
         ensures { IfOk result (λ t. t ≡ text.now) }
     {
-        Ok(Text {
-            text: String::from_str(alloc, text)?,
-        })
+        Ok(Text::from_string(String::from_str(alloc, text)?))
     }
 
     /// The text of a `String`. Takes no memory.
@@ -43,9 +41,7 @@ impl Text {
     pub fn empty(alloc: Global) -> Text
         ensures { result ≡ [] }
     {
-        Text {
-            text: String::new(alloc),
-        }
+        Text::from_string(String::new(alloc))
     }
 
     /// The text as a `&str`.
@@ -59,7 +55,7 @@ impl Text {
     pub fn is_empty(&self) -> bool
         ensures { IsTrue result ↔ (self.now ≡ []) }
     {
-        self.text.is_empty()
+        self.as_str().is_empty()
     }
 }
 
@@ -77,16 +73,14 @@ pub(crate) fn upper_text(alloc: Global, text: &str) -> Result<Text, AllocError>
 {
     let mut text = String::from_str(alloc, text)?;
     text.make_ascii_uppercase();
-    Ok(Text { text })
+    Ok(Text::from_string(text))
 }
 
 impl Clone for Text {
     ghost is_clone = { λ s t. t ≡ s };
 
     fn clone(&self) -> Result<Text, AllocError> {
-        Ok(Text {
-            text: self.text.clone()?,
-        })
+        Ok(Text::from_string(self.text.clone()?))
     }
 }
 
