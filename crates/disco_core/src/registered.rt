@@ -281,22 +281,6 @@ impl Core {
         self.registry.commit(ready.ready)
     }
 
-    /// Does one operation at a moment in milliseconds, as the registry does it. Places of vips and
-    /// leases that it leaves empty are given back, also where it is refused.
-    pub fn write(&mut self, op: Op, now: u64) -> Result<Applied, Fault>
-        ensures done { IfOk result (λ a. accepts self.old.registry (ask_of op) now ≡ Ok (done_by a)) }
-        ensures proper { IfOk result (λ a. changes_properly a ≡ true) }
-        ensures refused { IfErr result (Refuses self.old.registry (ask_of op) now) }
-        ensures rules { rules_of self.new ≡ rules_of self.old }
-        ensures history { IfOk result (λ a. (p : Past) → StandsFor self.old p → StandsFor self.new (with_done self.old.queue.max p now (ask_of op) (done_by a))) }
-        ensures refused_history { OnErr result ((p : Past) → StandsFor self.old p → StandsFor self.new p) }
-        ensures swept { IfOk result (λ a. IsSweptAfter self.old.registry.held (done_by a) self.new.vips self.new.leases) }
-        ensures given_back { OnErr result (AddsNoPlaces self.old.vips self.old.leases self.new.vips self.new.leases) }
-    {
-        let ready = self.ready(op, now)?;
-        Ok(self.commit(ready))
-    }
-
     /// Forgets the recent changes that are older than the retention at a moment in milliseconds, up
     /// to the first that isn't. Answers the version from which deltas start now. Takes no memory.
     pub fn clean(&mut self, now: u64) -> u64
@@ -312,6 +296,14 @@ impl Core {
         self.queue.base()
     }
 
+    /// How many instances are held.
+    fn instances(&self) -> u64
+        ensures held { result ≡ len self.now.registry.held }
+        ensures history { (h : List Entry) → registry.StandsFor self.now.registry h → result ≡ len (reg h) }
+    {
+        self.registry.len() as u64
+    }
+
     /// Closes a minute: keeps how many renewals were accepted since the last closing, and how many
     /// instances are held. Answers both. Takes no memory.
     pub fn close_minute(&mut self) -> Minute
@@ -323,7 +315,7 @@ impl Core {
         ensures rules { rules_of self.new ≡ rules_of self.old }
         ensures history { (p : Past) → StandsFor self.old p → StandsFor self.new (minute_closed p) }
     {
-        let instances = self.registry.len() as u64;
+        let instances = self.instances();
         let renewals = self.leases.close_minute(instances);
         Minute {
             renewals,
@@ -340,7 +332,7 @@ impl Core {
         ensures memory { IfErr result (λ e. e ≡ OutOfMemory) }
         ensures refused { OnErr result ((p : Past) → StandsFor self.now p → 0 < length (taken_in p now)) }
     {
-        self.leases.due(self.alloc, now, self.registry.len() as u64)
+        self.leases.due(self.alloc, now, self.instances())
     }
 
     fn payload(&self, key: &DocKey, base: u64, text: Vec<u8>) -> Result<Arc<Payload, Global>, Fault>

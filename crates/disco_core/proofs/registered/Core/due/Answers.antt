@@ -7,12 +7,12 @@ use Rattle.disco_core.proofs.registered.Core.due.Goals as goal
 
 pub returns-clause-keys : goal.returns-clause-keys
 returns-clause-keys c =
-    gives_taken c.due.result c.self.inside.leases c.args.self.now c.len.result c.args.now (λ p stands.
+    gives_taken c.due.result c.self.inside.leases c.args.self.now c.instances.result c.args.now (λ p stands.
     let was : StandsFor (the_view c.self.inside) p = subst (λ (s : State). StandsFor s p) (sym c.self.view_is) stands in
-    takes c.self.inside.leases p c.len.result c.args.now was.leases (c.len.ensures.history (history p) was.registry)) c.due.ensures.keys
+    takes c.self.inside.leases p c.instances.result c.args.now was.leases (c.instances.ensures.history (history p) stands.registry)) c.due.ensures.keys
 
 pub returns-clause-refused : goal.returns-clause-refused
 returns-clause-refused c =
-    refused_some c.due.result c.self.inside.leases c.args.self.now c.len.result c.args.now (λ p stands.
+    refused_some c.due.result c.self.inside.leases c.args.self.now c.instances.result c.args.now (λ p stands.
     let was : StandsFor (the_view c.self.inside) p = subst (λ (s : State). StandsFor s p) (sym c.self.view_is) stands in
-    takes c.self.inside.leases p c.len.result c.args.now was.leases (c.len.ensures.history (history p) was.registry)) c.due.ensures.refused
+    takes c.self.inside.leases p c.instances.result c.args.now was.leases (c.instances.ensures.history (history p) stands.registry)) c.due.ensures.refused
