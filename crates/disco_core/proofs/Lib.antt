@@ -3,4 +3,5 @@ mod Asks
 mod Ids
 mod Loads
 mod Marks
+mod Staying
 mod Ties

@@ -46,3 +46,9 @@ Moves (Some c) k step now old new = Follows c now old new
 abbrev pub OthersStay : Option Entry → VipKeys → VipKeys → Type 0
 OthersStay None old new = old ≡ new
 OthersStay (Some e) old new = KeepsOthers e.0 old new
+
+-- what is put has the vips of what is held
+abbrev pub VipsStay : Option Entry → Option Entry → Type 0
+VipsStay None c = ⊥
+VipsStay (Some d) None = ⊥
+VipsStay (Some d) (Some c) = c.0.vip_address ≡ d.0.vip_address

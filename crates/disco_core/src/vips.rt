@@ -1,5 +1,5 @@
 //! How the index of vips follows a change.
-ghost use Rattle.std.specs.Prelude.{◌≡◌, IfErr, OnOk, Some, option_map};
+ghost use Rattle.std.specs.Prelude.{◌≡◌, IfErr, IsTrue, OnOk, Some, option_map};
 ghost use Rattle.std.specs.FinMap.{get};
 ghost use Rattle.disco_instance.specs.declared.fault.Fault.TheVariants.{OutOfMemory};
 ghost use Rattle.disco_history.specs.Change.{key_of, seen};
@@ -7,7 +7,7 @@ ghost use Rattle.disco_history.specs.Held.{entry_of};
 ghost use Rattle.disco_history.specs.Registry.{put_of};
 ghost use Rattle.disco_index.specs.Vips.{IsIndexOf, IsSameVips, KeepsPlaces, RemovesAny};
 ghost use Rattle.disco_registry.specs.Commit.{held_after};
-ghost use Rattle.disco_core.specs.Moves.{OthersStay};
+ghost use Rattle.disco_core.specs.Moves.{OthersStay, VipsStay};
 ghost use Rattle.disco_core.specs.State.{AddsAny, HasVipPlaces, IsSwept};
 
 use disco_history::{Change, Held};
@@ -81,6 +81,22 @@ fn sweep(vips: &mut VipIndex, held: Option<&Held>)
     }
 }
 
+/// Whether a change puts a record with the vips of the held one.
+fn stay(held: Option<&Held>, change: &Change) -> bool
+    ensures { IsTrue result → VipsStay (option_map (λ h. entry_of h.now) held.entry) (put_of (seen change.now)) }
+{
+    match (held, change) {
+        (
+            Some(held),
+            Change::Put {
+                action: Action::Added | Action::Modified,
+                rec,
+            },
+        ) => held.rec.vip_address == rec.vip_address,
+        _ => false,
+    }
+}
+
 /// Does to the vips what a change is about to do to the registry, and gives back the places that it
 /// leaves empty.
 pub(crate) fn follow(vips: &mut VipIndex, registry: &Registry, change: &Change)
@@ -90,6 +106,9 @@ pub(crate) fn follow(vips: &mut VipIndex, registry: &Registry, change: &Change)
     ensures swept { IsSwept vips.new (get registry.now.held (key_of (seen change.now))) }
 {
     let held = registry.held(change.key());
+    if stay(held, change) {
+        return;
+    }
     take(vips, held);
     add(vips, change);
     sweep(vips, held);
