@@ -1,0 +1,5 @@
+pub mod Digits
+pub mod Headings
+pub mod Reading
+pub mod Receiving
+pub mod Texts

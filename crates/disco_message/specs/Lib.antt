@@ -1,0 +1,10 @@
+pub mod Asked
+pub mod Few
+pub mod Fields
+pub mod Framing
+pub mod Heading
+pub mod Received
+pub mod ReplyText
+pub mod StatusLine
+pub mod Target
+pub mod ValuesLeft

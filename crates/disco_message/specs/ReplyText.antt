@@ -1,0 +1,64 @@
+-- The bytes of a reply (RFC 9112, sections 2 to 6).
+use Rattle.std.specs.Prelude.{ℕ, Bool, true, false, List, [], ◌∷◌, ◌++◌, ◌+◌, map, Option, Some, None, option_map, if◌then◌else◌, ◌==◌, length, codes}
+use Rattle.std.specs.Int.Digits.{digits_of}
+use Rattle.disco_message.specs.declared.reply.Reply.{Reply}
+use Rattle.disco_message.specs.declared.status_line.Allow.{Allow}
+use Rattle.disco_message.specs.declared.status_line.StatusLine.{StatusLine}
+use Rattle.disco_message.specs.declared.status_line.StatusLine.TheVariants.{NoContent}
+use Rattle.disco_message.specs.StatusLine.{status_line, allowed}
+
+-- a reply as plain data: its status, what `Allow` lists, and the bytes of its document
+pub record Answer : Type 0 where
+  pub status : StatusLine
+  pub allow : Option Allow
+  pub document : Option (List ℕ)
+
+-- the same of a reply whose document has these bytes
+abbrev pub answer_of : {D : Type 0} → (D → List ℕ) → Reply D → Answer
+answer_of bytes r = record { status = r.status; allow = r.allow; document = option_map bytes r.document }
+
+-- a number in decimal digits, none for 0
+unfoldable pub digits : ℕ → List ℕ
+digits n = map (λ d. 48 + d) (digits_of 10 n)
+
+-- a number in decimal digits
+abbrev pub number_text : ℕ → List ℕ
+number_text n = if n == 0 then 48 ∷ [] else digits n
+
+-- a document is JSON
+unfoldable pub type_line : List ℕ
+type_line = codes "Content-Type: application/json\r\n"
+
+-- the length of the body
+unfoldable pub length_line : ℕ → List ℕ
+length_line n = codes "Content-Length: " ++ number_text n ++ codes "\r\n"
+
+-- the methods of the path
+unfoldable pub allow_line : Option Allow → List ℕ
+allow_line None = []
+allow_line (Some methods) = codes "Allow: " ++ allowed methods ++ codes "\r\n"
+
+-- the connection ends behind the reply (RFC 9112, section 9.6)
+unfoldable pub close_line : Bool → List ℕ
+close_line true = codes "Connection: close\r\n"
+close_line false = []
+
+-- the lines on the body, which is that of a document of so many bytes, or empty; a 204 has none
+abbrev pub body_lines : StatusLine → Option ℕ → List ℕ
+body_lines NoContent size = []
+body_lines status None = length_line 0
+body_lines status (Some n) = type_line ++ length_line n
+
+-- the head of a reply with a document of so many bytes, or with none; `last` says that the connection ends behind it
+abbrev pub reply_head : StatusLine → Option Allow → Option ℕ → Bool → List ℕ
+reply_head status allow size last = status_line status ++ body_lines status size ++ allow_line allow ++ close_line last ++ codes "\r\n"
+
+-- the body: the document, but for a 204
+abbrev pub reply_body : StatusLine → Option (List ℕ) → List ℕ
+reply_body NoContent document = []
+reply_body status None = []
+reply_body status (Some bytes) = bytes
+
+-- all bytes of a reply
+abbrev pub reply_text : Answer → Bool → List ℕ
+reply_text a last = reply_head a.status a.allow (option_map length a.document) last ++ reply_body a.status a.document

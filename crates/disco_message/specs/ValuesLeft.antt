@@ -1,0 +1,9 @@
+-- Only what code keeps: nothing here is to be believed.
+use Rattle.std.specs.Prelude.{ℕ, List, map}
+use Rattle.httparse.specs.Spans.{header_bytes}
+use Rattle.disco_message.specs.Fields.{values}
+use Rattle.disco_message.specs.declared.fields.Values.{Values}
+
+-- the values that are still to come
+abbrev pub values_left : Values → List (List ℕ)
+values_left v = values v.name.now (map (header_bytes v.text.now) v.fields.now)

@@ -1,0 +1,146 @@
+//! The head of a request, kept.
+ghost use Rattle.std.specs.Prelude.{◌≡◌, ◌⊎◌, ◌≤◌, ℕ, List, length, take, map, All, IfOk, IfErr, IsOk, Err};
+ghost use Rattle.httparse.specs.Grammar.{RequestHead};
+ghost use Rattle.httparse.specs.Spans.{IsRequestAt, IsRequestWithin, IsHeaderWithin, IsWithin, span_bytes, header_bytes};
+ghost use Rattle.disco_message.specs.Heading.{heading, heading_by, closes};
+ghost use Rattle.disco_instance.specs.declared.fault.Fault.TheVariants.{BadRequest, UnsupportedCoding, OutOfMemory};
+
+use crate::fields::Values;
+use crate::framing::{Framing, framed};
+use crate::lists::any_lists;
+use crate::target::{Path, path_of};
+use disco_instance::Fault;
+use httparse::spans::{HeaderSpan, RequestSpans};
+use std::alloc::{AllocError, Global};
+use std::marker::Model;
+
+/// The head of a request that may be read on. Contracts see what it says.
+#[derive(Debug, Drop)]
+pub struct Head {
+    text: Vec<u8>,
+    line: RequestSpans,
+    spans: Vec<HeaderSpan>,
+    target: Vec<u8>,
+    framing: Framing,
+    closes: bool,
+}
+
+impl Model for Head {
+    ghost use Rattle.std.specs.Prelude.{length, map, All};
+    ghost use Rattle.httparse.specs.Spans.{IsHeaderWithin, IsWithin, span_bytes, header_bytes};
+    ghost use Rattle.disco_message.specs.Heading.{Heading};
+
+    ghost Value = { Heading };
+
+    ghost view = { λ h. record {
+      method = span_bytes h.text.items h.line.method;
+      target = h.target.items;
+      fields = map (header_bytes h.text.items) h.spans.items;
+      framing = h.framing;
+      closes = h.closes;
+    } };
+
+    ghost invariant = { λ h. IsWithin (length h.text.items) h.line.method × All (IsHeaderWithin (length h.text.items)) h.spans.items };
+}
+
+/// Whether the connection ends behind the reply.
+pub(crate) fn closes(text: &[u8], minor: u8, fields: &[HeaderSpan]) -> bool
+    requires { All (IsHeaderWithin (length text.now)) fields.now }
+    ensures { result ≡ closes minor (map (header_bytes text.now) fields.now) }
+{
+    minor == 0 || any_lists(text, fields, b"connection", b"close")
+}
+
+/// Copies a head out of the buffer that it was found in.
+fn copy(
+    alloc: Global,
+    buf: &[u8],
+    spans: &[HeaderSpan],
+    line: &RequestSpans,
+    path: Path<'_>,
+    framing: Framing,
+    closes: bool,
+) -> Result<Head, AllocError>
+    requires { IsRequestWithin buf.now spans.now line.now }
+    ensures method { IfOk result (λ head. head.method ≡ span_bytes buf.now line.now.method) }
+    ensures target { IfOk result (λ head. head.target ≡ path.entry) }
+    ensures fields { IfOk result (λ head. head.fields ≡ map (header_bytes buf.now) (take line.now.headers spans.now)) }
+    ensures framing { IfOk result (λ head. head.framing ≡ framing) }
+    ensures closes { IfOk result (λ head. head.closes ≡ closes) }
+{
+    let target = path.copy(alloc)?;
+    let text = Vec::from_slice(alloc, &buf[..line.len])?;
+    let spans = Vec::from_slice(alloc, &spans[..line.headers])?;
+    Ok(Head {
+        text,
+        line: *line,
+        spans,
+        target,
+        framing,
+        closes,
+    })
+}
+
+impl Head {
+    ghost use Rattle.disco_message.specs.Fields.{values};
+    ghost use Rattle.disco_message.specs.ValuesLeft.{values_left};
+
+    /// The head that was found at the front of a buffer. Refused as `BadRequest` or
+    /// `UnsupportedCoding` for what it says, and else as `OutOfMemory`.
+    pub fn new(
+        alloc: Global,
+        buf: &[u8],
+        spans: &[HeaderSpan],
+        line: &RequestSpans,
+    ) -> Result<Head, Fault>
+        requires { IsRequestWithin buf.now spans.now line.now }
+        ensures says { (h : RequestHead) → IsRequestAt buf.now spans.now line.now h → (result ≡ heading h) ⊎ ((result ≡ Err OutOfMemory) × IsOk (heading h)) }
+        ensures fault { IfErr result (λ fault. (fault ≡ BadRequest) ⊎ ((fault ≡ UnsupportedCoding) ⊎ (fault ≡ OutOfMemory))) }
+    {
+        let fields = &spans[..line.headers];
+        let Some(path) = path_of(line.path.of(buf)) else {
+            return Err(Fault::BadRequest);
+        };
+        let framing = framed(buf, line.version, fields)?;
+        let closes = closes(buf, line.version, fields);
+        match copy(alloc, buf, spans, line, path, framing, closes) {
+            Ok(head) => Ok(head),
+            Err(AllocError) => Err(Fault::OutOfMemory),
+        }
+    }
+
+    /// The method, as it stands in the request.
+    pub fn method(&self) -> &[u8]
+        ensures { result.now ≡ self.now.method }
+    {
+        self.line.method.of(&self.text)
+    }
+
+    /// The path with its query.
+    pub fn target(&self) -> &[u8]
+        ensures { result.now ≡ self.now.target }
+    {
+        &self.target
+    }
+
+    /// How the body is framed.
+    pub fn framing(&self) -> Framing
+        ensures { result ≡ self.now.framing }
+    {
+        self.framing
+    }
+
+    /// Whether the connection ends after the reply.
+    pub fn closes(&self) -> bool
+        ensures { result ≡ self.now.closes }
+    {
+        self.closes
+    }
+
+    /// The values of the fields of this name, in any case, in their order.
+    pub fn values<'a>(&'a self, name: &'a [u8]) -> Values<'a>
+        ensures { values_left result ≡ values name.now self.now.fields }
+    {
+        Values::new(&self.text, &self.spans, name)
+    }
+}

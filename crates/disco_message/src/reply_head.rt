@@ -1,0 +1,126 @@
+//! The head of a reply, pushed into room that is there.
+ghost use Rattle.std.specs.Prelude.{◌≡◌, ◌≤◌, ◌+◌, ◌++◌, length, vec_len};
+ghost use Rattle.std.specs.Vec.{vec_capacity};
+ghost use Rattle.disco_message.specs.ReplyText.{digits, number_text, type_line, length_line, allow_line, close_line, body_lines, reply_head};
+
+use crate::status_line::{Allow, StatusLine};
+
+/// Room in which the head of any reply fits, in bytes.
+pub const HEAD_ROOM: usize = 256;
+
+/// Pushes bytes into room that is there. Takes no memory.
+pub fn push_bytes(out: &mut Vec<u8>, bytes: &[u8])
+    requires { vec_len out.old + length bytes.now ≤ vec_capacity out.old }
+    ensures bytes { out.new.items ≡ out.old.items ++ bytes.now }
+    ensures len { vec_len out.new ≡ vec_len out.old + length bytes.now }
+    ensures capacity { vec_capacity out.old ≤ vec_capacity out.new }
+{
+    out.extend_from_slice(bytes).unwrap();
+}
+
+/// Pushes the digits of a number above 0, and nothing for 0.
+fn push_digits(out: &mut Vec<u8>, number: u64)
+    requires { vec_len out.old + length (digits number) ≤ vec_capacity out.old }
+    ensures text { out.new.items ≡ out.old.items ++ digits number }
+    ensures len { vec_len out.new ≡ vec_len out.old + length (digits number) }
+    ensures capacity { vec_capacity out.old ≤ vec_capacity out.new }
+{
+    if number > 0 {
+        push_digits(out, number / 10);
+        out.push_reserved(48 + (number % 10) as u8);
+    }
+}
+
+/// Pushes a number in decimal digits.
+fn push_number(out: &mut Vec<u8>, number: u64)
+    requires { vec_len out.old + 20 ≤ vec_capacity out.old }
+    ensures text { out.new.items ≡ out.old.items ++ number_text number }
+    ensures len { vec_len out.new ≤ vec_len out.old + 20 }
+    ensures capacity { vec_capacity out.old ≤ vec_capacity out.new }
+{
+    if number == 0 {
+        out.push_reserved(b'0');
+    } else {
+        push_digits(out, number);
+    }
+}
+
+#[tactic(auto, unfolding(crate::specs::ReplyText::type_line))]
+fn type_line() -> &'static [u8]
+    ensures text { result.now ≡ type_line }
+    ensures short { length result.now ≡ 32 }
+{
+    b"Content-Type: application/json\r\n"
+}
+
+#[tactic(auto, unfolding(crate::specs::ReplyText::close_line))]
+fn close_line(last: bool) -> &'static [u8]
+    ensures text { result.now ≡ close_line last }
+    ensures short { length result.now ≤ 19 }
+{
+    if last { b"Connection: close\r\n" } else { b"" }
+}
+
+fn push_length(out: &mut Vec<u8>, size: u64)
+    requires { vec_len out.old + 38 ≤ vec_capacity out.old }
+    ensures text { out.new.items ≡ out.old.items ++ length_line size }
+    ensures len { vec_len out.new ≤ vec_len out.old + 38 }
+    ensures capacity { vec_capacity out.old ≤ vec_capacity out.new }
+{
+    push_bytes(out, b"Content-Length: ");
+    push_number(out, size);
+    push_bytes(out, b"\r\n");
+}
+
+fn push_allow(out: &mut Vec<u8>, allow: Option<Allow>)
+    requires { vec_len out.old + 25 ≤ vec_capacity out.old }
+    ensures text { out.new.items ≡ out.old.items ++ allow_line allow }
+    ensures len { vec_len out.new ≤ vec_len out.old + 25 }
+    ensures capacity { vec_capacity out.old ≤ vec_capacity out.new }
+{
+    if let Some(methods) = allow {
+        push_bytes(out, b"Allow: ");
+        push_bytes(out, methods.text());
+        push_bytes(out, b"\r\n");
+    }
+}
+
+/// Pushes the lines on the body, which is that of a document of so many bytes, or empty.
+fn push_body_lines(out: &mut Vec<u8>, status: StatusLine, size: Option<u64>)
+    requires { vec_len out.old + 70 ≤ vec_capacity out.old }
+    ensures text { out.new.items ≡ out.old.items ++ body_lines status size }
+    ensures len { vec_len out.new ≤ vec_len out.old + 70 }
+    ensures capacity { vec_capacity out.old ≤ vec_capacity out.new }
+{
+    if matches!(status, StatusLine::NoContent) {
+        return;
+    }
+    match size {
+        None => push_length(out, 0),
+        Some(size) => {
+            push_bytes(out, type_line());
+            push_length(out, size);
+        }
+    }
+}
+
+/// Pushes the head of a reply with a document of `size` bytes, or with none, into room that is
+/// there; `last` says that the connection ends behind the reply. Takes no memory.
+pub fn push_head(
+    out: &mut Vec<u8>,
+    status: StatusLine,
+    allow: Option<Allow>,
+    size: Option<u64>,
+    last: bool,
+)
+    requires { vec_len out.old + HEAD_ROOM ≤ vec_capacity out.old }
+    ensures text { out.new.items ≡ out.old.items ++ reply_head status allow size last }
+    ensures len { vec_len out.new ≤ vec_len out.old + HEAD_ROOM }
+    ensures capacity { vec_capacity out.old ≤ vec_capacity out.new }
+{
+    push_bytes(out, status.text());
+    push_body_lines(out, status, size);
+    push_allow(out, allow);
+    push_bytes(out, close_line(last));
+    push_bytes(out, b"\r\n");
+}
