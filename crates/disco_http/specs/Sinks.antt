@@ -1,0 +1,12 @@
+-- What a writer writes to, and what a failed write leaves.
+use Rattle.std.specs.Prelude.{◌≡◌, ℕ, List, ◌++◌, Option}
+use Rattle.std.specs.Io.KnownBytes.{Appends}
+use Rattle.disco_http.specs.declared.writer.Writer.{Writer}
+
+-- what it writes to
+abbrev pub sink_of : {W : Type 0} → Writer W → W
+sink_of writer = writer.sink
+
+-- known bytes grow by a front of these
+abbrev pub AppendsFront : Option (List ℕ) → Option (List ℕ) → List ℕ → Type 0
+AppendsFront old new bytes = (done : List ℕ) × (rest : List ℕ) × (bytes ≡ done ++ rest) × Appends old new done

@@ -1,0 +1,93 @@
+//! Replies that are written, without memory.
+ghost use Rattle.std.specs.Prelude.{◌≡◌, IfErr, OnOk, OnErr, length, option_map};
+ghost use Rattle.std.specs.Io.KnownBytes.{Appends};
+ghost use Rattle.disco_instance.specs.declared.fault.Fault.TheVariants.{WriteFailed};
+ghost use Rattle.disco_message.specs.ReplyText.{answer_of, reply_text, reply_body};
+ghost use Rattle.disco_http.specs.Causes.{Raises};
+ghost use Rattle.disco_http.specs.Sinks.{AppendsFront, sink_of};
+
+use crate::source::{Failed, Sink};
+use crate::writer::{SMALL_BODY, Writer};
+use disco_instance::Fault;
+use disco_message::{Document, Reply, StatusLine};
+
+/// Writes all of these bytes.
+pub(crate) fn write_all<W: Sink>(sink: &mut W, bytes: &[u8]) -> Result<(), Failed>
+    ensures written { OnOk result (Appends (W.contents sink.old) (W.contents sink.new) bytes.now) }
+    ensures front { OnErr result (AppendsFront (W.contents sink.old) (W.contents sink.new) bytes.now) }
+    ensures cause { OnErr result (Raises (W.failed sink.old) (W.failed sink.new)) }
+    ensures none_failed { OnOk result (W.failed sink.new ≡ W.failed sink.old) }
+{
+    let mut at = 0;
+    while at < bytes.len() {
+        let count = sink.write(&bytes[at..])?;
+        at += count;
+    }
+    Ok(())
+}
+
+/// The bytes of the document, but for a reply without content.
+fn body_of<D: Document>(reply: &Reply<D>) -> &[u8]
+    ensures { result.now ≡ reply_body reply.now.status (option_map D.content reply.now.document) }
+{
+    if matches!(reply.status, StatusLine::NoContent) {
+        return b"";
+    }
+    match &reply.document {
+        Some(document) => document.bytes(),
+        None => b"",
+    }
+}
+
+/// The number of bytes of the document, if there is one.
+fn size_of<D: Document>(reply: &Reply<D>) -> Option<u64>
+    ensures { result ≡ option_map length (option_map D.content reply.now.document) }
+{
+    match &reply.document {
+        Some(document) => Some(document.bytes().len() as u64),
+        None => None,
+    }
+}
+
+/// Writes a reply in one write where its body is small, else in two, the body from the document
+/// itself.
+fn send_reply<W: Sink, D: Document>(
+    writer: &mut Writer<W>,
+    reply: &Reply<D>,
+    last: bool,
+) -> Result<(), Failed>
+    ensures written { OnOk result (Appends (W.contents (sink_of writer.old)) (W.contents (sink_of writer.new)) (reply_text (answer_of D.content reply.now) last)) }
+    ensures front { OnErr result (AppendsFront (W.contents (sink_of writer.old)) (W.contents (sink_of writer.new)) (reply_text (answer_of D.content reply.now) last)) }
+    ensures cause { OnErr result (Raises (W.failed (sink_of writer.old)) (W.failed (sink_of writer.new))) }
+    ensures none_failed { OnOk result (W.failed (sink_of writer.new) ≡ W.failed (sink_of writer.old)) }
+{
+    let body = body_of(reply);
+    writer.put_head(reply.status, reply.allow, size_of(reply), last);
+    if body.len() <= SMALL_BODY {
+        writer.put_body(body);
+        writer.send()?;
+        return Ok(());
+    }
+    writer.send()?;
+    write_all(&mut writer.sink, body)?;
+    Ok(())
+}
+
+/// Writes a reply; `last` says that the connection ends behind it. Takes no memory. Refused only as
+/// `WriteFailed`; then a front of the reply was written.
+pub fn write_reply<W: Sink, D: Document>(
+    writer: &mut Writer<W>,
+    reply: &Reply<D>,
+    last: bool,
+) -> Result<(), Fault>
+    ensures written { OnOk result (Appends (W.contents (sink_of writer.old)) (W.contents (sink_of writer.new)) (reply_text (answer_of D.content reply.now) last)) }
+    ensures front { OnErr result (AppendsFront (W.contents (sink_of writer.old)) (W.contents (sink_of writer.new)) (reply_text (answer_of D.content reply.now) last)) }
+    ensures fault { IfErr result (λ fault. fault ≡ WriteFailed) }
+    ensures cause { OnErr result (Raises (W.failed (sink_of writer.old)) (W.failed (sink_of writer.new))) }
+    ensures none_failed { OnOk result (W.failed (sink_of writer.new) ≡ W.failed (sink_of writer.old)) }
+{
+    match send_reply(writer, reply, last) {
+        Ok(()) => Ok(()),
+        Err(Failed) => Err(Fault::WriteFailed),
+    }
+}

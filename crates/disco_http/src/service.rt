@@ -1,0 +1,18 @@
+//! What answers requests.
+ghost use Rattle.disco_message.specs.Asked.{Asked};
+ghost use Rattle.disco_message.specs.ReplyText.{Answer, answer_of};
+
+use disco_message::{Document, Reply, Request};
+
+/// Answers requests, one after another.
+pub trait Service {
+    /// The documents of its replies.
+    type Body: Document + Drop;
+
+    // From the first state the reply answers what is asked, and leaves the second state.
+    ghost answers: { Self → Asked → Answer → Self → Type 0 };
+
+    /// The reply to a request.
+    fn call(&mut self, request: &Request) -> Reply<Self::Body>
+        ensures { answers self.old request.now (answer_of Self.Body.content result) self.new };
+}

@@ -1,0 +1,83 @@
+//! A sink with room for a reply in front of it.
+ghost use Rattle.std.specs.Prelude.{◌≤◌, ◌+◌, vec_len};
+ghost use Rattle.std.specs.Vec.{vec_capacity};
+
+use crate::replying::write_all;
+use crate::source::{Failed, Sink};
+use disco_message::{Allow, HEAD_ROOM, StatusLine, push_bytes, push_head};
+use std::alloc::{AllocError, Global};
+
+/// Bodies up to this size are written together with their head, in bytes.
+pub(crate) const SMALL_BODY: usize = 4_096;
+
+/// A sink with room for the head of a reply and a small body, so that no reply takes memory.
+#[derive(Drop)]
+pub struct Writer<W> {
+    pub(crate) sink: W,
+    pub(crate) room: Vec<u8>,
+    ghost fits: { 4352 ≤ vec_capacity room },
+}
+
+impl<W: Drop> Writer<W> {
+    ghost use Rattle.std.specs.Prelude.{◌≡◌, IfOk};
+    ghost use Rattle.disco_http.specs.Sinks.{sink_of};
+
+    /// Room in front of a sink, with nothing written.
+    pub fn new(alloc: Global, sink: W) -> Result<Writer<W>, AllocError>
+        ensures { IfOk result (λ writer. sink_of writer ≡ sink) }
+    {
+        let room = Vec::with_capacity(alloc, HEAD_ROOM + SMALL_BODY)?;
+        Ok(Writer { sink, room })
+    }
+
+    /// Gives the sink back.
+    pub fn into_sink(self) -> W
+        ensures { result ≡ sink_of self }
+    {
+        self.sink
+    }
+}
+
+impl<W: Sink> Writer<W> {
+    ghost use Rattle.std.specs.Prelude.{◌≡◌, ◌++◌, length, OnOk, OnErr};
+    ghost use Rattle.std.specs.Io.KnownBytes.{Appends};
+    ghost use Rattle.disco_message.specs.ReplyText.{reply_head};
+    ghost use Rattle.disco_http.specs.Causes.{Raises};
+    ghost use Rattle.disco_http.specs.Sinks.{AppendsFront};
+
+    /// Puts the head of a reply into the room.
+    pub(crate) fn put_head(
+        &mut self,
+        status: StatusLine,
+        allow: Option<Allow>,
+        size: Option<u64>,
+        last: bool,
+    )
+        ensures room { self.new.room.items ≡ reply_head status allow size last }
+        ensures len { vec_len self.new.room ≤ HEAD_ROOM }
+        ensures sink { self.new.sink ≡ self.old.sink }
+    {
+        self.room.clear();
+        push_head(&mut self.room, status, allow, size, last);
+    }
+
+    /// Puts a small body behind the head.
+    pub(crate) fn put_body(&mut self, body: &[u8])
+        requires head { vec_len self.old.room ≤ HEAD_ROOM }
+        requires small { length body.now ≤ SMALL_BODY }
+        ensures room { self.new.room.items ≡ self.old.room.items ++ body.now }
+        ensures sink { self.new.sink ≡ self.old.sink }
+    {
+        push_bytes(&mut self.room, body);
+    }
+
+    /// Writes what is in the room.
+    pub(crate) fn send(&mut self) -> Result<(), Failed>
+        ensures written { OnOk result (Appends (W.contents self.old.sink) (W.contents self.new.sink) self.old.room.items) }
+        ensures front { OnErr result (AppendsFront (W.contents self.old.sink) (W.contents self.new.sink) self.old.room.items) }
+        ensures cause { OnErr result (Raises (W.failed self.old.sink) (W.failed self.new.sink)) }
+        ensures none_failed { OnOk result (W.failed self.new.sink ≡ W.failed self.old.sink) }
+    {
+        write_all(&mut self.sink, &self.room)
+    }
+}
