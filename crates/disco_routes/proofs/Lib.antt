@@ -1,0 +1,5 @@
+mod Walk
+mod Named
+mod Routing
+mod Filling
+mod Rows

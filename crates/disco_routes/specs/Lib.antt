@@ -1,0 +1,4 @@
+pub mod Places
+pub mod Paths
+pub mod Table
+pub mod Worked

@@ -1,0 +1,90 @@
+//! The table of paths.
+ghost use Rattle.std.specs.Prelude.{◌≡◌, IfOk, option_map};
+ghost use Rattle.disco_routes.specs.Paths.{behind_base, place_at};
+ghost use Rattle.disco_routes.specs.Places.{shown};
+ghost use Rattle.disco_routes.specs.Table.{filled, table};
+
+use crate::parts::split;
+use crate::place::Place;
+use crate::route::Route;
+use matchit::{InsertError, Router};
+use std::alloc::{AllocError, Global};
+
+/// What stands before each path of the table.
+const BASE: &str = "/eureka/v2";
+
+/// The table of paths.
+#[derive(Drop)]
+pub struct Routes {
+    router: Router<Route>,
+    ghost routes: { router ≡ table },
+}
+
+fn router(alloc: Global) -> Result<Router<Route>, InsertError>
+    ensures { IfOk result (λ r. r ≡ table) }
+{
+    let mut router = Router::new(alloc);
+    router.insert("/apps", Route::Apps)?;
+    router.insert("/apps/", Route::Apps)?;
+    router.insert("/apps/delta", Route::Delta)?;
+    router.insert("/apps/{app}", Route::App)?;
+    router.insert("/apps/{app}/{id}", Route::Instance)?;
+    router.insert("/apps/{app}/{id}/status", Route::Status)?;
+    router.insert("/apps/{app}/{id}/metadata", Route::Metadata)?;
+    router.insert("/instances/{id}", Route::Id)?;
+    router.insert("/vips/{vip}", Route::Vip)?;
+    router.insert("/svips/{svip}", Route::Svip)?;
+    Ok(router)
+}
+
+/// What a path of a row names.
+fn filled(route: Route, path: &[u8]) -> Place<&[u8]>
+    ensures { shown result ≡ filled route path.now }
+{
+    let (_, folder) = split(path);
+    let (_, names) = split(folder);
+    let (first, more) = split(names);
+    let (second, _) = split(more);
+    match route {
+        Route::Apps => Place::Apps,
+        Route::Delta => Place::Delta,
+        Route::App => Place::App { app: first },
+        Route::Instance => Place::Instance {
+            app: first,
+            id: second,
+        },
+        Route::Status => Place::Status {
+            app: first,
+            id: second,
+        },
+        Route::Metadata => Place::Metadata {
+            app: first,
+            id: second,
+        },
+        Route::Id => Place::Id { id: first },
+        Route::Vip => Place::Vip { vip: first },
+        Route::Svip => Place::Svip { svip: first },
+    }
+}
+
+impl Routes {
+    /// The table. Refused for want of memory alone.
+    pub fn new(alloc: Global) -> Result<Routes, AllocError> {
+        match router(alloc) {
+            Ok(router) => Ok(Routes { router }),
+            Err(_) => Err(AllocError),
+        }
+    }
+
+    /// What a path names, `None` where it names nothing. The names in it stand as in the path,
+    /// percent-encoded; none is empty.
+    pub fn find<'p>(&self, path: &'p str) -> Option<Place<&'p [u8]>>
+        ensures { option_map shown result ≡ place_at path.entry.now }
+    {
+        let behind = path.strip_prefix(BASE)?;
+        match self.router.at(behind) {
+            Ok(found) => Some(filled(*found.value, behind.as_bytes())),
+            Err(_) => None,
+        }
+    }
+}
