@@ -1,0 +1,108 @@
+-- What a request asks for, or why it is refused (Eureka's REST operations; the order of refusals is this project's own rule).
+use Rattle.std.specs.Prelude.{ℕ, List, Option, Some, None, Result, Ok, Err, if◌then◌else◌}
+use Rattle.std.specs.Str.{is_utf8}
+use Rattle.disco_cache.specs.declared.key.DocKey.{DocKey}
+use Rattle.disco_instance.specs.Text.{in_upper_case}
+use Rattle.disco_instance.specs.declared.fault.Fault.{Fault}
+use Rattle.disco_instance.specs.declared.fault.Fault.TheVariants.{BadMethod, BadRequest, NotAcceptable, NotFound}
+use Rattle.disco_instance.specs.declared.form.Form.{Form}
+use Rattle.disco_instance.specs.declared.key.Key.{Key}
+use Rattle.disco_message.specs.Asked.{Asked}
+use Rattle.disco_message.specs.declared.status_line.Allow.{Allow}
+use Rattle.disco_registry.specs.Op.{Ask, ask_of, cancel, renew, drop_status, add_metadata}
+use Rattle.disco_routes.specs.Paths.{place_at}
+use Rattle.disco_routes.specs.declared.place.Place.{Place}
+use Rattle.disco_routes.specs.declared.place.Place.TheVariants as place
+use Rattle.disco_wire.specs.Registration.{registration_of}
+use Rattle.disco_writer.specs.declared.query.Query.{Query}
+use Rattle.disco_writer.specs.declared.query.Query.TheVariants as query
+use Rattle.disco_calls.specs.Accept.{form_of, takes_json}
+use Rattle.disco_calls.specs.Decoding.{decoded}
+use Rattle.disco_calls.specs.Methods.{allow_of, lists, method_of}
+use Rattle.disco_calls.specs.Operations.{key_named, registers, sets}
+use Rattle.disco_calls.specs.Query.{entries_of_query, path_in, query_in, value_of}
+use Rattle.disco_calls.specs.declared.call.Call.{Call}
+use Rattle.disco_calls.specs.declared.call.Call.TheVariants as calls
+use Rattle.disco_calls.specs.declared.method.Method.{Method}
+use Rattle.disco_calls.specs.declared.method.Method.TheVariants.{Get, Post, Put, Delete, Other}
+
+-- what is asked for: a document that readers may share, that of an instance, that of the instance of an id, an operation, or nothing, since the path has these methods alone
+pub data Asks : Type 0 where
+  loads : DocKey → Asks
+  shows : Key → Form → Asks
+  shows_id : List ℕ → Form → Asks
+  writes : Ask → Asks
+  lacks : Allow → Asks
+
+-- a call as plain data
+abbrev pub seen : Call → Asks
+seen (calls.Load key) = loads key
+seen (calls.Instance key form) = shows key form
+seen (calls.ById id form) = shows_id id form
+seen (calls.Write op) = writes (ask_of op)
+seen (calls.Lacks allow) = lacks allow
+
+abbrev pub document : Query → Form → Result Asks Fault
+document q form = Ok (loads (record { query = q; form = form }))
+
+-- GET: the document of a place, in a form
+abbrev pub read_of : Place (List ℕ) → Form → Result Asks Fault
+read_of place.Apps form = document query.Apps form
+read_of place.Delta form = document query.Delta form
+read_of (place.App app) form = document (query.App (in_upper_case app)) form
+read_of (place.Vip vip) form = document (query.Vip vip) form
+read_of (place.Svip svip) form = document (query.Svip svip) form
+read_of (place.Instance app id) form = Ok (shows (key_named app id) form)
+read_of (place.Id id) form = Ok (shows_id id form)
+read_of _ form = Err BadMethod
+
+-- GET, by a reader that takes JSON
+abbrev pub call_of_get : Place (List ℕ) → Asked → Result Asks Fault
+call_of_get place a = if takes_json a.fields then read_of place (form_of a.fields) else Err NotAcceptable
+
+-- POST, with a registration as its body
+abbrev pub post_of : Place (List ℕ) → List ℕ → Result Ask Fault
+post_of (place.App app) body = registers app (registration_of body)
+post_of _ body = Err BadMethod
+
+-- PUT, with a query
+abbrev pub put_of : Place (List ℕ) → List ℕ → Result Ask Fault
+put_of (place.Instance app id) q = Ok (renew (key_named app id))
+put_of (place.Status app id) q = sets (key_named app id) (value_of q)
+put_of (place.Metadata app id) q = Ok (add_metadata (key_named app id) (entries_of_query q))
+put_of _ q = Err BadMethod
+
+-- DELETE, with a query
+abbrev pub delete_of : Place (List ℕ) → List ℕ → Result Ask Fault
+delete_of (place.Instance app id) q = Ok (cancel (key_named app id))
+delete_of (place.Status app id) q = Ok (drop_status (key_named app id) (value_of q))
+delete_of _ q = Err BadMethod
+
+abbrev pub writing : Result Ask Fault → Result Asks Fault
+writing (Err e) = Err e
+writing (Ok ask) = Ok (writes ask)
+
+-- what a method asks for at a place
+abbrev pub call_by : Method → Place (List ℕ) → Asked → List ℕ → Result Asks Fault
+call_by Get place a q = call_of_get place a
+call_by Post place a q = writing (post_of place a.body)
+call_by Put place a q = writing (put_of place q)
+call_by Delete place a q = writing (delete_of place q)
+call_by Other place a q = Err BadMethod
+
+-- the same where the place's names are text
+abbrev pub call_with : Method → Option (Place (List ℕ)) → Asked → List ℕ → Result Asks Fault
+call_with method None a q = Err BadRequest
+call_with method (Some place) a q = call_by method place a q
+
+-- what a method asks for at a place whose names are still encoded: the method is looked at first
+abbrev pub called : Method → Place (List ℕ) → Asked → List ℕ → Result Asks Fault
+called method place a q = if lists (allow_of place) method then call_with method (decoded place) a q else Ok (lacks (allow_of place))
+
+abbrev pub called_in : Method → Option (Place (List ℕ)) → Asked → List ℕ → Result Asks Fault
+called_in method None a q = Err NotFound
+called_in method (Some place) a q = called method place a q
+
+-- what a request asks for, or why it is refused
+abbrev pub call : Asked → Result Asks Fault
+call a = if is_utf8 (path_in a.target) then called_in (method_of a.method) (place_at (path_in a.target)) a (query_in a.target) else Err BadRequest

@@ -1,0 +1,42 @@
+-- Methods, and which of them a path has (Eureka's REST operations).
+use Rattle.std.specs.Prelude.{ℕ, Bool, true, false, List, codes, if◌then◌else◌}
+use Rattle.std.specs.Str.{bytes_eq}
+use Rattle.disco_message.specs.declared.status_line.Allow.{Allow}
+use Rattle.disco_message.specs.declared.status_line.Allow.TheVariants as allow
+use Rattle.disco_routes.specs.declared.place.Place.{Place}
+use Rattle.disco_routes.specs.declared.place.Place.TheVariants.{Apps, Delta, App, Instance, Status, Metadata, Id, Vip, Svip}
+use Rattle.disco_calls.specs.declared.method.Method.{Method}
+use Rattle.disco_calls.specs.declared.method.Method.TheVariants.{Get, Post, Put, Delete, Other}
+
+-- the method of that name, compared in its case (RFC 9110, section 9.1)
+abbrev pub method_of : List ℕ → Method
+method_of name =
+    if bytes_eq name (codes "GET") then Get
+    else (if bytes_eq name (codes "POST") then Post
+    else (if bytes_eq name (codes "PUT") then Put
+    else (if bytes_eq name (codes "DELETE") then Delete else Other)))
+
+-- the methods of the path of a place
+abbrev pub allow_of : {T : Type 0} → Place T → Allow
+allow_of Apps = allow.Get
+allow_of Delta = allow.Get
+allow_of (App app) = allow.GetPost
+allow_of (Instance app id) = allow.GetPutDelete
+allow_of (Status app id) = allow.PutDelete
+allow_of (Metadata app id) = allow.Put
+allow_of (Id id) = allow.Get
+allow_of (Vip vip) = allow.Get
+allow_of (Svip svip) = allow.Get
+
+-- whether a method is among them
+abbrev pub lists : Allow → Method → Bool
+lists allow.Get Get = true
+lists allow.GetPost Get = true
+lists allow.GetPost Post = true
+lists allow.GetPutDelete Get = true
+lists allow.GetPutDelete Put = true
+lists allow.GetPutDelete Delete = true
+lists allow.PutDelete Put = true
+lists allow.PutDelete Delete = true
+lists allow.Put Put = true
+lists _ _ = false

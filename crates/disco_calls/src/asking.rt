@@ -1,0 +1,143 @@
+//! From a request to what it asks for.
+ghost use Rattle.std.specs.Prelude.{◌≡◌};
+ghost use Rattle.disco_instance.specs.Instance.{Gives};
+ghost use Rattle.disco_registry.specs.Op.{ask_of};
+ghost use Rattle.disco_routes.specs.Places.{shown};
+ghost use Rattle.disco_calls.specs.Calls.{call, call_by, call_of_get, called, called_in, delete_of, post_of, put_of, read_of, seen};
+
+use crate::accept::{form_of, takes_json};
+use crate::call::Call;
+use crate::decoding::decoded;
+use crate::method::{Method, allow_of, lists, method_of};
+use crate::operations::{add_metadata, drop_status, key_named, register, set_status};
+use crate::query::split_target;
+use disco_cache::DocKey;
+use disco_instance::{Fault, Form, Text, upper};
+use disco_message::Request;
+use disco_registry::Op;
+use disco_routes::{Place, Routes};
+use disco_writer::Query;
+use std::alloc::Global;
+use std::str;
+
+/// What a GET of a place asks for, in a form.
+fn read_of(alloc: Global, place: Place<Text>, form: Form) -> Result<Call, Fault>
+    ensures { Gives seen result (read_of place form) }
+{
+    let query = match place {
+        Place::Apps => Query::Apps,
+        Place::Delta => Query::Delta,
+        Place::App { app } => Query::App(upper(alloc, app.as_str())?),
+        Place::Vip { vip } => Query::Vip(vip),
+        Place::Svip { svip } => Query::Svip(svip),
+        Place::Instance { app, id } => {
+            return Ok(Call::Instance(key_named(alloc, &app, id)?, form));
+        }
+        Place::Id { id } => return Ok(Call::ById(id, form)),
+        Place::Status { .. } | Place::Metadata { .. } => return Err(Fault::BadMethod),
+    };
+    Ok(Call::Load(DocKey { query, form }))
+}
+
+/// What a GET asks for.
+fn call_of_get(alloc: Global, place: Place<Text>, request: &Request) -> Result<Call, Fault>
+    ensures { Gives seen result (call_of_get place request.now) }
+{
+    if !takes_json(request) {
+        return Err(Fault::NotAcceptable);
+    }
+    read_of(alloc, place, form_of(request))
+}
+
+/// What a POST with a body asks for.
+fn post_of(alloc: Global, place: Place<Text>, body: &[u8]) -> Result<Op, Fault>
+    ensures { Gives ask_of result (post_of place body.now) }
+{
+    match place {
+        Place::App { app } => register(alloc, &app, body),
+        _ => Err(Fault::BadMethod),
+    }
+}
+
+/// What a PUT with a query asks for.
+fn put_of(alloc: Global, place: Place<Text>, query: &[u8]) -> Result<Op, Fault>
+    ensures { Gives ask_of result (put_of place query.now) }
+{
+    match place {
+        Place::Instance { app, id } => Ok(Op::Renew(key_named(alloc, &app, id)?)),
+        Place::Status { app, id } => set_status(alloc, &app, id, query),
+        Place::Metadata { app, id } => add_metadata(alloc, &app, id, query),
+        _ => Err(Fault::BadMethod),
+    }
+}
+
+/// What a DELETE with a query asks for.
+fn delete_of(alloc: Global, place: Place<Text>, query: &[u8]) -> Result<Op, Fault>
+    ensures { Gives ask_of result (delete_of place query.now) }
+{
+    match place {
+        Place::Instance { app, id } => Ok(Op::Cancel(key_named(alloc, &app, id)?)),
+        Place::Status { app, id } => drop_status(alloc, &app, id, query),
+        _ => Err(Fault::BadMethod),
+    }
+}
+
+/// What a method asks for at a place.
+fn call_by(
+    alloc: Global,
+    method: Method,
+    place: Place<Text>,
+    request: &Request,
+    query: &[u8],
+) -> Result<Call, Fault>
+    ensures { Gives seen result (call_by method place request.now query.now) }
+{
+    match method {
+        Method::Get => call_of_get(alloc, place, request),
+        Method::Post => Ok(Call::Write(post_of(alloc, place, request.body())?)),
+        Method::Put => Ok(Call::Write(put_of(alloc, place, query)?)),
+        Method::Delete => Ok(Call::Write(delete_of(alloc, place, query)?)),
+        Method::Other => Err(Fault::BadMethod),
+    }
+}
+
+/// What a method asks for at a place whose names are still encoded.
+fn call_at(
+    alloc: Global,
+    method: Method,
+    place: Place<&[u8]>,
+    request: &Request,
+    query: &[u8],
+) -> Result<Call, Fault>
+    ensures { Gives seen result (called method (shown place.entry) request.now query.now) }
+{
+    let allow = allow_of(&place);
+    if !lists(allow, method) {
+        return Ok(Call::Lacks(allow));
+    }
+    match decoded(alloc, place)? {
+        Some(place) => call_by(alloc, method, place, request, query),
+        None => Err(Fault::BadRequest),
+    }
+}
+
+/// What a request asks for, at the path of its target and with its method. Refused, by the first
+/// cause that fits, as `NotFound` where the path is none of the table, as `BadRequest` where a name
+/// in it isn't UTF-8, as `NotAcceptable` where the reader of a document takes XML alone, and as
+/// `BadJson`, `MissingField`, `MismatchedApp` or `BadStatus` where an operation is asked for that is
+/// wrong by itself; and as `OutOfMemory`. A path that lacks the method is answered by what it has.
+pub fn call_of(alloc: Global, routes: &Routes, request: &Request) -> Result<Call, Fault>
+    ensures { Gives seen result (call request.now) }
+{
+    let (path, query) = split_target(request.target());
+    let Ok(path) = str::from_utf8(path) else {
+        return Err(Fault::BadRequest);
+    };
+    match routes.find(path) {
+        Some(place) => {
+            let method = method_of(request.method());
+            call_at(alloc, method, place, request, query)
+        }
+        None => Err(Fault::NotFound),
+    }
+}

@@ -1,0 +1,21 @@
+//! What a request asks for.
+
+use disco_cache::DocKey;
+use disco_instance::{Form, Key, Text};
+use disco_message::Allow;
+use disco_registry::Op;
+
+/// What a request asks for.
+#[derive(Debug, Drop)]
+pub enum Call {
+    /// The document of a query, which readers may share.
+    Load(DocKey),
+    /// The document of one instance.
+    Instance(Key, Form),
+    /// The document of the instance of an id, of whichever app.
+    ById(Text, Form),
+    /// An operation on the registry.
+    Write(Op),
+    /// Nothing: the path has these methods, and not that of the request.
+    Lacks(Allow),
+}

@@ -1,0 +1,14 @@
+//! What a request to a discovery server asks for: [`call_of`] makes a [`Call`] of it, by the paths and
+//! methods of Eureka's REST operations, and does nothing.
+#![tactic(auto)]
+
+mod accept;
+mod asking;
+mod call;
+mod decoding;
+mod method;
+mod operations;
+mod query;
+
+pub use asking::call_of;
+pub use call::Call;
