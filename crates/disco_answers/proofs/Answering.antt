@@ -1,0 +1,98 @@
+-- What a hub does is answered.
+use Rattle.std.proofs.Common.{◌≡◌, ◌≢◌, ◌⊎◌, inl, inr, ℕ, true, List, Option, Some, None, Result, Ok, Err, IfOk, IfErr, OnErr, MatchResult, refl, sym, ap, subst, ◌∙◌, arith}
+use Rattle.std.specs.declared.alloc.Global.{Global}
+use Rattle.std.specs.declared.sync.Arc.{Arc}
+use Rattle.disco_instance.specs.Fault.{fault_number}
+use Rattle.disco_instance.specs.declared.fault.Fault.{Fault}
+use Rattle.disco_instance.specs.declared.fault.Fault.TheVariants.{OutOfMemory}
+use Rattle.disco_instance.specs.declared.form.Form.{Form}
+use Rattle.disco_instance.specs.declared.key.Key.{Key}
+use Rattle.disco_cache.specs.declared.key.DocKey.{DocKey}
+use Rattle.disco_cache.specs.declared.payload.Payload.{Payload}
+use Rattle.disco_core.specs.Past.{Past, history, with_done}
+use Rattle.disco_core.specs.Refusals.{doc_of_id, doc_of_key, refusal_of, refusal_of_id}
+use Rattle.disco_hub.specs.State.{MayServe, StandsFor, State, rules_of}
+use Rattle.disco_message.specs.ReplyText.{Answer}
+use Rattle.disco_registry.specs.Accept.{Refuses, accepts}
+use Rattle.disco_registry.specs.Commit.{done_by}
+use Rattle.disco_registry.specs.Op.{Ask}
+use Rattle.disco_registry.specs.declared.op.Applied.{Applied}
+use Rattle.disco_registry.proofs.Histories.{accepts_after}
+use Rattle.disco_message.specs.declared.status_line.Allow.{Allow}
+use Rattle.disco_calls.specs.Calls.{Asks, loads, shows, shows_id, writes, lacks}
+use Rattle.disco_answers.specs.Replies.{IsAnswered, IsReply, Replies, Shows, Does, document_of, document_of_id, unless, plain, refused, success_of, with_document, lacking}
+
+memory_or : (e : Fault) → (e ≡ OutOfMemory) ⊎ (e ≢ OutOfMemory)
+memory_or OutOfMemory = inl refl
+memory_or e = inr (λ is. let bad : fault_number e ≡ 1 = ap fault_number is in omega (arith, bad))
+
+module _ (old new : State) (now : ℕ) (y : Answer) where
+  -- a document that was asked for: `asked` is it, or why it isn't served, by what has happened
+  module _ (want : Asks) (asked : Past → Result DocKey Fault) (row : (p q : Past) → Shows p (asked p) y × (q ≡ p) → Replies (rules_of old) p (Ok want) now y q) (on : (p : Past) → StandsFor old p → StandsFor new p) where
+    told : (p : Past) → StandsFor old p → Shows p (asked p) y → (q : Past) × IsReply (rules_of old) p (Ok want) now y q × StandsFor new q
+    told p stands is = (p, inl (row p p (is, refl)), on p stands)
+
+    pub served : (r : Result (Arc Payload Global) Fault) → IfOk r (λ d. (p : Past) → StandsFor old p → asked p ≡ Ok d.value.key) → IfOk r (λ d. (p : Past) → StandsFor old p → MayServe d.value p)
+        → IfErr r (λ e. e ≢ OutOfMemory → (p : Past) → StandsFor old p → asked p ≡ Err e) → MatchResult r (λ d. y ≡ with_document d.value.text) (λ e. y ≡ refused e) → IsAnswered old new (Ok want) now y
+    served (Ok d) allowed may why is = λ p stands. told p stands (subst (λ r. Shows p r y) (sym (allowed p stands)) (d.value, refl, may p stands, is))
+    served (Err e) allowed may why is = λ p stands. elim (memory_or e) [
+      | inl memory ↦ (p, inr (is ∙ ap refused memory, refl), on p stands)
+      | inr other ↦ told p stands (subst (λ r. Shows p r y) (sym (why other p stands)) is)
+    ]
+
+  -- an operation
+  pub written : (ask : Ask) (r : Result Applied Fault) → IfOk r (λ a. accepts old.core.registry ask now ≡ Ok (done_by a)) → IfErr r (Refuses old.core.registry ask now)
+      → IfOk r (λ a. (p : Past) → StandsFor old p → StandsFor new (with_done (rules_of old).queue p now ask (done_by a))) → OnErr r ((p : Past) → StandsFor old p → StandsFor new p)
+      → MatchResult r (λ a. y ≡ plain (success_of ask)) (λ e. y ≡ refused e) → IsAnswered old new (Ok (writes ask)) now y
+  written ask (Ok a) done why after stays is = λ p stands.
+      let accepted = sym (accepts_after old.core.registry (history p) stands.core.registry ask now) ∙ done in
+      let q = with_done (rules_of old).queue p now ask (done_by a) in
+      (q, inl (subst (λ r. Does (rules_of old) p ask now r y q) (sym accepted) (is, refl)), after p stands)
+  written ask (Err e) done why after stays is = λ p stands. elim (memory_or e) [
+    | inl memory ↦ (p, inr (is ∙ ap refused memory, refl), stays p stands)
+    | inr other ↦
+        let refuses = sym (accepts_after old.core.registry (history p) stands.core.registry ask now) ∙ why other in
+        (p, inl (subst (λ r. Does (rules_of old) p ask now r y p) (sym refuses) (is, refl)), stays p stands)
+  ]
+
+-- a path that lacks the method
+pub lacked : (s : State) (allow : Allow) (now : ℕ) (y : Answer) → y ≡ lacking allow → IsAnswered s s (Ok (lacks allow)) now y
+lacked s allow now y is = λ p stands. (p, inl (is, refl), stands)
+
+-- a request that is refused for itself
+pub refused_so : (s : State) (asked : Result Asks Fault) (e : Fault) (now : ℕ) (y : Answer) → (e ≢ OutOfMemory → asked ≡ Err e) → y ≡ refused e → IsAnswered s s asked now y
+refused_so s asked e now y why is = λ p stands. elim (memory_or e) [
+  | inl memory ↦ (p, inr (is ∙ ap refused memory, refl), stands)
+  | inr other ↦ (p, inl (subst (λ r. Replies (rules_of s) p r now y p) (sym (why other)) (is, refl)), stands)
+]
+
+-- a load of a key
+pub load_so : (old new : State) (key : DocKey) (now : ℕ) (y : Answer) (r : Result (Arc Payload Global) Fault) → IfOk r (λ d. d.value.key ≡ key) → IfOk r (λ d. (p : Past) → StandsFor old p → MayServe d.value p)
+    → IfOk r (λ d. (p : Past) → StandsFor old p → refusal_of (rules_of old).delta key.query (history p) ≡ None) → IfErr r (λ e. e ≢ OutOfMemory → (p : Past) → StandsFor old p → refusal_of (rules_of old).delta key.query (history p) ≡ Some e)
+    → MatchResult r (λ d. y ≡ with_document d.value.text) (λ e. y ≡ refused e) → ((p : Past) → StandsFor old p → StandsFor new p) → IsAnswered old new (Ok (loads key)) now y
+load_so old new key now y (Ok d) is may allowed why shown on =
+    served old new now y (loads key) (λ p. document_of (rules_of old).delta key (history p)) (λ p q so. so) on (Ok d) (λ p stands. ap (unless (Some key)) (allowed p stands) ∙ ap (λ k. Ok k) (sym is)) may tt shown
+load_so old new key now y (Err e) is may allowed why shown on =
+    served old new now y (loads key) (λ p. document_of (rules_of old).delta key (history p)) (λ p q so. so) on (Err e) tt tt (λ other p stands. ap (unless (Some key)) (why other p stands)) shown
+
+-- the document of an instance
+pub instance_so : (s : State) (key : Key) (form : Form) (now : ℕ) (y : Answer) (r : Result (Arc Payload Global) Fault) → IfOk r (λ d. d.value.key ≡ doc_of_key key form) → IfOk r (λ d. (p : Past) → StandsFor s p → MayServe d.value p)
+    → IfOk r (λ d. (p : Past) → StandsFor s p → refusal_of true (doc_of_key key form).query (history p) ≡ None) → IfErr r (λ e. e ≢ OutOfMemory → (p : Past) → StandsFor s p → refusal_of true (doc_of_key key form).query (history p) ≡ Some e)
+    → MatchResult r (λ d. y ≡ with_document d.value.text) (λ e. y ≡ refused e) → IsAnswered s s (Ok (shows key form)) now y
+instance_so s key form now y (Ok d) is may allowed why shown =
+    served s s now y (shows key form) (λ p. document_of true (doc_of_key key form) (history p)) (λ p q so. so) (λ p stands. stands) (Ok d) (λ p stands. ap (unless (Some (doc_of_key key form))) (allowed p stands) ∙ ap (λ k. Ok k) (sym is)) may tt shown
+instance_so s key form now y (Err e) is may allowed why shown =
+    served s s now y (shows key form) (λ p. document_of true (doc_of_key key form) (history p)) (λ p q so. so) (λ p stands. stands) (Err e) tt tt (λ other p stands. ap (unless (Some (doc_of_key key form))) (why other p stands)) shown
+
+-- the document of the instance of an id
+pub by_id_so : (s : State) (id : List ℕ) (form : Form) (now : ℕ) (y : Answer) (r : Result (Arc Payload Global) Fault) → IfOk r (λ d. (p : Past) → StandsFor s p → doc_of_id id form (history p) ≡ Some d.value.key) → IfOk r (λ d. (p : Past) → StandsFor s p → MayServe d.value p)
+    → IfOk r (λ d. (p : Past) → StandsFor s p → refusal_of_id id (history p) ≡ None) → IfErr r (λ e. e ≢ OutOfMemory → (p : Past) → StandsFor s p → refusal_of_id id (history p) ≡ Some e)
+    → MatchResult r (λ d. y ≡ with_document d.value.text) (λ e. y ≡ refused e) → IsAnswered s s (Ok (shows_id id form)) now y
+by_id_so s id form now y (Ok d) is may allowed why shown =
+    served s s now y (shows_id id form) (λ p. document_of_id id form (history p)) (λ p q so. so) (λ p stands. stands) (Ok d) (λ p stands. ap (unless (doc_of_id id form (history p))) (allowed p stands) ∙ ap (λ k. unless k None) (is p stands)) may tt shown
+by_id_so s id form now y (Err e) is may allowed why shown =
+    served s s now y (shows_id id form) (λ p. document_of_id id form (history p)) (λ p q so. so) (λ p stands. stands) (Err e) tt tt (λ other p stands. ap (unless (doc_of_id id form (history p))) (why other p stands) ∙ refused_of (doc_of_id id form (history p)) e) shown
+  where
+    refused_of : (k : Option DocKey) (e : Fault) → unless k (Some e) ≡ Err e
+    refused_of None e = refl
+    refused_of (Some k) e = refl

@@ -1,0 +1,86 @@
+-- Replies to requests (Eureka's REST operations), by what has happened before and happens after.
+use Rattle.std.specs.Prelude.{◌≡◌, ◌⊎◌, ℕ, Bool, true, List, Option, Some, None, Result, Ok, Err}
+use Rattle.std.specs.Arc.{arc_value}
+use Rattle.disco_instance.specs.declared.fault.Fault.{Fault}
+use Rattle.disco_instance.specs.declared.fault.Fault.TheVariants.{NotFound}
+use Rattle.disco_instance.specs.declared.form.Form.{Form}
+use Rattle.disco_history.specs.Change.{Entry}
+use Rattle.disco_registry.specs.Accept.{accept_after}
+use Rattle.disco_registry.specs.Op.{Ask, register}
+use Rattle.disco_cache.specs.declared.key.DocKey.{DocKey}
+use Rattle.disco_cache.specs.declared.payload.Payload.{Payload}
+use Rattle.disco_core.specs.Past.{Past, history, with_done}
+use Rattle.disco_core.specs.Refusals.{doc_of_id, doc_of_key, refusal_of, refusal_of_id}
+use Rattle.disco_core.specs.State.{Rules}
+use Rattle.disco_hub.specs.State.{MayServe, StandsFor, State, rules_of}
+use Rattle.disco_message.specs.ReplyText.{Answer}
+use Rattle.disco_message.specs.StatusLine.{refusal}
+use Rattle.disco_message.specs.declared.status_line.Allow.{Allow}
+use Rattle.disco_message.specs.declared.status_line.StatusLine.{StatusLine}
+use Rattle.disco_message.specs.declared.status_line.StatusLine.TheVariants.{Success, NoContent, MethodNotAllowed, ServiceUnavailable}
+use Rattle.disco_calls.specs.Calls.{Asks, loads, shows, shows_id, writes, lacks}
+use Rattle.disco_answers.specs.declared.shared.Shared.{Shared}
+
+-- the bytes of a document that is answered
+abbrev pub text_in : Shared → List ℕ
+text_in s = (arc_value s.payload).text
+
+-- a status alone
+abbrev pub plain : StatusLine → Answer
+plain status = record { status = status; allow = None; document = None }
+
+abbrev pub refused : Fault → Answer
+refused fault = plain (refusal fault)
+
+-- the path has these methods
+abbrev pub lacking : Allow → Answer
+lacking allow = record { status = MethodNotAllowed; allow = Some allow; document = None }
+
+-- a document
+abbrev pub with_document : List ℕ → Answer
+with_document text = record { status = Success; allow = None; document = Some text }
+
+-- a registration has no content, each other operation that is accepted is a success
+abbrev pub success_of : Ask → StatusLine
+success_of (register r) = NoContent
+success_of _ = Success
+
+-- the document of a key, unless there is a cause against it
+abbrev pub unless : Option DocKey → Option Fault → Result DocKey Fault
+unless key (Some fault) = Err fault
+unless (Some key) None = Ok key
+unless None None = Err NotFound
+
+-- the document that is asked for after a history, or why it isn't served, where deltas are on or off
+abbrev pub document_of_id : List ℕ → Form → List Entry → Result DocKey Fault
+document_of_id id form h = unless (doc_of_id id form h) (refusal_of_id id h)
+
+abbrev pub document_of : Bool → DocKey → List Entry → Result DocKey Fault
+document_of on key h = unless (Some key) (refusal_of on key.query h)
+
+-- the document may be served, or the cause against it is told
+abbrev pub Shows : Past → Result DocKey Fault → Answer → Type 0
+Shows p (Err fault) y = y ≡ refused fault
+Shows p (Ok key) y = (d : Payload) × (d.key ≡ key) × MayServe d p × (y ≡ with_document d.text)
+
+-- an operation that is accepted has happened afterwards, one that isn't is refused
+abbrev pub Does : Rules → Past → Ask → ℕ → Result (Option Entry) Fault → Answer → Past → Type 0
+Does rules p ask now (Err fault) y q = (y ≡ refused fault) × (q ≡ p)
+Does rules p ask now (Ok change) y q = (y ≡ plain (success_of ask)) × (q ≡ with_done rules.queue p now ask change)
+
+-- the reply at a moment to what is asked for, where one thing has happened before and another after
+abbrev pub Replies : Rules → Past → Result Asks Fault → ℕ → Answer → Past → Type 0
+Replies rules p (Err fault) now y q = (y ≡ refused fault) × (q ≡ p)
+Replies rules p (Ok (lacks allow)) now y q = (y ≡ lacking allow) × (q ≡ p)
+Replies rules p (Ok (loads key)) now y q = Shows p (document_of rules.delta key (history p)) y × (q ≡ p)
+Replies rules p (Ok (shows key form)) now y q = Shows p (document_of true (doc_of_key key form) (history p)) y × (q ≡ p)
+Replies rules p (Ok (shows_id id form)) now y q = Shows p (document_of_id id form (history p)) y × (q ≡ p)
+Replies rules p (Ok (writes ask)) now y q = Does rules p ask now (accept_after rules.limits (history p) ask now) y q
+
+-- memory may always be refused, and then nothing has happened
+abbrev pub IsReply : Rules → Past → Result Asks Fault → ℕ → Answer → Past → Type 0
+IsReply rules p asked now y q = Replies rules p asked now y q ⊎ ((y ≡ plain ServiceUnavailable) × (q ≡ p))
+
+-- whatever has happened to a hub before, this is a reply to it, and the hub stands for what has happened after
+abbrev pub IsAnswered : State → State → Result Asks Fault → ℕ → Answer → Type 0
+IsAnswered old new asked now y = (p : Past) → StandsFor old p → (q : Past) × IsReply (rules_of old) p asked now y q × StandsFor new q

@@ -1,0 +1,76 @@
+//! Replies by what was done.
+ghost use Rattle.std.specs.Prelude.{◌≡◌, MatchResult};
+ghost use Rattle.disco_registry.specs.Op.{ask_of};
+ghost use Rattle.disco_message.specs.ReplyText.{answer_of};
+ghost use Rattle.disco_answers.specs.Replies.{lacking, plain, refused, success_of, text_in, with_document};
+
+use crate::shared::Shared;
+use disco_cache::Payload;
+use disco_instance::Fault;
+use disco_message::{Allow, Reply, StatusLine, refusal};
+use disco_registry::{Applied, Op};
+use std::alloc::Global;
+use std::sync::Arc;
+
+/// The reply of a status alone.
+fn plain(status: StatusLine) -> Reply<Shared>
+    ensures { answer_of text_in result ≡ plain status }
+{
+    Reply {
+        status,
+        allow: None,
+        document: None,
+    }
+}
+
+/// The reply to what is refused.
+pub(crate) fn refused(fault: Fault) -> Reply<Shared>
+    ensures { answer_of text_in result ≡ refused fault }
+{
+    plain(refusal(fault))
+}
+
+/// The reply where a path has other methods.
+pub(crate) fn lacking(allow: Allow) -> Reply<Shared>
+    ensures { answer_of text_in result ≡ lacking allow }
+{
+    Reply {
+        status: StatusLine::MethodNotAllowed,
+        allow: Some(allow),
+        document: None,
+    }
+}
+
+/// The reply to the load of a document.
+pub(crate) fn showing(loaded: Result<Arc<Payload, Global>, Fault>) -> Reply<Shared>
+    ensures { MatchResult loaded (λ d. answer_of text_in result ≡ with_document d.value.text) (λ e. answer_of text_in result ≡ refused e) }
+{
+    match loaded {
+        Ok(payload) => Reply {
+            status: StatusLine::Success,
+            allow: None,
+            document: Some(Shared { payload }),
+        },
+        Err(fault) => refused(fault),
+    }
+}
+
+/// The status of an operation that was accepted.
+pub(crate) fn success_of(op: &Op) -> StatusLine
+    ensures { result ≡ success_of (ask_of op.now) }
+{
+    match op {
+        Op::Register(_) => StatusLine::NoContent,
+        _ => StatusLine::Success,
+    }
+}
+
+/// The reply to an operation, which has this status where it was accepted.
+pub(crate) fn wrote(applied: Result<Applied, Fault>, success: StatusLine) -> Reply<Shared>
+    ensures { MatchResult applied (λ _. answer_of text_in result ≡ plain success) (λ e. answer_of text_in result ≡ refused e) }
+{
+    match applied {
+        Ok(_) => plain(success),
+        Err(fault) => refused(fault),
+    }
+}

@@ -1,0 +1,23 @@
+//! Documents that are answered.
+ghost use Rattle.std.specs.Prelude.{◌≡◌};
+
+use disco_cache::Payload;
+use disco_message::Document;
+use std::alloc::Global;
+use std::sync::Arc;
+
+/// A document that readers share: no byte of it is copied.
+#[derive(Debug, Drop)]
+pub struct Shared {
+    pub payload: Arc<Payload, Global>,
+}
+
+impl Document for Shared {
+    ghost use Rattle.disco_answers.specs.Replies.{text_in};
+
+    ghost content = { text_in };
+
+    fn bytes(&self) -> &[u8] {
+        self.payload.text.as_slice()
+    }
+}
