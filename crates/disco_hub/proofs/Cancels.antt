@@ -22,7 +22,7 @@ pub record Did (old new : State) (now : ℕ) (ks : List Key) (gone : ℕ) : Type
   pub accepted : (p : Past) → StandsFor old p → (i : ℕ) (k : Key) → i < gone → slice_get ks i ≡ Some k → IsOk (cancel_of (rules_of old) (cancelled (rules_of old) p now ks i) now k)
   pub rules : rules_of new ≡ rules_of old
 
-none_yet : (rules : Rules) (p : Past) (now : ℕ) (ks : List Key) → p ≡ cancelled rules p now ks 0
+pub none_yet : (rules : Rules) (p : Past) (now : ℕ) (ks : List Key) → p ≡ cancelled rules p now ks 0
 unfolding cancelled
 none_yet rules p now ks = refl
 
@@ -59,10 +59,10 @@ module _ (old mid new : State) (now : ℕ) (ks : List Key) (i : ℕ) (k : Key) (
   abbrev so_far : Past → Past
   so_far p = cancelled (rules_of old) p now ks i
 
-  says : (p : Past) (r : Result (Option Entry) Fault) → cancel_of (rules_of mid) (so_far p) now k ≡ r → cancel_of (rules_of old) (so_far p) now k ≡ r
+  pub says : (p : Past) (r : Result (Option Entry) Fault) → cancel_of (rules_of mid) (so_far p) now k ≡ r → cancel_of (rules_of old) (so_far p) now k ≡ r
   says p r is = ap (λ l. cancel_of l (so_far p) now k) (sym did.rules) ∙ is
 
-  left : (p : Past) (c : Option Entry) → cancel_of (rules_of old) (so_far p) now k ≡ Ok c → after_cancel (rules_of mid).queue (so_far p) now k (Ok c) ≡ cancelled (rules_of old) p now ks (i + 1)
+  pub left : (p : Past) (c : Option Entry) → cancel_of (rules_of old) (so_far p) now k ≡ Ok c → after_cancel (rules_of mid).queue (so_far p) now k (Ok c) ≡ cancelled (rules_of old) p now ks (i + 1)
   left p c is =
       ap (λ (l : Rules). after_cancel l.queue (so_far p) now k (Ok c)) did.rules
       ∙ ap (after_cancel (rules_of old).queue (so_far p) now k) (sym is)
@@ -121,7 +121,7 @@ with_list old new now ls ks gone stopped same expires = λ p stands.
 
 -- ---- one cancel
 
-at_history : (s : State) (p : Past) (k : Key) (now : ℕ) → StandsFor s p → accepts s.core.registry (cancel k) now ≡ cancel_of (rules_of s) p now k
+pub at_history : (s : State) (p : Past) (k : Key) (now : ℕ) → StandsFor s p → accepts s.core.registry (cancel k) now ≡ cancel_of (rules_of s) p now k
 at_history s p k now stands = accepts_after s.core.registry (history p) stands.core.registry (cancel k) now
 
 one_gone : (old new : State) (now : ℕ) (k key : Key) (c : Option Entry) → key ≡ k → accepts old.core.registry (cancel key) now ≡ Ok c → ((p : Past) → StandsFor old p → StandsFor new (with_done (rules_of old).queue p now (cancel key) c)) → Cancels old new now k

@@ -1,7 +1,8 @@
-mod Cancels
+pub mod Cancels
 mod Documents
 pub mod InStep
 pub mod KeySets
+pub mod Levels
 mod NewKeys
 pub mod Notes
 pub mod Shown

@@ -12,20 +12,7 @@ use Rattle.disco_cache.specs.declared.key.DocKey.{DocKey}
 use Rattle.disco_cache.specs.declared.payload.Payload.{Payload}
 use Rattle.disco_cache.proofs.Orders.{docs_total, exact_docs}
 use Rattle.disco_hub.specs.Press.{Edition, IsLegal, IsPublishable, Note, begin, change, changes_in, copied_in, doc, edit_anew, edition_of, gone}
-
-abbrev pub is_begin : Note → Bool
-is_begin begin = true
-is_begin (change c) = false
-is_begin (doc d) = false
-is_begin (gone k) = false
-
--- the document of the key stands there, and no round begins behind it
-pub record StandsIn (l : List Note) (k : DocKey) (d : Payload) : Type 0 where
-  pub before : List Note
-  pub after : List Note
-  pub there : l ≡ before ++ doc d ∷ after
-  pub key : d.key ≡ k
-  pub last : list_any is_begin after ≡ false
+use Rattle.disco_hub.specs.Shown.{StandsIn, is_begin}
 
 -- what a map that these notes went into has at a key was there and no round began, or it is one of them
 data Found (m : Edition) (l : List Note) (k : DocKey) (d : Payload) : Type 0 where

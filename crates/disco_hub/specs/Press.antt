@@ -11,6 +11,8 @@ use Rattle.disco_cache.specs.Payloads.{IsTrue}
 use Rattle.disco_cache.specs.declared.key.DocKey.{DocKey}
 use Rattle.disco_cache.specs.declared.payload.Payload.{Payload}
 use Rattle.disco_hub.specs.Rounds.{KeySet, Round}
+use Rattle.disco_hub.specs.declared.copied.Copied.{Copied}
+use Rattle.disco_hub.specs.declared.copied.Copied.TheVariants as copied
 
 -- a round begins; the registry changes; a document is copied; a key is copied of which there is none
 pub data Note : Type 0 where
@@ -18,6 +20,11 @@ pub data Note : Type 0 where
   change : Entry → Note
   doc : Payload → Note
   gone : DocKey → Note
+
+-- what is noted when a key was copied
+abbrev pub note_of : Copied → Note
+note_of (copied.Doc d) = doc d.value
+note_of (copied.Drop k) = gone k
 
 -- the changes of a list
 abbrev pub noted : List Entry → Note → List Entry
@@ -82,3 +89,10 @@ pub record IsInStep (published pending : List Note) (edition : KeySet) (round : 
   pub keys : (k : DocKey) → contains_key edition k ≡ contains_key (edition_of published) k
   pub steps : flat_map step pending ≡ steps_to round
   pub covers : IfSome round (λ r. (k : DocKey) → contains_key edition k ≡ true → is_in r k ≡ true)
+
+-- what was noted is legal and has these changes, what was published may be seen by readers, and all is in step with the keys of an edition and with a round
+pub record IsPressed (published pending : List Note) (h : List Entry) (edition : KeySet) (round : Option Round) : Type 0 where
+  pub changes : changes_in (published ++ pending) ≡ h
+  pub legal : IsLegal (published ++ pending)
+  pub publishable : IsPublishable published
+  pub in_step : IsInStep published pending edition round

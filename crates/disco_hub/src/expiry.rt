@@ -63,7 +63,7 @@ fn cancel_all(hub: &mut Hub, keys: &[Key], now: u64) -> Expired
 }
 
 /// The keys that a run at a moment takes, of which the hub's leases are not the owner.
-fn taken(alloc: Global, hub: &Hub, now: u64) -> Result<Vec<Key>, Fault>
+pub(crate) fn taken(alloc: Global, hub: &Hub, now: u64) -> Result<Vec<Key>, Fault>
     ensures keys { IfOk result (λ v. (p : Past) → StandsFor hub.now p → v.items ≡ taken_in p now) }
     ensures refused { OnErr result ((p : Past) → StandsFor hub.now p → 0 < length (taken_in p now)) }
     ensures memory { IfErr result (λ e. e ≡ OutOfMemory) }

@@ -17,7 +17,7 @@ ghost use Rattle.disco_hub.specs.Rounds.{Advances, Begins, Ends, StaysOpen, roun
 ghost use Rattle.disco_hub.specs.State.{IsCopied, IsSameHub, MayServe, StandsFor, is_doc, rules_of};
 
 use crate::copied::Copied;
-use crate::expiry::{Expired, expire};
+use crate::expiry::{Expired, expire, taken};
 use crate::keeping::{forget, keep};
 use crate::rounds::Rounds;
 use disco_cache::{DocCache, DocKey, Payload};
@@ -160,6 +160,15 @@ impl Hub {
         ensures refused { OnErr result ((p : Past) → StandsFor self.now p → 0 < length (taken_in p now)) }
     {
         self.core.due(now)
+    }
+
+    /// The keys that [`Hub::due`] gives, as keys of their own.
+    pub fn taken(&self, now: u64) -> Result<Vec<Key>, Fault>
+        ensures keys { IfOk result (λ found. (p : Past) → StandsFor self.now p → found.items ≡ taken_in p now) }
+        ensures memory { IfErr result (λ e. e ≡ OutOfMemory) }
+        ensures refused { OnErr result ((p : Past) → StandsFor self.now p → 0 < length (taken_in p now)) }
+    {
+        taken(self.alloc, self, now)
     }
 
     /// Cancels at a moment in milliseconds, one by one, the instances that [`Hub::due`] gives when it

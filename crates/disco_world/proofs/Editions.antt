@@ -20,7 +20,7 @@ use Rattle.disco_world.specs.Answers.{AreAnswers, IsAnswer}
 use Rattle.disco_world.specs.Events.{Deed, World, writes, loads, cleans, closes, expires, begins, copies, publishes, looks, takes, shows, bad, after, after_at, changes_since, deed, past_after, press_done, world}
 use Rattle.disco_world.specs.Rounds.{Press, all_of}
 use Rattle.disco_world.specs.declared.event.Event.{Event}
-use Rattle.disco_world.proofs.Turning.{copied_changes}
+use Rattle.disco_hub.proofs.Levels.{copied_changes}
 use Rattle.disco_world.specs.declared.event.Reply.{Reply}
 use Rattle.disco_world.specs.declared.event.Reply.TheVariants.{Changed, Same, Doc, Cleaned, Closed, Expired, Begun, Copied, Done, Published, Missed, Taken, Held, Refused}
 

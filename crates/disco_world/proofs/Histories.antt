@@ -1,15 +1,15 @@
 -- Runs of events, one event on.
-use Rattle.std.proofs.Common.{◌≡◌, ℕ, zero, suc, ◌+◌, ◌<◌, ◌≤◌, List, [], ◌∷◌, ◌++◌, length, get_or, Option, Some, None, IfSome, Result, slice_get, refl, sym, ap, subst, ◌∙◌, arith, length-append, add-one}
+use Rattle.std.proofs.Common.{◌≡◌, ℕ, zero, suc, ◌+◌, ◌<◌, ◌≤◌, List, [], ◌∷◌, ◌++◌, length, get_or, Option, Some, None, Result, option_map, slice_get, refl, sym, ap, subst, ◌∙◌, arith, length-append, add-one}
 use Rattle.std.specs.declared.alloc.Global.{Global}
 use Rattle.std.specs.declared.sync.Arc.{Arc}
 use Rattle.std.proofs.lemmas.Option.{slice_get-get_or, same_Some}
 use Rattle.disco_cache.specs.declared.payload.Payload.{Payload}
 use Rattle.disco_core.specs.State.{Rules}
 use Rattle.disco_core.specs.Past.{history, nothing}
-use Rattle.disco_hub.specs.Press.{IsPublishable, Note, copied_in}
+use Rattle.disco_hub.specs.Press.{IsPublishable}
 use Rattle.disco_hub.specs.Rounds.{KeySet, Round, Rounds}
 use Rattle.disco_hub.specs.State.{MayServe, StandsFor, rules_of}
-use Rattle.disco_hub.proofs.InStep.{nothing_noted}
+use Rattle.disco_hub.proofs.Levels.{first_levels, first_pressed}
 use Rattle.disco_world.specs.Rounds.{new_press}
 use Rattle.std.specs.FinMap.{empty}
 use Rattle.disco_world.specs.Answers.{AreAnswers, AreServed, IsAnswer, IsFirstBadEvent, IsPressed, IsServed, key_asked}
@@ -128,7 +128,7 @@ module _ (rules : Rules) (es : List Event) (rs : List Reply) (i : ℕ) (e : Even
       subst (λ (w : World). (edition : KeySet) × (round : Option Round) × IsPressed w.press (history w.past) edition round) (sym (same_front k (omega (arith, lt, count)))) (so_far k (omega (arith, lt)))
   pressed_at new levels so_far k le (at is) =
       subst (λ n. IsPressedAt rules es (rs ++ r ∷ []) n) (sym is)
-      (subst (λ (w : World). (edition : KeySet) × (round : Option Round) × IsPressed w.press (history w.past) edition round) (sym world_next) (new.hub.rounds.edition, new.hub.rounds.round, levels.pressed))
+      (subst (λ (w : World). (edition : KeySet) × (round : Option Round) × IsPressed w.press (history w.past) edition round) (sym world_next) (new.hub.rounds.edition, new.hub.rounds.round, record { pressed = levels.levels.pressed; keys = levels.keys }))
   pressed_at new levels so_far k le (beyond lt) = absurd (omega (arith, le, lt))
 
   pub run_more : (old new : Levels) (held now : ℕ → Option Client) → IsRun rules es rs i old held
@@ -217,24 +217,16 @@ no_answers rules es rs none = λ i event reply ev is. absurd (let bad = ap (λ x
 
 -- ---- nothing has happened yet
 
-pressed_first : IsPressed new_press [] empty None
-pressed_first = record { changes = refl; legal = λ before n after is. absurd (nothing_before before n after is); publishable = refl; in_step = nothing_noted; keys = refl }
-  where
-    nothing_before : (before : List Note) (n : Note) (after : List Note) → [] ≡ before ++ n ∷ after → ⊥
-    nothing_before [] n after is = absurd (cc)
-    nothing_before (x ∷ before) n after is = absurd (cc)
-
 pub new_levels : (s : Levels) → StandsFor s.hub nothing → s.hub.rounds ≡ record { edition = empty; round = None } → s.published ≡ empty → AreLevelsOf s new_world
 new_levels s stands rounds published = record {
-  stands = stands;
-  pressed = subst (λ (r : Rounds). IsPressed new_press [] r.edition r.round) (sym rounds) pressed_first;
+  levels = first_levels s.hub s.next stands rounds;
+  keys = ap (λ (r : Rounds). option_map (λ (x : Round). length x.left) r.round) (sym rounds);
   published = published;
-  next = subst (λ (r : Rounds). IfSome r.round (λ _. s.next ≡ copied_in [])) (sym rounds) tt;
 }
 
 pub new_pressed : (rules : Rules) (es : List Event) (rs : List Reply) (k : ℕ) → k ≤ 0 → IsPressedAt rules es rs k
 unfolding world
-new_pressed rules es rs zero le = (empty, None, pressed_first)
+new_pressed rules es rs zero le = (empty, None, record { pressed = first_pressed; keys = refl })
 new_pressed rules es rs (suc k) le = absurd (omega (arith, le))
 
 -- ---- past the last reply nothing happens
@@ -267,6 +259,6 @@ pub always_fresh : (rules : Rules) (es : List Event) (rs : List Reply) → ((k :
 always_fresh rules es rs pressed i = one (place_of i (length rs))
   where
     one : Place i (length rs) → ShowsFresh rules es rs i
-    one (below lt) = (pressed i (omega (arith, lt))).2.publishable
-    one (at is) = (pressed i (omega (arith, is))).2.publishable
-    one (beyond lt) = subst (λ (w : World). IsPublishable w.press.published) (sym (world_end rules es rs i (omega (arith, lt)))) (pressed (length rs) (omega arith)).2.publishable
+    one (below lt) = (pressed i (omega (arith, lt))).2.pressed.publishable
+    one (at is) = (pressed i (omega (arith, is))).2.pressed.publishable
+    one (beyond lt) = subst (λ (w : World). IsPublishable w.press.published) (sym (world_end rules es rs i (omega (arith, lt)))) (pressed (length rs) (omega arith)).2.pressed.publishable

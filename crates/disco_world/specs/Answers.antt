@@ -9,7 +9,8 @@ use Rattle.disco_history.specs.Change.{Entry}
 use Rattle.disco_hub.specs.Expiry.{IsExpired}
 use Rattle.disco_core.specs.Past.{cleaned, history, minute_closed, taken_in}
 use Rattle.disco_core.specs.State.{Rules}
-use Rattle.disco_hub.specs.Press.{IsInStep, IsLegal, IsPublishable, changes_in, edition_of}
+use Rattle.disco_hub.specs.Press as press
+use Rattle.disco_hub.specs.Press.{edition_of}
 use Rattle.disco_hub.specs.Rounds.{KeySet, Round}
 use Rattle.disco_hub.specs.State.{IsCopied, MayServe, key_of_copy}
 use Rattle.disco_cache.specs.declared.key.DocKey.{DocKey}
@@ -77,12 +78,9 @@ abbrev pub AreServed : Rules → List Event → List Reply → Type 0
 AreServed rules events replies = (i : ℕ) (event : Event) (d : Arc Payload Global) → slice_get events i ≡ Some event → slice_get replies i ≡ Some (Doc d)
     → IsServed rules events replies i (deed rules (world rules events replies i) event) d.value
 
--- what was noted is legal and has these changes, what readers see may be published, and all is in step with the keys of an edition and with a round, of which as many keys are left
+-- what was noted is as it has to be, and as many keys are left of the round as there have to be
 pub record IsPressed (s : Press) (h : List Entry) (edition : KeySet) (round : Option Round) : Type 0 where
-  pub changes : changes_in (all_of s) ≡ h
-  pub legal : IsLegal (all_of s)
-  pub publishable : IsPublishable s.published
-  pub in_step : IsInStep s.published s.pending edition round
+  pub pressed : press.IsPressed s.published s.pending h edition round
   pub keys : left_in s ≡ option_map (λ r. length r.left) round
 
 -- it is so after any number of events

@@ -17,7 +17,7 @@ use Rattle.disco_wire.specs.Registration.{registration_of}
 use Rattle.disco_cache.specs.declared.key.DocKey.{DocKey}
 use Rattle.disco_hub.specs.Expiry.{cancelled}
 use Rattle.disco_hub.specs.Press as press
-use Rattle.disco_hub.specs.declared.copied.Copied.TheVariants as copied
+use Rattle.disco_hub.specs.Press.{note_of}
 use Rattle.disco_core.specs.Past.{Past, cleaned, history, minute_closed, nothing, taken_in, with_done}
 use Rattle.disco_core.specs.Refusals.{doc_of_key, refusal_of}
 use Rattle.disco_core.specs.State.{Rules}
@@ -164,8 +164,7 @@ changes_since p q = drop (length (history p)) (history q)
 -- what was noted after the deed of the event of that number, which made these changes, and its answer
 abbrev pub press_done : Press → List Entry → ℕ → Deed → Reply → Press
 press_done s cs i begins (Begun n) = record s { pending = s.pending ++ press.begin ∷ []; keys = n; begun = i }
-press_done s cs i copies (Copied (copied.Doc d)) = record s { pending = s.pending ++ press.doc d.value ∷ [] }
-press_done s cs i copies (Copied (copied.Drop k)) = record s { pending = s.pending ++ press.gone k ∷ [] }
+press_done s cs i copies (Copied c) = record s { pending = s.pending ++ note_of c ∷ [] }
 press_done s cs i publishes (Published n) = record s { published = all_of s; pending = []; floor = s.begun }
 press_done s cs i _ _ = record s { pending = s.pending ++ map press.change cs }
 

@@ -1,35 +1,30 @@
 -- What private contracts say of the two levels of documents. Nothing here is to be believed: the clauses of `run` don't cite it.
-use Rattle.std.specs.Prelude.{◌≡◌, ◌≢◌, [], Some, None, IfSome, slice_get}
-use Rattle.std.specs.FinMap.{get, insert, remove}
+use Rattle.std.specs.Prelude.{◌≡◌, ◌≢◌, [], length, Some, None, IfSome, option_map, slice_get}
+use Rattle.std.specs.FinMap.{get}
 use Rattle.disco_instance.specs.declared.fault.Fault.TheVariants.{OutOfMemory}
 use Rattle.disco_cache.specs.declared.key.DocKey.{DocKey}
-use Rattle.disco_core.specs.Past.{Past, history}
-use Rattle.disco_hub.specs.Press.{Edition, copied_in, edition_of}
+use Rattle.disco_core.specs.Past.{Past}
+use Rattle.disco_hub.specs.Levels.{AreLevels, put_copy}
+use Rattle.disco_hub.specs.Press.{Edition, edition_of}
 use Rattle.disco_hub.specs.Rounds.{Advances}
 use Rattle.disco_hub.specs.State.{IsCopied, StandsFor, is_doc, rules_of}
 use Rattle.disco_hub.specs.declared.copied.Copied.{Copied}
-use Rattle.disco_hub.specs.declared.copied.Copied.TheVariants as copied
-use Rattle.disco_world.specs.Answers.{IsAnswer, IsPressed}
+use Rattle.disco_world.specs.Answers.{IsAnswer}
 use Rattle.disco_world.specs.Events.{Deed, World, after, query_asked}
-use Rattle.disco_world.specs.Rounds.{all_of}
+use Rattle.disco_world.specs.Rounds.{left_in}
 use Rattle.disco_world.specs.declared.event.Reply.{Reply}
 use Rattle.disco_world.specs.declared.event.Reply.TheVariants.{Doc, Missed, Refused}
 use Rattle.disco_world.specs.declared.levels.Levels.{Levels}
 
 -- the levels are those of what has happened
 pub record AreLevelsOf (s : Levels) (w : World) : Type 0 where
-  pub stands : StandsFor s.hub w.past
-  pub pressed : IsPressed w.press (history w.past) s.hub.rounds.edition s.hub.rounds.round
+  pub levels : AreLevels s.hub s.next w.press.published w.press.pending w.past
+  pub keys : left_in w.press ≡ option_map (λ r. length r.left) s.hub.rounds.round
   pub published : s.published ≡ edition_of w.press.published
-  pub next : IfSome s.hub.rounds.round (λ r. s.next ≡ copied_in (all_of w.press))
 
 -- they answer a deed, and are then those of what has happened with it
 abbrev pub Turns : Levels → Levels → (World → Deed) → Reply → Type 0
 Turns old new what reply = (w : World) → AreLevelsOf old w → IsAnswer (rules_of old.hub) w (what w) reply × AreLevelsOf new (after (rules_of old.hub) w (what w) reply)
-
-abbrev pub put_copy : Edition → Copied → Edition
-put_copy m (copied.Doc d) = insert m d.value.key d.value
-put_copy m (copied.Drop k) = remove m k
 
 -- the first key that was left was copied so, and put in or taken out
 pub record Copies (old new : Levels) (c : Copied) : Type 0 where

@@ -1,9 +1,10 @@
 //! Rounds of a publisher, and looks of readers.
 ghost use Rattle.std.specs.Prelude.{◌≡◌, ◌≢◌, IfErr, IfNone, IfOk, IfSome, None, OnErr, OnOk};
 ghost use Rattle.disco_instance.specs.declared.fault.Fault.TheVariants.{NoRound, OutOfMemory};
+ghost use Rattle.disco_hub.specs.Levels.{put_copy};
 ghost use Rattle.disco_hub.specs.State.{rules_of};
 ghost use Rattle.disco_world.specs.Events.{begins, copies, publishes};
-ghost use Rattle.disco_world.specs.Levels.{Copies, HasNoneLeft, Looks, Turns, key_looked, put_copy};
+ghost use Rattle.disco_world.specs.Levels.{Copies, HasNoneLeft, Looks, Turns, key_looked};
 
 use crate::event::Reply;
 use crate::levels::Levels;

@@ -1,5 +1,5 @@
 use Rattle.std.proofs.Common.{refl}
-use Rattle.disco_world.proofs.Turning.{no_key}
+use Rattle.disco_hub.proofs.Levels.{no_key}
 use Rattle.disco_world.proofs.rounds.copy_next.Goals as goal
 
 pub returns-in_default-clause-none : goal.returns-in_default-clause-none

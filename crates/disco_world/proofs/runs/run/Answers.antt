@@ -28,7 +28,7 @@ loop-event-init c = record {
 pub answer-requires : goal.answer-requires
 answer-requires c =
     let run = c.loop-event.invariant in
-    let readable : AreReadable c.loop-event.replies.items = subst AreReadable run.replies (all_readable _ (holds_at (rules c.args.settings.now) c.args.events.now c.loop-event.replies.items run.answers c.loop-event.event-index (λ j le. (run.pressed j le).2.publishable))) in
+    let readable : AreReadable c.loop-event.replies.items = subst AreReadable run.replies (all_readable _ (holds_at (rules c.args.settings.now) c.args.events.now c.loop-event.replies.items run.answers c.loop-event.event-index (λ j le. (run.pressed j le).2.pressed.publishable))) in
     record { readable = subst AreReadable (sym c.as_slice.ensures.value) readable }
 
 pub returns-in_default-clause-refused : goal.returns-in_default-clause-refused
@@ -57,7 +57,7 @@ returns-clause-pressed c = λ i le. c.loop-event.invariant.pressed i (omega (ari
 pub returns-clause-served : goal.returns-clause-served
 returns-clause-served c =
     let run = c.loop-event.invariant in
-    served (rules c.args.settings.now) c.args.events.now c.loop-event.replies.items run.answers (λ i le. (run.pressed i (omega (arith, le, run.count))).2.publishable)
+    served (rules c.args.settings.now) c.args.events.now c.loop-event.replies.items run.answers (λ i le. (run.pressed i (omega (arith, le, run.count))).2.pressed.publishable)
 
 pub returns-clause-known : goal.returns-clause-known
 returns-clause-known c =
