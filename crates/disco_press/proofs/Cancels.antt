@@ -1,0 +1,73 @@
+-- One cancel after another, each noted.
+use Rattle.std.proofs.Common.{◌≡◌, ℕ, ◌+◌, List, [], ◌∷◌, ◌++◌, length, map, Some, None, Result, Ok, Err, IfOk, IfErr, OnErr, OnOk, slice_get, refl, sym, ap, subst, ◌∙◌, append-nil, append_assoc}
+use Rattle.std.proofs.lemmas.List.{map-append}
+use Rattle.disco_instance.specs.declared.fault.Fault.{Fault}
+use Rattle.disco_instance.specs.declared.key.Key.{Key}
+use Rattle.disco_history.specs.Change.{Entry}
+use Rattle.disco_registry.specs.Accept.{accepts}
+use Rattle.disco_registry.specs.Commit.{done_by}
+use Rattle.disco_registry.specs.Op.{cancel}
+use Rattle.disco_registry.specs.declared.op.Applied.{Applied}
+use Rattle.disco_core.specs.Past.{Past, history, with_done}
+use Rattle.disco_hub.specs.Expiry.{cancelled}
+use Rattle.disco_hub.specs.Press.{Note, change}
+use Rattle.disco_hub.specs.State.{State, StandsFor, rules_of}
+use Rattle.disco_hub.specs.Steps.{Cancels}
+use Rattle.disco_hub.proofs.Cancels.{Did, at_history, left, says}
+use Rattle.disco_press.specs.Desks.{DeskState, Notes, NotesCancels, NotesNothing, note_done}
+use Rattle.disco_press.specs.Steps.{CancelsOne}
+use Rattle.disco_press.proofs.Keeping.{changes_done, history_done, noted_is}
+
+-- ---- one cancel
+
+one_gone : (old new : DeskState) (now : ℕ) (k key : Key) (a : Applied) → key ≡ k → accepts old.hub.core.registry (cancel key) now ≡ Ok (done_by a)
+    → ((p : Past) → StandsFor old.hub p → StandsFor new.hub (with_done (rules_of old.hub).queue p now (cancel key) (done_by a))) → Notes (note_done (done_by a)) old new → CancelsOne old new now k
+one_gone old new now k key a same done stands noted = subst (λ (x : Key). CancelsOne old new now x) same (record {
+  change = done_by a;
+  noted = noted;
+  accepted = λ p s. sym (at_history old.hub p key now s) ∙ done;
+  stands = stands;
+})
+
+pub all_done : (old new : DeskState) (now : ℕ) (k key : Key) (r : Result Applied Fault) → key ≡ k → IfOk r (λ a. accepts old.hub.core.registry (cancel key) now ≡ Ok (done_by a))
+    → IfOk r (λ a. (p : Past) → StandsFor old.hub p → StandsFor new.hub (with_done (rules_of old.hub).queue p now (cancel key) (done_by a))) → IfOk r (λ a. Notes (note_done (done_by a)) old new) → OnOk r (CancelsOne old new now k)
+all_done old new now k key (Ok a) same done stands noted = one_gone old new now k key a same done stands noted
+all_done old new now k key (Err e) same done stands noted = tt
+
+pub cancels : (old new : DeskState) (now : ℕ) (k : Key) → CancelsOne old new now k → Cancels old.hub new.hub now k
+cancels old new now k one = λ p stands. (one.change, one.accepted p stands, one.stands p stands)
+
+-- ---- the notes of many
+
+pub noted_nothing : (d : DeskState) (then : Past → Past) → ((p : Past) → StandsFor d.hub p → then p ≡ p) → NotesCancels d d then
+noted_nothing d then same = record {
+  changes = [];
+  noted = (refl, sym (append-nil d.pending));
+  cancels = λ p stands. ap history (same p stands) ∙ sym (append-nil (history p));
+}
+
+module _ (old mid new : DeskState) (now : ℕ) (ks : List Key) (i : ℕ) (k : Key) (there : slice_get ks i ≡ Some k) (did : Did old.hub mid.hub now ks i) (so_far : NotesCancels old mid (λ p. cancelled (rules_of old.hub) p now ks i)) where
+  pub noted_more : CancelsOne mid new now k → NotesCancels old new (λ p. cancelled (rules_of old.hub) p now ks (i + 1))
+  noted_more one = record {
+    changes = so_far.changes ++ changes_done one.change;
+    noted = (
+      one.noted.0 ∙ so_far.noted.0,
+      one.noted.1 ∙ (λ j. so_far.noted.1 j ++ sym (noted_is one.change) j) ∙ append_assoc old.pending (map change so_far.changes) (map change (changes_done one.change))
+          ∙ ap (λ ns. old.pending ++ ns) (sym (map-append change so_far.changes (changes_done one.change))),
+    );
+    cancels = λ p stands.
+        let q = cancelled (rules_of old.hub) p now ks i in
+        let accepted = says old.hub mid.hub new.hub now ks i k there did p (Ok one.change) (one.accepted q (did.stands p stands)) in
+        ap history (sym (left old.hub mid.hub new.hub now ks i k there did p one.change accepted))
+        ∙ history_done (rules_of mid.hub).queue q now (cancel k) one.change
+        ∙ ap (λ h. h ++ changes_done one.change) (so_far.cancels p stands)
+        ∙ append_assoc (history p) so_far.changes (changes_done one.change);
+  }
+
+-- a refused cancel notes nothing
+pub noted_still : (old mid new : DeskState) (then : Past → Past) → NotesNothing mid new → NotesCancels old mid then → NotesCancels old new then
+noted_still old mid new then same so_far = record {
+  changes = so_far.changes;
+  noted = (same.0 ∙ so_far.noted.0, same.1 ∙ so_far.noted.1);
+  cancels = so_far.cancels;
+}

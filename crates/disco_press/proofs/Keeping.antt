@@ -1,0 +1,144 @@
+-- What a desk keeps, one call on.
+use Rattle.std.proofs.Common.{◌≡◌, ℕ, ◌+◌, ◌≤◌, List, [], ◌∷◌, ◌++◌, length, map, Option, Some, None, IfSome, slice_get, refl, sym, ap, subst, ◌∙◌, arith, append-nil, length-append}
+use Rattle.std.proofs.lemmas.List.{map-append}
+use Rattle.std.specs.FinMap.{empty, get, len}
+use Rattle.disco_history.specs.Change.{Entry}
+use Rattle.disco_cache.specs.declared.key.DocKey.{DocKey}
+use Rattle.disco_registry.specs.Op.{Ask}
+use Rattle.disco_queue.specs.Timed.{Timed}
+use Rattle.disco_core.specs.Past.{Past, history, nothing, with_done}
+use Rattle.disco_hub.specs.Levels.{AreLevels, put_copy}
+use Rattle.disco_hub.specs.Press.{Edition, IsLegal, IsPublishable, Note, begin, change, edition_of, note_of}
+use Rattle.disco_hub.specs.Rounds.{Advances, Begins, Ends, Rounds, round_keys}
+use Rattle.disco_hub.specs.Shown.{WasTrue}
+use Rattle.disco_hub.specs.State.{IsCopied, State, StandsFor, is_doc}
+use Rattle.disco_hub.specs.declared.copied.Copied.{Copied}
+use Rattle.disco_hub.proofs.Levels.{begun_levels, copied_levels, ended_edition, ended_legal, ended_len, ended_levels, ended_publishable, first_levels, first_pressed, plain_levels}
+use Rattle.disco_hub.proofs.Shown.{shown_stands, true_there}
+use Rattle.disco_press.specs.Desks.{note_done}
+use Rattle.disco_press.specs.Editions.{IsEditionOf}
+use Rattle.disco_press.specs.Keeping.{IsKept}
+use Rattle.disco_press.specs.Looks.{Finds, Shows}
+use Rattle.disco_press.specs.Rolls.{Rolled, notes_in}
+use Rattle.disco_press.specs.declared.seat.Looked.{Looked}
+use Rattle.disco_press.specs.declared.seat.Looked.TheVariants.{Doc, Miss, Shut}
+use Rattle.disco_press.proofs.Publications.{notes_more}
+
+-- the changes that an operation makes
+abbrev pub changes_done : Option Entry → List Entry
+changes_done None = []
+changes_done (Some c) = c ∷ []
+
+pub noted_is : (o : Option Entry) → map change (changes_done o) ≡ note_done o
+noted_is None = refl
+noted_is (Some c) = refl
+
+-- the history has its change
+pub history_done : (most : ℕ) (p : Past) (now : ℕ) (ask : Ask) (o : Option Entry) → history (with_done most p now ask o) ≡ history p ++ changes_done o
+history_done most p now ask None = sym (append-nil (history p))
+history_done most p now ask (Some c) = map-append (λ (t : Timed). t.0) p.timed ((c, now) ∷ [])
+
+-- the version is how many changes there are
+version_is : (s : State) (p : Past) → StandsFor s p → s.core.registry.version ≡ length (history p)
+version_is s p stands = stands.core.registry.version
+
+module _ (printed : List (List Note)) (roll : Rolled) (hub hub' : State) (next next' : Edition) (n : ℕ) (kept : IsKept printed roll hub next n) where
+  -- the changes cs, or none
+  pub plain_kept : (roll' : Rolled) (q : Past) (cs : List Entry) → history q ≡ history kept.past ++ cs → StandsFor hub' q → hub'.rounds ≡ hub.rounds → next' ≡ next
+      → roll' ≡ record roll { pending = roll.pending ++ map change cs } → IsKept printed roll' hub' next' (n + length cs)
+  plain_kept roll' q cs more stands rounds same is =
+      let levels = plain_levels hub hub' next next' (notes_in roll.published) roll.pending kept.past kept.levels q cs more stands rounds same in
+      record {
+        shown = kept.shown ∙ ap (λ (r : Rolled). r.published) (sym is);
+        past = q;
+        levels = subst (λ (r : Rolled). AreLevels hub' next' (notes_in r.published) r.pending q) (sym is) levels;
+        version = omega (arith, version_is hub' q stands, ap (λ h. length h) more, length-append (history kept.past) cs, version_is hub kept.past kept.levels.stands, kept.version);
+      }
+
+  -- nothing that is noted
+  pub quiet_kept : (q : Past) → history q ≡ history kept.past → StandsFor hub' q → hub'.rounds ≡ hub.rounds → next' ≡ next → IsKept printed roll hub' next' n
+  quiet_kept q same stands rounds next_same =
+      subst (λ m. IsKept printed roll hub' next' m) (omega arith)
+      (plain_kept roll q [] (same ∙ sym (append-nil (history kept.past))) stands rounds next_same (λ i. record { published = roll.published; pending = sym (append-nil roll.pending) i }))
+
+  -- an accepted operation
+  pub written_kept : (roll' : Rolled) (most now : ℕ) (ask : Ask) (o : Option Entry) → ((p : Past) → StandsFor hub p → StandsFor hub' (with_done most p now ask o)) → hub'.rounds ≡ hub.rounds → next' ≡ next
+      → roll' ≡ record roll { pending = roll.pending ++ note_done o } → IsKept printed roll' hub' next' (n + length (changes_done o))
+  written_kept roll' most now ask o stands rounds same is =
+      plain_kept roll' (with_done most kept.past now ask o) (changes_done o) (history_done most kept.past now ask o) (stands kept.past kept.levels.stands) rounds same
+      (is ∙ (λ i. record { published = roll.published; pending = roll.pending ++ sym (noted_is o) i }))
+
+  -- an accepted operation that makes no change
+  pub same_kept : (most now : ℕ) (ask : Ask) → ((p : Past) → StandsFor hub p → StandsFor hub' (with_done most p now ask None)) → hub'.rounds ≡ hub.rounds → next' ≡ next → IsKept printed roll hub' next' n
+  same_kept most now ask stands rounds same =
+      quiet_kept (with_done most kept.past now ask None) (history_done most kept.past now ask None ∙ append-nil (history kept.past)) (stands kept.past kept.levels.stands) rounds same
+
+  -- a round begins
+  pub begun_kept : (roll' : Rolled) (many : ℕ) → Begins (round_keys hub.rounds.edition hub.docs) many hub.rounds hub'.rounds → hub' ≡ record hub { rounds = hub'.rounds } → next' ≡ empty
+      → roll' ≡ record roll { pending = roll.pending ++ begin ∷ [] } → IsKept printed roll' hub' next' n
+  begun_kept roll' many begins rest none is = record {
+    shown = kept.shown ∙ ap (λ (r : Rolled). r.published) (sym is);
+    past = kept.past;
+    levels = subst (λ (r : Rolled). AreLevels hub' next' (notes_in r.published) r.pending kept.past) (sym is) (begun_levels hub hub' next next' (notes_in roll.published) roll.pending kept.past kept.levels many begins rest none);
+    version = ap (λ (s : State). s.core.registry.version) rest ∙ kept.version;
+  }
+
+  -- a key is copied
+  pub copied_kept : (roll' : Rolled) (c : Copied) → ((p : Past) → StandsFor hub p → IfSome hub.rounds.round (λ r. IfSome (slice_get r.left 0) (λ k. IsCopied k c p))) → Advances (is_doc c) hub.rounds hub'.rounds → hub' ≡ record hub { rounds = hub'.rounds } → next' ≡ put_copy next c
+      → roll' ≡ record roll { pending = roll.pending ++ note_of c ∷ [] } → IsKept printed roll' hub' next' n
+  copied_kept roll' c copies marks rest put is = record {
+    shown = kept.shown ∙ ap (λ (r : Rolled). r.published) (sym is);
+    past = kept.past;
+    levels = subst (λ (r : Rolled). AreLevels hub' next' (notes_in r.published) r.pending kept.past) (sym is) (copied_levels hub hub' next next' (notes_in roll.published) roll.pending kept.past kept.levels c copies marks rest put);
+    version = ap (λ (s : State). s.core.registry.version) rest ∙ kept.version;
+  }
+
+  -- a round ends, and all that was noted is published
+  module _ (many : ℕ) (ends : Ends many hub.rounds hub'.rounds) where
+    whole_is : (ps : List (List Note)) → ps ≡ roll.published ++ roll.pending ∷ [] → notes_in ps ≡ notes_in roll.published ++ roll.pending
+    whole_is ps is = ap (λ (qs : List (List Note)). notes_in qs) is ∙ notes_more roll.published roll.pending
+
+    pub edition_ended : (ps : List (List Note)) → ps ≡ roll.published ++ roll.pending ∷ [] → IsEditionOf ps next
+    edition_ended ps is =
+        let same = whole_is ps is in
+        record {
+          docs_are = ended_edition hub hub' next next' (notes_in roll.published) roll.pending kept.past kept.levels many ends ∙ ap edition_of (sym same);
+          legal = subst IsLegal (sym same) (ended_legal hub hub' next next' (notes_in roll.published) roll.pending kept.past kept.levels many ends);
+          publishable = subst IsPublishable (sym same) (ended_publishable hub hub' next next' (notes_in roll.published) roll.pending kept.past kept.levels many ends);
+        }
+
+    pub ended_many : many ≡ len (edition_of (notes_in roll.published ++ roll.pending))
+    ended_many = ends.many ∙ sym (ended_len hub hub' next next' (notes_in roll.published) roll.pending kept.past kept.levels many ends)
+
+    pub ended_kept : (printed' : List (List Note)) (roll' : Rolled) → printed' ≡ roll'.published → hub' ≡ record hub { rounds = hub'.rounds } → roll' ≡ record { published = roll.published ++ roll.pending ∷ []; pending = [] } → IsKept printed' roll' hub' next' n
+    ended_kept printed' roll' shown rest is =
+        let levels = ended_levels hub hub' next next' (notes_in roll.published) roll.pending kept.past kept.levels many ends rest in
+        record {
+          shown = shown;
+          past = kept.past;
+          levels = subst (λ (t : List Note × List Note). AreLevels hub' next' t.0 t.1 kept.past) (λ i. (sym (whole_is roll'.published (ap (λ (r : Rolled). r.published) is)) i, ap (λ (r : Rolled). r.pending) (sym is) i)) levels;
+          version = ap (λ (s : State). s.core.registry.version) rest ∙ kept.version;
+        }
+
+-- nothing was noted yet
+pub new_kept : (printed : List (List Note)) (roll : Rolled) (hub : State) (next : Edition) (n : ℕ) → printed ≡ [] → roll.published ≡ [] → roll.pending ≡ [] → StandsFor hub nothing → hub.rounds ≡ record { edition = empty; round = None } → n ≡ 0 → IsKept printed roll hub next n
+new_kept printed roll hub next n none none' none'' stands rounds zero = record {
+  shown = none ∙ sym none';
+  past = nothing;
+  levels = subst (λ (t : List (List Note) × List Note). AreLevels hub next (notes_in t.0) t.1 nothing) (λ i. (sym none' i, sym none'' i)) (first_levels hub next stands rounds);
+  version = version_is hub nothing stands ∙ sym zero;
+}
+
+pub new_edition : (ps : List (List Note)) (docs : Edition) → ps ≡ [] → docs ≡ empty → IsEditionOf ps docs
+new_edition ps docs none fresh =
+    subst (λ (t : List (List Note) × Edition). IsEditionOf t.0 t.1) (λ i. (sym none i, sym fresh i)) (record { docs_are = refl; legal = first_pressed.legal; publishable = refl })
+
+-- ---- looks
+
+pub shows : (key : DocKey) (ps : List (List Note)) (docs : Edition) (looked : Looked) → IsEditionOf ps docs → Finds (get docs key) looked → Shows (notes_in ps) key looked
+shows key ps docs Shut is finds = tt
+shows key ps docs Miss is finds = (is.legal, is.publishable, ap (λ (m : Edition). get m key) (sym is.docs_are) ∙ finds)
+shows key ps docs (Doc d) is finds =
+    let there = ap (λ (m : Edition). get m key) (sym is.docs_are) ∙ finds in
+    let stands = shown_stands (notes_in ps) key d.value is.publishable there in
+    (is.legal, is.publishable, there, (stands, true_there (notes_in ps) key d.value is.legal stands))

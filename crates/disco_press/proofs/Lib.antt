@@ -1,0 +1,3 @@
+mod Cancels
+mod Keeping
+mod Publications

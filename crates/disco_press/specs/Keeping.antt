@@ -1,0 +1,14 @@
+-- What a desk keeps. Nothing here is to be believed: it is the invariant of a type.
+use Rattle.std.specs.Prelude.{◌≡◌, ℕ, List}
+use Rattle.disco_core.specs.Past.{Past}
+use Rattle.disco_hub.specs.Levels.{AreLevels}
+use Rattle.disco_hub.specs.Press.{Edition, Note}
+use Rattle.disco_hub.specs.State.{State}
+use Rattle.disco_press.specs.Rolls.{Rolled, notes_in}
+
+-- readers take what was published, the hub stands for what was noted, and each change is counted
+pub record IsKept (printed : List (List Note)) (roll : Rolled) (hub : State) (next : Edition) (counted : ℕ) : Type 0 where
+  pub shown : printed ≡ roll.published
+  pub past : Past
+  pub levels : AreLevels hub next (notes_in roll.published) roll.pending past
+  pub version : hub.core.registry.version ≡ counted

@@ -1,0 +1,12 @@
+-- What a seat knows.
+use Rattle.std.specs.Prelude.{◌≡◌, ℕ, List, []}
+use Rattle.disco_hub.specs.Press.{Note}
+
+-- the publications that it has seen or been told of, and how many changes it has made
+pub record SeatState : Type 0 where
+  pub known : List (List Note)
+  pub changes : ℕ
+
+-- it knows these publications, and has made no change
+abbrev pub IsNew : List (List Note) → SeatState → Type 0
+IsNew published s = (s.known ≡ published) × (s.changes ≡ 0)

@@ -1,0 +1,181 @@
+//! The desk: what lies under the lock.
+ghost use Rattle.std.specs.Prelude.{◌≡◌, ◌≢◌, ◌≤◌, [], IfErr, IfOk, None, Some, true};
+ghost use Rattle.std.specs.FinMap as finmap;
+ghost use mathlib.Core.List.{IsPrefix};
+ghost use Rattle.disco_instance.specs.declared.fault.Fault.TheVariants.{OutOfMemory};
+ghost use Rattle.disco_core.specs.Past.{Past, cleaned, history, minute_closed, nothing};
+ghost use Rattle.disco_core.specs.Refusals.{doc_of_id, doc_of_key, refusal_of, refusal_of_id};
+ghost use Rattle.disco_core.specs.State.{rules};
+ghost use Rattle.disco_hub.specs.State.{MayServe, StandsFor, rules_of};
+ghost use Rattle.disco_press.specs.Desks.{IsValid, NotesNothing};
+
+use crate::front::Naming;
+use crate::printer::Printer;
+use crate::roll::Roll;
+use crate::seat::Seat;
+use disco_cache::{DocKey, Edition, Payload};
+use disco_hub::{Hub, Minute, Settings};
+use disco_instance::{Fault, Form, Key};
+use std::alloc::Global;
+use std::marker::Model;
+use std::sync::ledger::Book;
+use std::sync::{Arc, Wait};
+
+/// A hub with the writer of the editions that its seats look into. It has to be closed by
+/// [`Desk::close`], since that may wait for a seat. Contracts see what was published, publication by
+/// publication, what was noted since, and the hub.
+pub struct Desk<J: Naming> {
+    pub(crate) alloc: Global,
+    pub(crate) hub: Hub,
+    pub(crate) printer: Printer<J>,
+    pub(crate) roll: Roll<J>,
+    /// What the open round has copied.
+    pub(crate) next: Edition,
+    /// The changes that seats made.
+    pub(crate) book: Book<J>,
+    /// How many changes were made without a seat.
+    pub(crate) loose: u64,
+}
+
+impl<J: Naming> Model for Desk<J> {
+    ghost use Rattle.std.specs.Prelude.{◌+◌};
+    ghost use Rattle.std.specs.Coded.{codes};
+    ghost use Rattle.std.specs.FinMap.{code};
+    ghost use Rattle.disco_press.specs.Desks.{DeskState};
+    ghost use Rattle.disco_press.specs.Keeping.{IsKept};
+
+    ghost Value = { DeskState };
+
+    ghost coded = { Prim.hlevel (codes, code) };
+
+    ghost view = { λ d. record { published = d.roll.published; pending = d.roll.pending; hub = d.hub } };
+
+    ghost invariant = { λ d. IsKept d.printer d.roll d.hub d.next (d.book.total + d.loose) };
+}
+
+impl<J: Naming> Desk<J> {
+    pub(crate) fn new(
+        alloc: Global,
+        settings: &Settings,
+        printer: Printer<J>,
+        roll: Roll<J>,
+        book: Book<J>,
+    ) -> Desk<J>
+        requires roll { (roll.published ≡ []) × (roll.pending ≡ []) }
+        requires printer { printer ≡ [] }
+        requires book { book.total ≡ 0 }
+        ensures nothing { (result.published ≡ []) × (result.pending ≡ []) }
+        ensures empty { StandsFor result.hub nothing }
+        ensures rules { rules_of result.hub ≡ rules settings.now }
+        ensures room { result.hub.docs.max ≡ settings.now.entries }
+    {
+        Desk {
+            alloc,
+            hub: Hub::new(alloc, settings),
+            printer,
+            roll,
+            next: Edition::new(alloc),
+            book,
+            loose: 0,
+        }
+    }
+
+    /// What holds of every desk. Does nothing.
+    pub fn check(&self)
+        ensures { IsValid self.now }
+    {
+        let _loose = self.loose;
+    }
+
+    /// The document that is asked for, as [`Hub::load`] gives it.
+    pub fn load(&mut self, key: &DocKey) -> Result<Arc<Payload, Global>, Fault>
+        ensures key { IfOk result (λ d. d.value.key ≡ key.now) }
+        ensures served { IfOk result (λ d. (p : Past) → StandsFor self.old.hub p → MayServe d.value p) }
+        ensures allowed { IfOk result (λ _. (p : Past) → StandsFor self.old.hub p → refusal_of (rules_of self.old.hub).delta key.now.query (history p) ≡ None) }
+        ensures refused { IfErr result (λ e. e ≢ OutOfMemory → (p : Past) → StandsFor self.old.hub p → refusal_of (rules_of self.old.hub).delta key.now.query (history p) ≡ Some e) }
+        ensures history { (p : Past) → StandsFor self.old.hub p → StandsFor self.new.hub p }
+        ensures core { self.new.hub.core ≡ self.old.hub.core }
+        ensures room { self.new.hub.docs.max ≡ self.old.hub.docs.max }
+        ensures rounds { self.new.hub.rounds ≡ self.old.hub.rounds }
+        ensures noted { NotesNothing self.old self.new }
+    {
+        self.hub.load(key)
+    }
+
+    /// The document of an instance, as [`Hub::instance`] gives it.
+    pub fn instance(&self, key: &Key, form: Form) -> Result<Arc<Payload, Global>, Fault>
+        ensures key { IfOk result (λ d. d.value.key ≡ doc_of_key key.now form) }
+        ensures served { IfOk result (λ d. (p : Past) → StandsFor self.now.hub p → MayServe d.value p) }
+        ensures allowed { IfOk result (λ _. (p : Past) → StandsFor self.now.hub p → refusal_of true (doc_of_key key.now form).query (history p) ≡ None) }
+        ensures refused { IfErr result (λ e. e ≢ OutOfMemory → (p : Past) → StandsFor self.now.hub p → refusal_of true (doc_of_key key.now form).query (history p) ≡ Some e) }
+    {
+        self.hub.instance(key, form)
+    }
+
+    /// The document of the instance of an id, as [`Hub::by_id`] gives it.
+    pub fn by_id(&self, id: &str, form: Form) -> Result<Arc<Payload, Global>, Fault>
+        ensures key { IfOk result (λ d. (p : Past) → StandsFor self.now.hub p → doc_of_id id.now form (history p) ≡ Some d.value.key) }
+        ensures served { IfOk result (λ d. (p : Past) → StandsFor self.now.hub p → MayServe d.value p) }
+        ensures allowed { IfOk result (λ _. (p : Past) → StandsFor self.now.hub p → refusal_of_id id.now (history p) ≡ None) }
+        ensures refused { IfErr result (λ e. e ≢ OutOfMemory → (p : Past) → StandsFor self.now.hub p → refusal_of_id id.now (history p) ≡ Some e) }
+    {
+        self.hub.by_id(id, form)
+    }
+
+    /// Forgets recent changes, as [`Hub::clean`] does. Answers the version from which deltas start
+    /// now. Takes no memory.
+    pub fn clean(&mut self, now: u64) -> u64
+        ensures base { result ≡ self.new.hub.core.queue.base }
+        ensures registry { self.new.hub.core.registry ≡ self.old.hub.core.registry }
+        ensures docs { self.new.hub.docs ≡ self.old.hub.docs }
+        ensures rounds { self.new.hub.rounds ≡ self.old.hub.rounds }
+        ensures rules { rules_of self.new.hub ≡ rules_of self.old.hub }
+        ensures history { (p : Past) → StandsFor self.old.hub p → StandsFor self.new.hub (cleaned (rules_of self.old.hub).retention p now) }
+        ensures noted { NotesNothing self.old self.new }
+    {
+        self.hub.clean(now)
+    }
+
+    /// Closes a minute, as [`Hub::close_minute`] does. Takes no memory.
+    pub fn close_minute(&mut self) -> Minute
+        ensures kept { (p : Past) → StandsFor self.old.hub p → result ≡ (minute_closed p).closed }
+        ensures registry { self.new.hub.core.registry ≡ self.old.hub.core.registry }
+        ensures docs { self.new.hub.docs ≡ self.old.hub.docs }
+        ensures rounds { self.new.hub.rounds ≡ self.old.hub.rounds }
+        ensures rules { rules_of self.new.hub ≡ rules_of self.old.hub }
+        ensures history { (p : Past) → StandsFor self.old.hub p → StandsFor self.new.hub (minute_closed p) }
+        ensures noted { NotesNothing self.old self.new }
+    {
+        self.hub.close_minute()
+    }
+
+    /// Ends the press: from now on each look of its seats is shut. May wait for a seat that is
+    /// inside its look.
+    pub fn close<R: Wait>(self, rt: &R) {
+        let Desk {
+            alloc: _,
+            hub: _hub,
+            printer,
+            roll: _roll,
+            next: _next,
+            book: _book,
+            loose: _,
+        } = self;
+        printer.close(rt);
+    }
+}
+
+impl<J: Naming> Seat<J> {
+    /// This seat learns what the desk has published: no later look goes back behind it. All that it
+    /// knew is a beginning of that. Takes no memory.
+    pub fn learn(&mut self, desk: &mut Desk<J>)
+        ensures desk { desk.new ≡ desk.old }
+        ensures knew { IsPrefix self.old.known desk.old.published }
+        ensures knows { self.new ≡ record self.old { known = desk.old.published } }
+        ensures bound { self.old.changes ≤ desk.old.hub.core.registry.version }
+    {
+        self.check(&mut desk.book);
+        desk.roll.meet(self.known());
+        self.tell(desk.roll.front());
+    }
+}

@@ -1,0 +1,131 @@
+//! Seats of readers.
+ghost use Rattle.std.specs.Prelude.{◌≡◌, ◌<◌, ◌≤◌, ◌+◌, ◌^◌, IfSome};
+ghost use mathlib.Core.List.{IsPrefix};
+ghost use Rattle.std.specs.FinMap.{get};
+ghost use Rattle.disco_press.specs.Looks.{Finds, Shows};
+ghost use Rattle.disco_press.specs.Rolls.{notes_in};
+ghost use Rattle.disco_press.specs.Seats.{IsNew};
+
+use crate::front::{Front, Naming};
+use crate::looking::look_in;
+use crate::shown::{Press, Shown};
+use core::mem::replace_with;
+use disco_cache::{DocKey, Payload};
+use left_right::reader::Reader;
+use std::alloc::Global;
+use std::marker::Model;
+use std::sync::Arc;
+use std::sync::ledger::{Book, Share};
+
+/// What a look finds.
+#[derive(Debug, Drop)]
+pub enum Looked {
+    /// The document, shared.
+    Doc(Arc<Payload, Global>),
+    /// The edition has no document of this key.
+    Miss,
+    /// Nothing can be seen now: the desk is closed, or the host refused to share the document. What
+    /// the seat knows is not lost.
+    Shut,
+}
+
+pub(crate) type PressReader<J> = Reader<Shown, (), Press<J>>;
+
+/// The place from which one reader looks into the editions of the desk of this name, and with
+/// which it counts its own changes. It may go to another thread.
+#[derive(Drop)]
+pub struct Seat<J: Naming> {
+    reader: PressReader<J>,
+    known: Front<J>,
+    mine: Share<J>,
+    changes: u64,
+}
+
+impl<J: Naming> Model for Seat<J> {
+    ghost use Rattle.std.specs.Prelude.{◌≡◌, ◌<◌};
+    ghost use Rattle.disco_press.specs.Seats.{SeatState};
+
+    ghost Value = { SeatState };
+
+    ghost view = { λ s. record { known = s.known; changes = s.changes } };
+
+    ghost invariant = { λ s. (s.mine.amount ≡ s.changes) × (0 < s.mine.parts) };
+}
+
+impl<J: Naming> Seat<J> {
+    pub(crate) fn new(reader: PressReader<J>, known: Front<J>, mine: Share<J>) -> Seat<J>
+        requires { (0 < mine.parts) × (mine.amount ≡ 0) }
+        ensures { IsNew known result }
+    {
+        Seat {
+            reader,
+            known,
+            mine,
+            changes: 0,
+        }
+    }
+
+    /// The document of a key in the edition that was published last, as far as this seat sees: no
+    /// earlier one than it has seen or been told of. An app's name has to be in upper case. Takes no
+    /// lock and no memory, and waits for nobody.
+    pub fn look(&mut self, key: &DocKey) -> Looked
+        ensures shows { Shows (notes_in self.new.known) key.now result }
+        ensures known { IsPrefix self.old.known self.new.known }
+        ensures count { self.new.changes ≡ self.old.changes }
+    {
+        let (looked, front) = replace_with(
+            &mut self.reader,
+            key,
+            |reader, key| look_in(reader, key),
+        );
+        let Some(front) = front else {
+            return Looked::Shut;
+        };
+        if !self.known.is_before(&front) {
+            return Looked::Shut;
+        }
+        self.known = front;
+        looked
+    }
+
+    /// How many changes this seat has made. Takes no memory.
+    pub fn changes(&self) -> u64
+        ensures { result ≡ self.now.changes }
+    {
+        self.changes
+    }
+
+    /// Counts a change.
+    pub(crate) fn count(&mut self, book: &mut Book<J>)
+        requires { book.old.total + 1 < 2 ^ 64 }
+        ensures total { book.new.total ≡ book.old.total + 1 }
+        ensures count { self.new ≡ record self.old { changes = self.old.changes + 1 } }
+    {
+        book.audit(&mut self.mine);
+        book.add(&mut self.mine, 1);
+        self.changes += 1;
+    }
+
+    /// No seat has made more changes than all together.
+    pub(crate) fn check(&mut self, book: &mut Book<J>)
+        ensures total { book.new.total ≡ book.old.total }
+        ensures same { self.new ≡ self.old }
+        ensures bound { self.old.changes ≤ book.new.total }
+    {
+        book.audit(&mut self.mine);
+    }
+
+    /// The publications that this seat knows.
+    pub(crate) fn known(&self) -> &Front<J>
+        ensures { result.now ≡ self.now.known }
+    {
+        &self.known
+    }
+
+    /// From now on this seat knows these publications.
+    pub(crate) fn tell(&mut self, known: Front<J>)
+        ensures { self.new ≡ record self.old { known = known } }
+    {
+        self.known = known;
+    }
+}
