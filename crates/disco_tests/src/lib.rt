@@ -9,6 +9,8 @@ mod calls;
 #[cfg(test)]
 mod client;
 #[cfg(test)]
+mod press;
+#[cfg(test)]
 mod program;
 #[cfg(test)]
 mod rounds;
