@@ -1,0 +1,109 @@
+//! One thread that writes, loads and publishes.
+use crate::desks::{app, registration};
+use disco_instance::Fault;
+use disco_press::{Desk, Naming};
+use std::alloc::Global;
+use std::sync::atomic::{AtomicU64, Ordering};
+use std::sync::{Mutex, MutexGuard, Wait};
+
+/// Copies all that is left of the open round, and publishes.
+fn publish<J: Naming, R: Wait>(rt: &R, desk: &mut Desk<J>) -> Result<(), Fault> {
+    for _ in 0..u64::MAX {
+        if desk.copy_one()?.is_none() {
+            break;
+        }
+    }
+    desk.publish(rt)?;
+    Ok(())
+}
+
+/// Registers the instance of an app once more, loads its document, and publishes.
+fn change<J: Naming, R: Wait>(
+    rt: &R,
+    alloc: Global,
+    desk: &mut Desk<J>,
+    number: u64,
+) -> Result<(), Fault> {
+    desk.write(registration(alloc, number)?, 0)?;
+    let _ = desk.load(&app(alloc, number)?)?;
+    desk.begin()?;
+    publish(rt, desk)
+}
+
+/// As [`change`], under the lock.
+pub(crate) fn change_locked<J: Naming, R: Wait>(
+    rt: &R,
+    alloc: Global,
+    desk: &Mutex<Desk<J>>,
+    number: u64,
+) -> Result<(), Fault> {
+    let mut guard = desk.lock(rt);
+    let changed = change(rt, alloc, &mut *guard, number);
+    MutexGuard::unlock(guard);
+    changed
+}
+
+/// Registers an instance of each app, loads their documents, and publishes them.
+fn fill<J: Naming, R: Wait>(
+    rt: &R,
+    alloc: Global,
+    desk: &mut Desk<J>,
+    apps: u64,
+) -> Result<(), Fault> {
+    for number in 0..apps {
+        desk.write(registration(alloc, number)?, 0)?;
+        let _ = desk.load(&app(alloc, number)?)?;
+    }
+    desk.begin()?;
+    publish(rt, desk)
+}
+
+/// As [`fill`], under the lock.
+pub(crate) fn fill_locked<J: Naming, R: Wait>(
+    rt: &R,
+    alloc: Global,
+    desk: &Mutex<Desk<J>>,
+    apps: u64,
+) -> Result<(), Fault> {
+    let mut guard = desk.lock(rt);
+    let filled = fill(rt, alloc, &mut *guard, apps);
+    MutexGuard::unlock(guard);
+    filled
+}
+
+/// So many changes, one after another; then it says that they are done.
+pub(crate) fn change_often<J: Naming, R: Wait>(
+    rt: &R,
+    alloc: Global,
+    desk: &Mutex<Desk<J>>,
+    times: u64,
+    done: &AtomicU64,
+) -> Result<(), Fault> {
+    let mut changed = Ok(());
+    for _ in 0..times {
+        changed = change_locked(rt, alloc, desk, 0);
+        if changed.is_err() {
+            break;
+        }
+    }
+    done.store(1, Ordering::SeqCst);
+    changed
+}
+
+/// Changes without a pause, until the looks are done. Answers how many there were.
+pub(crate) fn change_until<J: Naming, R: Wait>(
+    rt: &R,
+    alloc: Global,
+    desk: &Mutex<Desk<J>>,
+    done: &AtomicU64,
+) -> Result<u64, Fault> {
+    let mut changes: u64 = 0;
+    for _ in rt.forever() {
+        if done.load(Ordering::SeqCst) != 0 {
+            break;
+        }
+        change_locked(rt, alloc, desk, 0)?;
+        changes = changes.saturating_add(1);
+    }
+    Ok(changes)
+}
