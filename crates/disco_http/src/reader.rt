@@ -52,6 +52,35 @@ impl<R: Source> Reader<R> {
         })
     }
 
+    /// The same buffer in front of another source, with nothing read. Takes no memory.
+    pub fn over<S: Source>(self, source: S) -> Reader<S>
+    where
+        R: Drop,
+        ensures ahead { Keeps (S.remaining source) (ahead S.remaining result) }
+        ensures limits { limits_of result ≡ limits_of self }
+        ensures source { source_of result ≡ source }
+        ensures spent { IsFalse (is_spent result) }
+    {
+        let Reader {
+            limits,
+            source: _source,
+            buffer,
+            start: _,
+            end: _,
+            spans,
+            spent: _,
+        } = self;
+        Reader {
+            limits,
+            source,
+            buffer,
+            start: 0,
+            end: 0,
+            spans,
+            spent: false,
+        }
+    }
+
     /// Whether a call was refused. Then nothing more is read.
     pub fn is_spent(&self) -> bool
         ensures { result ≡ is_spent self.now }

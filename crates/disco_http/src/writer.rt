@@ -1,9 +1,11 @@
 //! A sink with room for a reply in front of it.
 ghost use Rattle.std.specs.Prelude.{◌≤◌, ◌+◌, vec_len};
 ghost use Rattle.std.specs.Vec.{vec_capacity};
+ghost use Rattle.disco_instance.specs.declared.fault.Fault.TheVariants.{WriteFailed};
 
 use crate::replying::write_all;
 use crate::source::{Failed, Sink};
+use disco_instance::Fault;
 use disco_message::{Allow, HEAD_ROOM, StatusLine, push_bytes, push_head};
 use std::alloc::{AllocError, Global};
 
@@ -30,6 +32,14 @@ impl<W: Drop> Writer<W> {
         Ok(Writer { sink, room })
     }
 
+    /// The same room in front of another sink, with nothing written. Takes no memory.
+    pub fn over<V>(self, sink: V) -> Writer<V>
+        ensures { sink_of result ≡ sink }
+    {
+        let Writer { sink: _sink, room } = self;
+        Writer { sink, room }
+    }
+
     /// Gives the sink back.
     pub fn into_sink(self) -> W
         ensures { result ≡ sink_of self }
@@ -39,11 +49,11 @@ impl<W: Drop> Writer<W> {
 }
 
 impl<W: Sink> Writer<W> {
-    ghost use Rattle.std.specs.Prelude.{◌≡◌, ◌++◌, length, OnOk, OnErr};
+    ghost use Rattle.std.specs.Prelude.{◌≡◌, ◌++◌, length, IfErr, OnOk, OnErr};
     ghost use Rattle.std.specs.Io.KnownBytes.{Appends};
     ghost use Rattle.disco_message.specs.ReplyText.{reply_head};
     ghost use Rattle.disco_http.specs.Causes.{Raises};
-    ghost use Rattle.disco_http.specs.Sinks.{AppendsFront};
+    ghost use Rattle.disco_http.specs.Sinks.{AppendsFront, sink_of};
 
     /// Puts the head of a reply into the room.
     pub(crate) fn put_head(
@@ -79,5 +89,20 @@ impl<W: Sink> Writer<W> {
         ensures none_failed { OnOk result (W.failed self.new.sink ≡ W.failed self.old.sink) }
     {
         write_all(&mut self.sink, &self.room)
+    }
+
+    /// Writes these bytes as they are, as the head of a request. Takes no memory. Refused only as
+    /// `WriteFailed`; then a front of them was written.
+    pub fn write_bytes(&mut self, bytes: &[u8]) -> Result<(), Fault>
+        ensures written { OnOk result (Appends (W.contents (sink_of self.old)) (W.contents (sink_of self.new)) bytes.now) }
+        ensures front { OnErr result (AppendsFront (W.contents (sink_of self.old)) (W.contents (sink_of self.new)) bytes.now) }
+        ensures fault { IfErr result (λ fault. fault ≡ WriteFailed) }
+        ensures cause { OnErr result (Raises (W.failed (sink_of self.old)) (W.failed (sink_of self.new))) }
+        ensures none_failed { OnOk result (W.failed (sink_of self.new) ≡ W.failed (sink_of self.old)) }
+    {
+        match write_all(&mut self.sink, bytes) {
+            Ok(()) => Ok(()),
+            Err(Failed) => Err(Fault::WriteFailed),
+        }
     }
 }
