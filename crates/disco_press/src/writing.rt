@@ -80,7 +80,8 @@ impl<J: Naming> Desk<J> {
     pub fn expire(&mut self, now: u64) -> Expired
         ensures history { Expires self.old.hub self.new.hub now (λ p. taken_in p now) result.gone result.stopped }
         ensures rules { rules_of self.new.hub ≡ rules_of self.old.hub }
-        ensures beside { beside self.new.hub ≡ beside self.old.hub }
+        ensures rounds { self.new.hub.rounds ≡ self.old.hub.rounds }
+        ensures room { self.new.hub.docs.max ≡ self.old.hub.docs.max }
         ensures noted { NotesCancels self.old self.new (λ p. cancelled (rules_of self.old.hub) p now (taken_in p now) result.gone) }
     {
         match self.hub.taken(now) {
