@@ -1,4 +1,5 @@
 mod Letters
+pub mod Moves
 mod Numbers
 mod Overlaying
 mod Shown

@@ -6,9 +6,11 @@
 
 mod copy;
 mod counted;
+mod known;
 mod overlaid;
 mod taken;
 mod vip;
 
 pub use copy::Copy;
+pub use known::Known;
 pub use overlaid::Overlaid;

@@ -1,12 +1,9 @@
 -- Copies that are known at a version, and documents that are true of a version.
-use Rattle.std.proofs.Common.{◌≡◌, ℕ, ◌≤◌, ◌&&◌, nat_le, Bool, true, false, cond, List, [], ◌∷◌, ◌++◌, length, map, take, Option, Some, None, Ok, refl, sym, ap, subst, ◌∙◌, arith}
+use Rattle.std.proofs.Common.{◌≡◌, ℕ, ◌≤◌, Bool, true, false, List, [], ◌∷◌, ◌++◌, length, map, take, Option, Some, None, Ok, refl, sym, ap, subst, ◌∙◌, arith}
 use Rattle.std.proofs.lemmas.Option.{same_Some}
-use Rattle.std.proofs.lemmas.Bool.Decides.{nat_tests}
 use Rattle.std.specs.FinMap.{FinMap, values}
 use Rattle.disco_instance.specs.Key.{key_cmp}
 use Rattle.disco_instance.specs.Row.{Row}
-use Rattle.disco_instance.specs.declared.form.Form.{Form}
-use Rattle.disco_instance.specs.declared.form.Form.TheVariants.{Full, Compact}
 use Rattle.disco_history.specs.Change.{Entry, front}
 use Rattle.disco_history.specs.Forms.{in_form}
 use Rattle.disco_history.specs.Mentions.{copied, delta, known, mention_of, overlay}
@@ -24,11 +21,13 @@ use Rattle.disco_writer.specs.declared.query.Query.{Query}
 use Rattle.disco_writer.specs.declared.query.Query.TheVariants as query
 use Rattle.disco_cache.specs.Payloads.{IsTrue}
 use Rattle.disco_cache.specs.declared.payload.Payload.{Payload}
-use Rattle.disco_world.specs.Clients.{MeansVersion, moved, same_form, taken, taken_by, taken_from}
+use Rattle.disco_client.specs.Tracks.{moved}
+use Rattle.disco_client.specs.declared.known.Known.{Known}
+use Rattle.disco_client.proofs.Moves.{Moves, moves}
+use Rattle.disco_world.specs.Clients.{MeansVersion, taken, taken_by, taken_from}
 use Rattle.disco_world.specs.Events.{for_clients}
 use Rattle.disco_world.specs.Steps.{IsReadable}
 use Rattle.disco_world.specs.declared.clients.Client.{Client}
-use Rattle.disco_world.specs.declared.clients.Known.{Known}
 
 -- ---- versions of a history that goes on
 
@@ -141,28 +140,6 @@ full_means h d held c is full takes = λ at known.
     (subst (λ (k : Known). k.version ≤ length h) so is.inside, copy ∙ ap (λ (k : Known). in_form k.form (reg (front h k.version))) so)
 
 -- ---- deltas
-
-pub record Moves (k : Known) (f : Form) (o b : ℕ) (at : Known) : Type 0 where
-  pub form : k.form ≡ f
-  pub above : o ≤ k.version
-  pub below : k.version ≤ b
-  pub now : record { form = f; version = b } ≡ at
-
-form_is : (f g : Form) → same_form f g ≡ true → f ≡ g
-form_is Full Full e = refl
-form_is Compact Compact e = refl
-form_is Full Compact e = absurd (cc)
-form_is Compact Full e = absurd (cc)
-
-moves : (k : Known) (f : Form) (o b : ℕ) (at : Known) → moved (Some k) f o b ≡ Some at → Moves k f o b at
-moves k f o b at = by (same_form k.form f) refl (nat_le o k.version) refl (nat_le k.version b) refl
-  where
-    by : (x : Bool) → same_form k.form f ≡ x → (y : Bool) → nat_le o k.version ≡ y → (z : Bool) → nat_le k.version b ≡ z
-        → cond (x && (y && z)) (Some (record { form = f; version = b })) None ≡ Some at → Moves k f o b at
-    by true form true above true below is = record { form = form_is k.form f form; above = grind (arith, nat_tests, above); below = grind (arith, nat_tests, below); now = same_Some _ _ is }
-    by false form y above z below is = absurd (cc)
-    by true form false above z below is = absurd (cc)
-    by true form true above false below is = absurd (cc)
 
 overlay_means : (h : List Entry) (d : Payload) (old : Client) (c : Client) (k at : Known) → IsOf h d → is_delta d.key.query ≡ true → MeansVersion h old → old.known ≡ Some k
     → c ≡ record { copy = overlay old.copy (meaning_for query.Delta d.key.form (front h d.version) d.base d.version).mentions; known = moved old.known d.key.form d.base d.version } → Moves k d.key.form d.base d.version at

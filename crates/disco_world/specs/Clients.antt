@@ -1,31 +1,18 @@
 -- Clients' copies, and the versions at which they are known.
-use Rattle.std.specs.Prelude.{◌≡◌, ◌≤◌, ℕ, ◌==◌, ◌&&◌, nat_le, Bool, true, false, List, [], length, map, if◌then◌else◌, Option, Some, None, option_map, Result, Ok, Err}
+use Rattle.std.specs.Prelude.{◌≡◌, ℕ, ◌==◌, Bool, true, false, List, [], map, if◌then◌else◌, Option, Some, None, option_map, Result, Ok, Err}
 use Rattle.std.specs.FinMap.{values}
 use Rattle.disco_instance.specs.declared.fault.Fault.{Fault}
-use Rattle.disco_instance.specs.declared.form.Form.{Form}
-use Rattle.disco_instance.specs.declared.form.Form.TheVariants.{Full, Compact}
-use Rattle.disco_history.specs.Change.{Entry, front}
-use Rattle.disco_history.specs.Forms.{in_form}
+use Rattle.disco_history.specs.Change.{Entry}
 use Rattle.disco_history.specs.Mentions.{copied, overlay}
-use Rattle.disco_history.specs.Registry.{reg}
 use Rattle.disco_wire.specs.Documents.{document_of}
 use Rattle.disco_wire.specs.Meaning.{Meaning}
 use Rattle.disco_writer.specs.Documents.{is_delta}
 use Rattle.disco_cache.specs.declared.payload.Payload.{Payload}
 use Rattle.disco_client.specs.Copies.{hash_equal}
+use Rattle.disco_client.specs.Tracks.{IsAt, moved}
+use Rattle.disco_client.specs.declared.known.Known.{Known}
 use Rattle.disco_world.specs.declared.clients.Client.{Client}
-use Rattle.disco_world.specs.declared.clients.Known.{Known}
 use Rattle.disco_world.specs.declared.holding.Holding.{Holding}
-
-abbrev pub same_form : Form → Form → Bool
-same_form Full Full = true
-same_form Compact Compact = true
-same_form _ _ = false
-
--- where a copy is known after a delta of a form from base o to version b: at b, where it was known in that form at a version from o to b
-abbrev pub moved : Option Known → Form → ℕ → ℕ → Option Known
-moved None f o b = None
-moved (Some at) f o b = if same_form at.form f && (nat_le o at.version && nat_le at.version b) then Some (record { form = f; version = b }) else None
 
 -- a document of all apps replaces the copy; a delta is overlaid on the copy that is there
 abbrev pub taken_by : Bool → Payload → Meaning → Option Client → Option Client
@@ -61,4 +48,4 @@ shown (Some c) = map (λ r. record { key = r.key; status = r.status }) (values c
 
 -- a copy that is known at a version is exactly that version of a history, in its form
 abbrev pub MeansVersion : List Entry → Client → Type 0
-MeansVersion h c = (at : Known) → c.known ≡ Some at → (at.version ≤ length h) × (c.copy ≡ in_form at.form (reg (front h at.version)))
+MeansVersion h c = (at : Known) → c.known ≡ Some at → IsAt h at c.copy

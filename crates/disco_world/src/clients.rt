@@ -5,26 +5,20 @@ ghost use Rattle.std.specs.Ordering.{nat_cmp};
 ghost use Rattle.disco_instance.specs.Row.{row};
 ghost use Rattle.disco_instance.specs.declared.fault.Fault.TheVariants.{OutOfMemory};
 ghost use Rattle.disco_client.specs.Copies.{hash_equal};
+ghost use Rattle.disco_client.specs.Tracks.{moved, same_form};
 ghost use Rattle.disco_wire.specs.Wire.{wire_meaning};
 ghost use Rattle.disco_writer.specs.Documents.{is_delta};
-ghost use Rattle.disco_world.specs.Clients.{moved, same_form, shown};
+ghost use Rattle.disco_world.specs.Clients.{shown};
 ghost use Rattle.disco_world.specs.Steps.{IsMeant, IsReadable, ClientTakes, holding};
 
 use crate::holding::{Holding, Holdings};
 use disco_cache::Payload;
-use disco_client::Copy;
+use disco_client::{Copy, Known};
 use disco_history::Held;
 use disco_instance::{Fault, Form, Text};
 use disco_wire::{Wire, read_document};
 use std::alloc::Global;
 use std::collections::BTreeMap;
-
-/// A form and a version at which a copy is known.
-#[derive(Clone, Copy, Debug)]
-pub(crate) struct Known {
-    pub(crate) form: Form,
-    pub(crate) version: u64,
-}
 
 /// A client's copy, and where it is known, if it is.
 #[derive(Drop)]

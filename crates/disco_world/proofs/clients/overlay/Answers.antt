@@ -3,7 +3,7 @@ use Rattle.std.specs.BTreeMap as tree
 use Rattle.std.specs.Ordering.{nat_cmp}
 use Rattle.disco_history.specs.Mentions.{overlay}
 use Rattle.disco_wire.specs.Wire.{wire_meaning}
-use Rattle.disco_world.specs.Clients.{moved}
+use Rattle.disco_client.specs.Tracks.{moved}
 use Rattle.disco_world.specs.declared.clients.Client.{Client}
 use Rattle.disco_world.proofs.Taking.{is_some_by, told_delta, took_delta, with_taken}
 use Rattle.disco_world.proofs.clients.overlay.Goals as goal

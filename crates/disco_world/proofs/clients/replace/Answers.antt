@@ -4,7 +4,7 @@ use Rattle.std.specs.Ordering.{nat_cmp}
 use Rattle.disco_history.specs.Mentions.{copied}
 use Rattle.disco_wire.specs.Wire.{wire_meaning}
 use Rattle.disco_world.specs.declared.clients.Client.{Client}
-use Rattle.disco_world.specs.declared.clients.Known.{Known}
+use Rattle.disco_client.specs.declared.known.Known.{Known}
 use Rattle.disco_world.proofs.Taking.{told_full, took_full, with_taken}
 use Rattle.disco_world.proofs.clients.replace.Goals as goal
 

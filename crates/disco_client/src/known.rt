@@ -1,0 +1,9 @@
+//! Where a copy is known.
+use disco_instance::Form;
+
+/// A form and a version at which a copy is known.
+#[derive(Clone, Copy, Debug, PartialEq, Eq)]
+pub struct Known {
+    pub form: Form,
+    pub version: u64,
+}
