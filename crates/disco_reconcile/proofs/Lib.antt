@@ -1,0 +1,3 @@
+mod Exactness
+mod Following
+mod Steps

@@ -1,0 +1,108 @@
+-- Which fetches a refresh makes, and what it does with what they tell.
+use Rattle.std.specs.Prelude.{◌≡◌, Bool, true, false, List, [], ◌∷◌, Option, Some, None, Result, Ok, Err}
+use Rattle.disco_instance.specs.Instance.{Gives}
+use Rattle.disco_instance.specs.declared.fault.Fault.{Fault}
+use Rattle.disco_instance.specs.declared.fault.Fault.TheVariants.{NotFetched}
+use Rattle.disco_instance.specs.declared.form.Form.{Form}
+use Rattle.disco_history.specs.Mentions.{copied, overlay}
+use Rattle.disco_wire.specs.Meaning.{Meaning}
+use Rattle.disco_writer.specs.Documents.{is_delta}
+use Rattle.disco_writer.specs.declared.query.Query.{Query}
+use Rattle.disco_writer.specs.declared.query.Query.TheVariants as query
+use Rattle.disco_cache.specs.declared.key.DocKey.{DocKey}
+use Rattle.disco_client.specs.Copies.{hash_equal}
+use Rattle.disco_reconcile.specs.State.{Rows}
+use Rattle.disco_reconcile.specs.Told.{Answer, told_by}
+use Rattle.disco_reconcile.specs.declared.fetch.Fetched.{Fetched}
+use Rattle.disco_reconcile.specs.declared.refreshed.Refreshed.{Refreshed}
+use Rattle.disco_reconcile.specs.declared.refreshed.Refreshed.TheVariants.{Full, Delta, DeltaThenFull}
+
+-- ---- fetches
+
+-- a fetch: what was asked for, what was answered, and what the client takes it to tell
+pub record Exchange : Type 0 where
+  pub query : Query
+  pub answer : Result Fetched Fault
+  pub told : Answer
+
+abbrev pub exchange : Query → Result Fetched Fault → Answer → Exchange
+exchange q answer told = record { query = q; answer = answer; told = told }
+
+abbrev pub key_of : Query → Form → DocKey
+key_of q f = record { query = q; form = f }
+
+-- the answer is one that the fetcher may give, and the client takes it as it is, or finds no memory for it
+pub record IsFetched {S : Type 0} (gives : S → DocKey → Result Fetched Fault → S → Type 0) (f : Form) (old : S) (x : Exchange) (new : S) : Type 0 where
+  pub given : gives old (key_of x.query f) x.answer new
+  pub told : Gives (λ t. t) x.told (told_by (is_delta x.query) x.answer)
+
+-- fetches one after another
+abbrev pub AreFetched : {S : Type 0} → (S → DocKey → Result Fetched Fault → S → Type 0) → Form → S → List Exchange → S → Type 0
+AreFetched gives f old [] new = new ≡ old
+AreFetched {S} gives f old (x ∷ xs) new = (mid : S) × IsFetched gives f old x mid × AreFetched gives f mid xs new
+
+-- ---- what a kind of client makes of documents; K is what it keeps once it has a copy
+
+-- after a delta: whether that is all, and what is kept
+abbrev pub OfDelta : Type 0 → Type 0
+OfDelta K = K → Meaning → Bool × K
+
+-- what a refresh comes to
+pub record Outcome (K : Type 0) : Type 0 where
+  pub answer : Result Refreshed Fault
+  pub kept : Option K
+
+abbrev pub outcome : {K : Type 0} → Result Refreshed Fault → Option K → Outcome K
+outcome answer kept = record { answer = answer; kept = kept }
+
+-- after a full document
+abbrev pub OfFull : Type 0 → Type 0
+OfFull K = Refreshed → Option K → Meaning → Outcome K
+
+-- ---- the order of the fetches
+
+abbrev pub full_by : {K : Type 0} → OfFull K → Refreshed → Option K → Answer → Outcome K
+full_by full done held (Err e) = outcome (Err e) held
+full_by full done held (Ok None) = outcome (Err NotFetched) held
+full_by full done held (Ok (Some m)) = full done held m
+
+-- all apps are fetched, and nothing else
+pub record IsFull {K : Type 0} (full : OfFull K) (done : Refreshed) (held : Option K) (log : List Exchange) (o : Outcome K) : Type 0 where
+  pub answer : Result Fetched Fault
+  pub told : Answer
+  pub log_is : log ≡ exchange query.Apps answer told ∷ []
+  pub comes : o ≡ full_by full done held told
+
+-- after the delta: nothing more where that is all, else a full document
+abbrev pub IsRest : {K : Type 0} → OfFull K → Bool × K → List Exchange → Outcome K → Type 0
+IsRest full (true, k) rest o = (rest ≡ []) × (o ≡ outcome (Ok Delta) (Some k))
+IsRest full (false, k) rest o = IsFull full DeltaThenFull (Some k) rest o
+
+-- after what was told of the delta: nothing more where it was refused, a full document where there is none
+abbrev pub Follows : {K : Type 0} → OfDelta K → OfFull K → K → Answer → List Exchange → Outcome K → Type 0
+Follows delta full k (Err e) rest o = (rest ≡ []) × (o ≡ outcome (Err e) (Some k))
+Follows delta full k (Ok None) rest o = IsFull full Full (Some k) rest o
+Follows delta full k (Ok (Some m)) rest o = IsRest full (delta k m) rest o
+
+-- the delta is fetched first
+pub record IsDeltaFirst {K : Type 0} (delta : OfDelta K) (full : OfFull K) (k : K) (log : List Exchange) (o : Outcome K) : Type 0 where
+  pub answer : Result Fetched Fault
+  pub told : Answer
+  pub rest : List Exchange
+  pub log_is : log ≡ exchange query.Delta answer told ∷ rest
+  pub comes : Follows delta full k told rest o
+
+-- a refresh: without a copy all apps are fetched, with one the delta comes first
+abbrev pub IsCourse : {K : Type 0} → OfDelta K → OfFull K → Option K → List Exchange → Outcome K → Type 0
+IsCourse delta full None log o = IsFull full Full None log o
+IsCourse delta full (Some k) log o = IsDeltaFirst delta full k log o
+
+-- ---- plain clients (Eureka's)
+
+-- a delta is overlaid, and is all where the hash codes are equal
+abbrev pub plain_delta : OfDelta Rows
+plain_delta s m = let rows = overlay s m.mentions in (hash_equal m.hash rows, rows)
+
+-- a full document is the copy
+abbrev pub plain_full : OfFull Rows
+plain_full done held m = outcome (Ok done) (Some (copied m.mentions))

@@ -1,0 +1,53 @@
+-- Only what code keeps: nothing here is to be believed.
+use Rattle.std.specs.Prelude.{◌≡◌, Bool, true, false, List, Option, Some, None, option_map, Result, Ok, Err}
+use Rattle.disco_instance.specs.Instance.{Gives}
+use Rattle.disco_instance.specs.declared.fault.Fault.{Fault}
+use Rattle.disco_instance.specs.declared.form.Form.{Form}
+use Rattle.disco_wire.specs.Wire.{wire_meaning}
+use Rattle.disco_wire.specs.declared.wire.Wire.{Wire}
+use Rattle.disco_writer.specs.Documents.{is_delta}
+use Rattle.disco_writer.specs.declared.query.Query.{Query}
+use Rattle.disco_writer.specs.declared.query.Query.TheVariants as query
+use Rattle.disco_cache.specs.declared.key.DocKey.{DocKey}
+use Rattle.disco_reconcile.specs.Courses.{AreFetched, Exchange, IsCourse, IsFetched, OfDelta, OfFull, exchange, full_by, key_of, outcome}
+use Rattle.disco_reconcile.specs.Told.{Answer, told_by}
+use Rattle.disco_reconcile.specs.declared.fetch.Fetched.{Fetched}
+use Rattle.disco_reconcile.specs.declared.refreshed.Refreshed.{Refreshed}
+use Rattle.disco_reconcile.specs.declared.refreshed.Refreshed.TheVariants.{Full, DeltaThenFull}
+
+-- a document was asked for, and this is what the answer tells
+pub record IsAsked {S : Type 0} (gives : S → DocKey → Result Fetched Fault → S → Type 0) (q : Query) (f : Form) (old : S) (result : Result (Option Wire) Fault) (new : S) : Type 0 where
+  pub answer : Result Fetched Fault
+  pub given : gives old (key_of q f) answer new
+  pub told : Gives (option_map wire_meaning) result (told_by (is_delta q) answer)
+
+-- the fetches were made, and came to this
+pub record Goes {S K : Type 0} (gives : S → DocKey → Result Fetched Fault → S → Type 0) (delta : OfDelta K) (full : OfFull K) (f : Form) (before : S) (held : Option K) (result : Result Refreshed Fault) (after : S) (kept : Option K) : Type 0 where
+  pub log : List Exchange
+  pub fetched : AreFetched gives f before log after
+  pub course : IsCourse delta full held log (outcome result kept)
+
+-- all apps were fetched
+pub record TakesFull {S K : Type 0} (gives : S → DocKey → Result Fetched Fault → S → Type 0) (full : OfFull K) (f : Form) (done : Refreshed) (before : S) (held : Option K) (result : Result Refreshed Fault) (after : S) (kept : Option K) : Type 0 where
+  pub answer : Result Fetched Fault
+  pub told : Answer
+  pub fetched : IsFetched gives f before (exchange query.Apps answer told) after
+  pub comes : outcome result kept ≡ full_by full done held told
+
+-- what a full document that follows the delta is answered with, if one follows
+abbrev pub following : Bool → Option Refreshed
+following true = None
+following false = Some DeltaThenFull
+
+-- what is kept after what was told of the delta, and what follows
+abbrev pub StepTo : {K : Type 0} → OfDelta K → K → Answer → Result (Option Refreshed) Fault → K → Type 0
+StepTo delta k (Err e) result l = (result ≡ Err e) × (l ≡ k)
+StepTo delta k (Ok None) result l = (result ≡ Ok (Some Full)) × (l ≡ k)
+StepTo delta k (Ok (Some m)) result l = (result ≡ Ok (following ((delta k m).0))) × (l ≡ (delta k m).1)
+
+-- the delta was fetched
+pub record IsStep {S K : Type 0} (gives : S → DocKey → Result Fetched Fault → S → Type 0) (delta : OfDelta K) (f : Form) (before : S) (held : K) (result : Result (Option Refreshed) Fault) (after : S) (kept : K) : Type 0 where
+  pub answer : Result Fetched Fault
+  pub told : Answer
+  pub fetched : IsFetched gives f before (exchange query.Delta answer told) after
+  pub comes : StepTo delta held told result kept

@@ -1,0 +1,37 @@
+-- What the answer to a fetch tells a client.
+use Rattle.std.specs.Prelude.{◌==◌, ◌&&◌, ◌||◌, ℕ, Bool, if◌then◌else◌, Option, Some, None, Result, Ok, Err}
+use Rattle.disco_instance.specs.declared.fault.Fault.{Fault}
+use Rattle.disco_instance.specs.declared.fault.Fault.TheVariants.{OutOfMemory, BadDocument, NotFetched}
+use Rattle.disco_wire.specs.Documents.{document_of}
+use Rattle.disco_wire.specs.Meaning.{Meaning}
+use Rattle.disco_wire.specs.declared.wire.Shape.{Shape}
+use Rattle.disco_wire.specs.declared.wire.Shape.TheVariants.{Many, App, One}
+use Rattle.disco_reconcile.specs.declared.fetch.Fetched.{Fetched}
+
+-- a document, that there is none, or why nothing is told
+abbrev pub Answer : Type 0
+Answer = Result (Option Meaning) Fault
+
+abbrev pub of_shape : Shape → Meaning → Answer
+of_shape Many m = Ok (Some m)
+of_shape App m = Err BadDocument
+of_shape One m = Err BadDocument
+
+-- a document of many apps, or that the bytes are none
+abbrev pub told_of : Result Meaning Fault → Answer
+told_of (Err e) = Err BadDocument
+told_of (Ok m) = of_shape m.shape m
+
+-- the statuses that say that there is no delta
+abbrev pub is_none : Bool → ℕ → Bool
+is_none delta status = delta && (status == 403 || status == 404)
+
+-- why nothing was fetched
+abbrev pub failed_as : Fault → Fault
+failed_as OutOfMemory = OutOfMemory
+failed_as _ = NotFetched
+
+-- what an answer tells of the delta, or of all apps
+abbrev pub told_by : Bool → Result Fetched Fault → Answer
+told_by delta (Err e) = Err (failed_as e)
+told_by delta (Ok x) = if x.status == 200 then told_of (document_of x.body) else if is_none delta x.status then Ok None else Err NotFetched

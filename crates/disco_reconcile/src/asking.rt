@@ -1,0 +1,74 @@
+//! Asking for a document.
+ghost use Rattle.std.specs.Prelude.{◌≡◌, ◌⊎◌, ◌==◌, ◌||◌, ◌&&◌, option_map};
+ghost use Rattle.disco_instance.specs.Instance.{Gives};
+ghost use Rattle.disco_wire.specs.Documents.{document_of};
+ghost use Rattle.disco_wire.specs.Wire.{wire_meaning};
+ghost use Rattle.disco_writer.specs.declared.query.Query.TheVariants.{Apps, Delta};
+ghost use Rattle.disco_reconcile.specs.Steps.{IsAsked};
+ghost use Rattle.disco_reconcile.specs.Failures.{Gave};
+ghost use Rattle.disco_reconcile.specs.Told.{is_none, told_by, told_of};
+
+use crate::fetch::{Fetch, Fetched};
+use disco_cache::DocKey;
+use disco_instance::{Fault, Form};
+use disco_wire::{Shape, Wire, read_document};
+use disco_writer::Query;
+use std::alloc::Global;
+
+/// Whether a status says that there is no delta.
+fn is_none(delta: bool, status: u16) -> bool
+    ensures { result ≡ is_none delta status }
+{
+    delta && (status == 403 || status == 404)
+}
+
+/// The document that a body is, which has to be of many apps.
+fn read(alloc: Global, body: &[u8]) -> Result<Option<Wire>, Fault>
+    ensures { Gives (option_map wire_meaning) result (told_of (document_of body.now)) }
+{
+    match read_document(alloc, body) {
+        Ok(wire) => match wire.shape {
+            Shape::Many => Ok(Some(wire)),
+            Shape::App | Shape::One => Err(Fault::BadDocument),
+        },
+        Err(Fault::OutOfMemory) => Err(Fault::OutOfMemory),
+        Err(_) => Err(Fault::BadDocument),
+    }
+}
+
+/// What an answer tells.
+fn told(alloc: Global, delta: bool, answer: Result<Fetched, Fault>) -> Result<Option<Wire>, Fault>
+    ensures { Gives (option_map wire_meaning) result (told_by delta answer) }
+{
+    match answer {
+        Ok(fetched) => {
+            if fetched.status == 200 {
+                read(alloc, fetched.body.as_slice())
+            } else if is_none(delta, fetched.status) {
+                Ok(None)
+            } else {
+                Err(Fault::NotFetched)
+            }
+        }
+        Err(Fault::OutOfMemory) => Err(Fault::OutOfMemory),
+        Err(_) => Err(Fault::NotFetched),
+    }
+}
+
+/// Asks for all apps or for the delta. None where there is no delta. Refused as `BadDocument` where
+/// the body is no document of many apps, as `NotFetched` where the fetch failed or its status tells
+/// nothing, and as `OutOfMemory`.
+pub(crate) fn ask<F: Fetch>(
+    alloc: Global,
+    fetcher: &mut F,
+    query: Query,
+    form: Form,
+) -> Result<Option<Wire>, Fault>
+    requires { (query ≡ Apps) ⊎ (query ≡ Delta) }
+    ensures { IsAsked (Gave F.gives F.failed) query form fetcher.old result fetcher.new }
+{
+    let delta = query.is_delta();
+    let key = DocKey { query, form };
+    let answer = fetcher.fetch(&key);
+    told(alloc, delta, answer)
+}

@@ -1,0 +1,18 @@
+//! A client that keeps a copy of a registry by fetching documents.
+//!
+//! It knows neither server nor connection: a `Fetch` says by a relation of its own what a fetch may
+//! answer, and what the client makes of the answers is a function of them. `HttpFetch` fetches over
+//! one connection.
+#![tactic(auto)]
+
+mod asking;
+mod client;
+mod fetch;
+mod http_fetch;
+mod plain;
+mod refreshed;
+
+pub use client::Client;
+pub use fetch::{Fetch, Fetched};
+pub use http_fetch::HttpFetch;
+pub use refreshed::Refreshed;

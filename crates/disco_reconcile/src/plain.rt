@@ -1,0 +1,75 @@
+//! A refresh of a plain client, as Eureka's.
+ghost use Rattle.std.specs.Prelude.{◌≡◌};
+ghost use Rattle.disco_reconcile.specs.Courses.{plain_delta, plain_full};
+ghost use Rattle.disco_reconcile.specs.Failures.{Gave};
+ghost use Rattle.disco_reconcile.specs.Steps.{Goes, IsStep, TakesFull};
+
+use crate::asking::ask;
+use crate::fetch::Fetch;
+use crate::refreshed::Refreshed;
+use disco_client::Copy;
+use disco_instance::{Fault, Form};
+use disco_writer::Query;
+use std::alloc::Global;
+
+/// Fetches all apps, which become the copy.
+fn take_full<F: Fetch>(
+    alloc: Global,
+    fetcher: &mut F,
+    form: Form,
+    held: &mut Option<Copy>,
+    done: Refreshed,
+) -> Result<Refreshed, Fault>
+    ensures { TakesFull (Gave F.gives F.failed) plain_full form done fetcher.old held.old result fetcher.new held.new }
+{
+    match ask(alloc, fetcher, Query::Apps, form)? {
+        Some(wire) => {
+            let mut copy = Copy::new(alloc);
+            copy.full(wire)?;
+            *held = Some(copy);
+            Ok(done)
+        }
+        None => Err(Fault::NotFetched),
+    }
+}
+
+/// Fetches the delta and overlays it. Says what a full document that has to follow is answered
+/// with, if one has to.
+fn take_delta<F: Fetch>(
+    alloc: Global,
+    fetcher: &mut F,
+    form: Form,
+    copy: &mut Copy,
+) -> Result<Option<Refreshed>, Fault>
+    ensures { IsStep (Gave F.gives F.failed) plain_delta form fetcher.old copy.old result fetcher.new copy.new }
+{
+    match ask(alloc, fetcher, Query::Delta, form)? {
+        Some(wire) => {
+            if copy.overlay(wire)?.hash_equal {
+                Ok(None)
+            } else {
+                Ok(Some(Refreshed::DeltaThenFull))
+            }
+        }
+        None => Ok(Some(Refreshed::Full)),
+    }
+}
+
+/// Brings a copy up to date.
+pub(crate) fn refresh<F: Fetch>(
+    alloc: Global,
+    fetcher: &mut F,
+    form: Form,
+    held: &mut Option<Copy>,
+) -> Result<Refreshed, Fault>
+    ensures { Goes (Gave F.gives F.failed) plain_delta plain_full form fetcher.old held.old result fetcher.new held.new }
+{
+    let done = match held {
+        Some(copy) => match take_delta(alloc, fetcher, form, copy)? {
+            Some(done) => done,
+            None => return Ok(Refreshed::Delta),
+        },
+        None => Refreshed::Full,
+    };
+    take_full(alloc, fetcher, form, held, done)
+}
