@@ -1,5 +1,6 @@
 -- What a hub does is answered.
-use Rattle.std.proofs.Common.{◌≡◌, ◌≢◌, ◌⊎◌, inl, inr, ℕ, true, List, Option, Some, None, Result, Ok, Err, IfOk, IfErr, OnErr, MatchResult, refl, sym, ap, subst, ◌∙◌, arith}
+use Rattle.std.proofs.Common.{◌≡◌, ◌≢◌, ◌⊎◌, inl, inr, ℕ, true, List, [], ◌∷◌, ◌++◌, Option, Some, None, Result, Ok, Err, IfOk, IfErr, OnErr, MatchResult, refl, sym, ap, subst, ◌∙◌, arith, append-nil}
+use Rattle.std.proofs.lemmas.List.{map-append}
 use Rattle.std.specs.declared.alloc.Global.{Global}
 use Rattle.std.specs.declared.sync.Arc.{Arc}
 use Rattle.disco_instance.specs.Fault.{fault_number}
@@ -7,8 +8,10 @@ use Rattle.disco_instance.specs.declared.fault.Fault.{Fault}
 use Rattle.disco_instance.specs.declared.fault.Fault.TheVariants.{OutOfMemory}
 use Rattle.disco_instance.specs.declared.form.Form.{Form}
 use Rattle.disco_instance.specs.declared.key.Key.{Key}
+use Rattle.disco_history.specs.Change.{Entry}
 use Rattle.disco_cache.specs.declared.key.DocKey.{DocKey}
 use Rattle.disco_cache.specs.declared.payload.Payload.{Payload}
+use Rattle.disco_queue.specs.Timed.{Timed}
 use Rattle.disco_core.specs.Past.{Past, history, with_done}
 use Rattle.disco_core.specs.Refusals.{doc_of_id, doc_of_key, refusal_of, refusal_of_id}
 use Rattle.disco_hub.specs.State.{MayServe, StandsFor, State, rules_of}
@@ -25,6 +28,26 @@ use Rattle.disco_answers.specs.Replies.{IsAnswered, IsReply, Replies, Shows, Doe
 memory_or : (e : Fault) → (e ≡ OutOfMemory) ⊎ (e ≢ OutOfMemory)
 memory_or OutOfMemory = inl refl
 memory_or e = inr (λ is. let bad : fault_number e ≡ 1 = ap fault_number is in omega (arith, bad))
+
+-- a reply, with the changes that come behind what has happened
+abbrev pub Follows : State → State → Result Asks Fault → ℕ → Answer → List Entry → Type 0
+Follows old new asked now y cs = (p : Past) → StandsFor old p → (q : Past) × IsReply (rules_of old) p asked now y q × (history q ≡ history p ++ cs) × StandsFor new q
+
+pub answered_so : (old new : State) (asked : Result Asks Fault) (now : ℕ) (y : Answer) (cs : List Entry) → Follows old new asked now y cs → IsAnswered old new asked now y
+answered_so old new asked now y cs follows = λ p stands. let r = follows p stands in (r.0, r.1, r.3)
+
+-- the changes of an operation
+abbrev pub changes_of : Option Entry → List Entry
+changes_of None = []
+changes_of (Some c) = c ∷ []
+
+abbrev pub changes_by : Result Applied Fault → List Entry
+changes_by (Ok a) = changes_of (done_by a)
+changes_by (Err e) = []
+
+history_done : (most : ℕ) (p : Past) (now : ℕ) (ask : Ask) (o : Option Entry) → history (with_done most p now ask o) ≡ history p ++ changes_of o
+history_done most p now ask None = sym (append-nil (history p))
+history_done most p now ask (Some c) = map-append (λ (t : Timed). t.0) p.timed ((c, now) ∷ [])
 
 module _ (old new : State) (now : ℕ) (y : Answer) where
   -- a document that was asked for: `asked` is it, or why it isn't served, by what has happened
@@ -43,28 +66,33 @@ module _ (old new : State) (now : ℕ) (y : Answer) where
   -- an operation
   pub written : (ask : Ask) (r : Result Applied Fault) → IfOk r (λ a. accepts old.core.registry ask now ≡ Ok (done_by a)) → IfErr r (Refuses old.core.registry ask now)
       → IfOk r (λ a. (p : Past) → StandsFor old p → StandsFor new (with_done (rules_of old).queue p now ask (done_by a))) → OnErr r ((p : Past) → StandsFor old p → StandsFor new p)
-      → MatchResult r (λ a. y ≡ plain (success_of ask)) (λ e. y ≡ refused e) → IsAnswered old new (Ok (writes ask)) now y
+      → MatchResult r (λ a. y ≡ plain (success_of ask)) (λ e. y ≡ refused e) → Follows old new (Ok (writes ask)) now y (changes_by r)
   written ask (Ok a) done why after stays is = λ p stands.
       let accepted = sym (accepts_after old.core.registry (history p) stands.core.registry ask now) ∙ done in
-      let q = with_done (rules_of old).queue p now ask (done_by a) in
-      (q, inl (subst (λ r. Does (rules_of old) p ask now r y q) (sym accepted) (is, refl)), after p stands)
-  written ask (Err e) done why after stays is = λ p stands. elim (memory_or e) [
-    | inl memory ↦ (p, inr (is ∙ ap refused memory, refl), stays p stands)
-    | inr other ↦
-        let refuses = sym (accepts_after old.core.registry (history p) stands.core.registry ask now) ∙ why other in
-        (p, inl (subst (λ r. Does (rules_of old) p ask now r y p) (sym refuses) (is, refl)), stays p stands)
-  ]
+      let most = (rules_of old).queue in
+      let q = with_done most p now ask (done_by a) in
+      (q, inl (subst (λ r. Does (rules_of old) p ask now r y q) (sym accepted) (is, refl)), history_done most p now ask (done_by a), after p stands)
+  written ask (Err e) done why after stays is = λ p stands.
+      let none = sym (append-nil (history p)) in
+      elim (memory_or e) [
+        | inl memory ↦ (p, inr (is ∙ ap refused memory, refl), none, stays p stands)
+        | inr other ↦
+            let refuses = sym (accepts_after old.core.registry (history p) stands.core.registry ask now) ∙ why other in
+            (p, inl (subst (λ r. Does (rules_of old) p ask now r y p) (sym refuses) (is, refl)), none, stays p stands)
+      ]
 
 -- a path that lacks the method
 pub lacked : (s : State) (allow : Allow) (now : ℕ) (y : Answer) → y ≡ lacking allow → IsAnswered s s (Ok (lacks allow)) now y
 lacked s allow now y is = λ p stands. (p, inl (is, refl), stands)
 
 -- a request that is refused for itself
-pub refused_so : (s : State) (asked : Result Asks Fault) (e : Fault) (now : ℕ) (y : Answer) → (e ≢ OutOfMemory → asked ≡ Err e) → y ≡ refused e → IsAnswered s s asked now y
-refused_so s asked e now y why is = λ p stands. elim (memory_or e) [
-  | inl memory ↦ (p, inr (is ∙ ap refused memory, refl), stands)
-  | inr other ↦ (p, inl (subst (λ r. Replies (rules_of s) p r now y p) (sym (why other)) (is, refl)), stands)
-]
+pub refused_so : (s : State) (asked : Result Asks Fault) (e : Fault) (now : ℕ) (y : Answer) → (e ≢ OutOfMemory → asked ≡ Err e) → y ≡ refused e → Follows s s asked now y []
+refused_so s asked e now y why is = λ p stands.
+    let none = sym (append-nil (history p)) in
+    elim (memory_or e) [
+      | inl memory ↦ (p, inr (is ∙ ap refused memory, refl), none, stands)
+      | inr other ↦ (p, inl (subst (λ r. Replies (rules_of s) p r now y p) (sym (why other)) (is, refl)), none, stands)
+    ]
 
 -- a load of a key
 pub load_so : (old new : State) (key : DocKey) (now : ℕ) (y : Answer) (r : Result (Arc Payload Global) Fault) → IfOk r (λ d. d.value.key ≡ key) → IfOk r (λ d. (p : Past) → StandsFor old p → MayServe d.value p)

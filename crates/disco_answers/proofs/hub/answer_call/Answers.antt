@@ -4,7 +4,7 @@ use Rattle.disco_calls.specs.declared.call.Call.{Call}
 use Rattle.disco_message.specs.ReplyText.{answer_of}
 use Rattle.disco_answers.specs.Replies.{IsAnswered, text_in}
 use Rattle.disco_answers.proofs.Answering.{lacked}
-use Rattle.disco_answers.proofs.answer.answer_call.Goals as goal
+use Rattle.disco_answers.proofs.hub.answer_call.Goals as goal
 
 pub returns-in-Lacks-clause-answered : goal.returns-in-Lacks-clause-answered
 returns-in-Lacks-clause-answered c =

@@ -3,7 +3,7 @@ use Rattle.disco_calls.specs.Calls.{shows_id}
 use Rattle.disco_message.specs.ReplyText.{answer_of}
 use Rattle.disco_answers.specs.Replies.{IsAnswered, text_in}
 use Rattle.disco_answers.proofs.Answering.{by_id_so}
-use Rattle.disco_answers.proofs.answer.by_id.Goals as goal
+use Rattle.disco_answers.proofs.hub.by_id.Goals as goal
 
 pub returns-clause-answered : goal.returns-clause-answered
 returns-clause-answered c =

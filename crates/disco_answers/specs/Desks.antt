@@ -1,0 +1,50 @@
+-- Replies of a desk to a seat, and of a seat's own look.
+use Rattle.std.specs.Prelude.{◌≡◌, ◌⊎◌, ◌≤◌, ℕ, ◌+◌, List, ◌++◌, length, map, Result, Ok}
+use mathlib.Core.List.{IsPrefix}
+use Rattle.std.specs.declared.alloc.Global.{Global}
+use Rattle.std.specs.declared.sync.Arc.{Arc}
+use Rattle.disco_instance.specs.declared.fault.Fault.{Fault}
+use Rattle.disco_history.specs.Change.{Entry}
+use Rattle.disco_cache.specs.declared.key.DocKey.{DocKey}
+use Rattle.disco_cache.specs.declared.payload.Payload.{Payload}
+use Rattle.disco_core.specs.Past.{Past, history}
+use Rattle.disco_hub.specs.Press.{change}
+use Rattle.disco_hub.specs.State.{StandsFor, rules_of}
+use Rattle.disco_press.specs.Desks.{DeskState, IsValid, Notes}
+use Rattle.disco_press.specs.Looks.{Shows}
+use Rattle.disco_press.specs.Rolls.{notes_in}
+use Rattle.disco_press.specs.Seats.{SeatState}
+use Rattle.disco_press.specs.declared.seat.Looked.TheVariants.{Doc}
+use Rattle.disco_message.specs.ReplyText.{Answer}
+use Rattle.disco_calls.specs.Calls.{Asks, loads}
+use Rattle.disco_answers.specs.Replies.{IsReply, with_document}
+
+-- these changes are noted, and counted by the seat; whatever has happened before, this is a reply to it, they come behind it, and the desk stands for what has happened after
+pub record IsAnsweredOn (old new : DeskState) (before after : SeatState) (asked : Result Asks Fault) (now : ℕ) (y : Answer) : Type 0 where
+  pub changes : List Entry
+  pub noted : Notes (map change changes) old new
+  pub counted : after.changes ≡ before.changes + length changes
+  pub replied : (p : Past) → StandsFor old.hub p → (q : Past) × IsReply (rules_of old.hub) p asked now y q × (history q ≡ history p ++ changes) × StandsFor new.hub q
+
+-- so some desk has answered, which had no fewer changes than the seat and had published what the seat knew; then the seat knows what it has published
+pub record IsAnsweredBySome (before after : SeatState) (asked : Result Asks Fault) (now : ℕ) (y : Answer) : Type 0 where
+  pub old : DeskState
+  pub new : DeskState
+  pub valid : IsValid old
+  pub bound : before.changes ≤ old.hub.core.registry.version
+  pub knew : IsPrefix before.known old.published
+  pub answered : IsAnsweredOn old new before after asked now y
+  pub knows : after.known ≡ new.published
+
+-- a document is asked for, and is shown by what the seat knows then; nothing is counted
+pub record IsLooked (before after : SeatState) (asked : Result Asks Fault) (y : Answer) : Type 0 where
+  pub key : DocKey
+  pub doc : Arc Payload Global
+  pub asks : asked ≡ Ok (loads key)
+  pub found : Shows (notes_in after.known) key (Doc doc)
+  pub replied : y ≡ with_document doc.value.text
+  pub counted : after.changes ≡ before.changes
+
+-- a look of the seat is the reply, or that of some desk
+abbrev pub IsTold : SeatState → SeatState → Result Asks Fault → ℕ → Answer → Type 0
+IsTold before after asked now y = IsLooked before after asked y ⊎ IsAnsweredBySome before after asked now y

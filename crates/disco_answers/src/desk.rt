@@ -1,0 +1,147 @@
+//! Answers of a desk to a seat.
+ghost use Rattle.std.specs.Prelude.{◌≡◌, ◌≤◌, Ok, Result};
+ghost use mathlib.Core.List.{IsPrefix};
+ghost use Rattle.disco_instance.specs.Instance.{Gives};
+ghost use Rattle.disco_instance.specs.declared.fault.Fault.{Fault};
+ghost use Rattle.disco_hub.specs.State.{rules_of};
+ghost use Rattle.disco_message.specs.ReplyText.{answer_of};
+ghost use Rattle.disco_calls.specs.Calls.{Asks, call, loads, seen, shows, shows_id, writes};
+ghost use Rattle.disco_press.specs.Desks.{IsValid, NotesNothing};
+ghost use Rattle.disco_registry.specs.Op.{ask_of};
+ghost use Rattle.disco_answers.specs.Desks.{IsAnsweredOn};
+ghost use Rattle.disco_answers.specs.Replies.{IsAnswered, text_in};
+
+use crate::replies::{lacking, refused, showing, success_of, wrote};
+use crate::shared::Shared;
+use disco_cache::DocKey;
+use disco_calls::{Call, call_of};
+use disco_instance::{Fault, Form, Key, Text};
+use disco_message::{Reply, Request};
+use disco_press::{Desk, Naming, Seat};
+use disco_registry::Op;
+use disco_routes::Routes;
+use std::alloc::Global;
+
+/// Serves the document of a key.
+fn load<J: Naming>(desk: &mut Desk<J>, key: &DocKey, now: u64) -> Reply<Shared>
+    ensures answered { IsAnswered desk.old.hub desk.new.hub (Ok (loads key.now)) now (answer_of text_in result) }
+    ensures noted { NotesNothing desk.old desk.new }
+    ensures rules { rules_of desk.new.hub ≡ rules_of desk.old.hub }
+    ensures rounds { desk.new.hub.rounds ≡ desk.old.hub.rounds }
+    ensures room { desk.new.hub.docs.max ≡ desk.old.hub.docs.max }
+{
+    showing(desk.load(key))
+}
+
+/// Serves the document of an instance.
+fn instance<J: Naming>(desk: &Desk<J>, key: &Key, form: Form, now: u64) -> Reply<Shared>
+    ensures { IsAnswered desk.now.hub desk.now.hub (Ok (shows key.now form)) now (answer_of text_in result) }
+{
+    showing(desk.instance(key, form))
+}
+
+/// Serves the document of the instance of an id.
+fn by_id<J: Naming>(desk: &Desk<J>, id: &Text, form: Form, now: u64) -> Reply<Shared>
+    ensures { IsAnswered desk.now.hub desk.now.hub (Ok (shows_id id.now form)) now (answer_of text_in result) }
+{
+    showing(desk.by_id(id.as_str(), form))
+}
+
+/// Does an operation for a seat.
+fn write<J: Naming>(desk: &mut Desk<J>, seat: &mut Seat<J>, op: Op, now: u64) -> Reply<Shared>
+    ensures answered { IsAnsweredOn desk.old desk.new seat.old seat.new (Ok (writes (ask_of op))) now (answer_of text_in result) }
+    ensures known { seat.new.known ≡ seat.old.known }
+    ensures rules { rules_of desk.new.hub ≡ rules_of desk.old.hub }
+    ensures rounds { desk.new.hub.rounds ≡ desk.old.hub.rounds }
+    ensures room { desk.new.hub.docs.max ≡ desk.old.hub.docs.max }
+{
+    let success = success_of(&op);
+    wrote(desk.write_as(seat, op, now), success)
+}
+
+/// Does what is called for.
+fn answer_call<J: Naming>(
+    desk: &mut Desk<J>,
+    seat: &mut Seat<J>,
+    call: Call,
+    now: u64,
+) -> Reply<Shared>
+    ensures answered { IsAnsweredOn desk.old desk.new seat.old seat.new (Ok (seen call)) now (answer_of text_in result) }
+    ensures known { seat.new.known ≡ seat.old.known }
+    ensures rules { rules_of desk.new.hub ≡ rules_of desk.old.hub }
+    ensures rounds { desk.new.hub.rounds ≡ desk.old.hub.rounds }
+    ensures room { desk.new.hub.docs.max ≡ desk.old.hub.docs.max }
+{
+    match call {
+        Call::Load(key) => load(desk, &key, now),
+        Call::Instance(key, form) => instance(desk, &key, form, now),
+        Call::ById(id, form) => by_id(desk, &id, form, now),
+        Call::Write(op) => write(desk, seat, op, now),
+        Call::Lacks(allow) => lacking(allow),
+    }
+}
+
+/// Does what is called for, or says why nothing is.
+fn answer_called<J: Naming>(
+    desk: &mut Desk<J>,
+    seat: &mut Seat<J>,
+    called: Result<Call, Fault>,
+    now: u64,
+) -> Reply<Shared>
+    ensures answered { (asked : Result Asks Fault) → Gives seen called asked → IsAnsweredOn desk.old desk.new seat.old seat.new asked now (answer_of text_in result) }
+    ensures known { seat.new.known ≡ seat.old.known }
+    ensures rules { rules_of desk.new.hub ≡ rules_of desk.old.hub }
+    ensures rounds { desk.new.hub.rounds ≡ desk.old.hub.rounds }
+    ensures room { desk.new.hub.docs.max ≡ desk.old.hub.docs.max }
+{
+    match called {
+        Ok(call) => answer_call(desk, seat, call, now),
+        Err(fault) => refused(fault),
+    }
+}
+
+/// As [`answer_on`], of a request that has been read.
+pub(crate) fn answer_read<J: Naming>(
+    desk: &mut Desk<J>,
+    seat: &mut Seat<J>,
+    called: Result<Call, Fault>,
+    now: u64,
+) -> Reply<Shared>
+    ensures valid { IsValid desk.old }
+    ensures bound { seat.old.changes ≤ desk.old.hub.core.registry.version }
+    ensures knew { IsPrefix seat.old.known desk.old.published }
+    ensures answered { (asked : Result Asks Fault) → Gives seen called asked → IsAnsweredOn desk.old desk.new seat.old seat.new asked now (answer_of text_in result) }
+    ensures knows { seat.new.known ≡ desk.new.published }
+    ensures rules { rules_of desk.new.hub ≡ rules_of desk.old.hub }
+    ensures rounds { desk.new.hub.rounds ≡ desk.old.hub.rounds }
+    ensures room { desk.new.hub.docs.max ≡ desk.old.hub.docs.max }
+{
+    desk.check();
+    let reply = answer_called(desk, seat, called, now);
+    seat.learn(desk);
+    reply
+}
+
+/// The reply to a request at a moment in milliseconds, of which the desk does what it asks for. The
+/// seat counts the change that it makes, if it makes one, and knows then what the desk has published.
+/// `ServiceUnavailable` may stand in the place of another reply where memory is refused, and then
+/// nothing has happened.
+pub fn answer_on<J: Naming>(
+    alloc: Global,
+    routes: &Routes,
+    desk: &mut Desk<J>,
+    seat: &mut Seat<J>,
+    request: &Request,
+    now: u64,
+) -> Reply<Shared>
+    ensures valid { IsValid desk.old }
+    ensures bound { seat.old.changes ≤ desk.old.hub.core.registry.version }
+    ensures knew { IsPrefix seat.old.known desk.old.published }
+    ensures answered { IsAnsweredOn desk.old desk.new seat.old seat.new (call request.now) now (answer_of text_in result) }
+    ensures knows { seat.new.known ≡ desk.new.published }
+    ensures rules { rules_of desk.new.hub ≡ rules_of desk.old.hub }
+    ensures rounds { desk.new.hub.rounds ≡ desk.old.hub.rounds }
+    ensures room { desk.new.hub.docs.max ≡ desk.old.hub.docs.max }
+{
+    answer_read(desk, seat, call_of(alloc, routes, request), now)
+}

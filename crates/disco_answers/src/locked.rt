@@ -1,0 +1,74 @@
+//! Answers of a desk under a lock, and of looks without it.
+ghost use Rattle.std.specs.Prelude.{◌≡◌, IfSome, Result};
+ghost use mathlib.Core.List.{IsPrefix};
+ghost use Rattle.disco_instance.specs.Instance.{Gives};
+ghost use Rattle.disco_instance.specs.declared.fault.Fault.{Fault};
+ghost use Rattle.disco_message.specs.ReplyText.{answer_of};
+ghost use Rattle.disco_calls.specs.Calls.{Asks, call, seen};
+ghost use Rattle.disco_answers.specs.Desks.{IsAnsweredBySome, IsLooked, IsTold};
+ghost use Rattle.disco_answers.specs.Replies.{text_in};
+
+use crate::desk::answer_read;
+use crate::replies::showing;
+use crate::shared::Shared;
+use disco_calls::{Call, call_of};
+use disco_instance::Fault;
+use disco_message::{Reply, Request};
+use disco_press::{Desk, Looked, Naming, Seat};
+use disco_routes::Routes;
+use std::alloc::Global;
+use std::sync::{Mutex, MutexGuard, Wait};
+
+/// The document that is called for, where a look finds it.
+fn looked<J: Naming>(seat: &mut Seat<J>, called: &Result<Call, Fault>) -> Option<Reply<Shared>>
+    ensures looked { IfSome result (λ reply. (asked : Result Asks Fault) → Gives seen called.now asked → IsLooked seat.old seat.new asked (answer_of text_in reply)) }
+    ensures known { IsPrefix seat.old.known seat.new.known }
+    ensures count { seat.new.changes ≡ seat.old.changes }
+{
+    let Ok(Call::Load(key)) = called else {
+        return None;
+    };
+    match seat.look(key) {
+        Looked::Doc(payload) => Some(showing(Ok(payload))),
+        Looked::Miss | Looked::Shut => None,
+    }
+}
+
+/// What the desk answers once no other thread has its lock.
+fn answer_locked<J: Naming, R: Wait>(
+    rt: &R,
+    desk: &Mutex<Desk<J>>,
+    seat: &mut Seat<J>,
+    called: Result<Call, Fault>,
+    now: u64,
+) -> Reply<Shared>
+    ensures answered { (asked : Result Asks Fault) → Gives seen called asked → IsAnsweredBySome seat.old seat.new asked now (answer_of text_in result) }
+    ensures known { IsPrefix seat.old.known seat.new.known }
+{
+    let mut guard = desk.lock(rt);
+    let reply = answer_read(&mut *guard, seat, called, now);
+    MutexGuard::unlock(guard);
+    reply
+}
+
+/// The reply to a request at a moment in milliseconds. Where it asks for a document that readers
+/// share, the seat looks for it first, without the lock and waiting for nobody. What no look finds,
+/// and every other request, the desk answers under its lock, as [`crate::answer_on`] does.
+pub fn answer<J: Naming, R: Wait>(
+    rt: &R,
+    alloc: Global,
+    routes: &Routes,
+    desk: &Mutex<Desk<J>>,
+    seat: &mut Seat<J>,
+    request: &Request,
+    now: u64,
+) -> Reply<Shared>
+    ensures told { IsTold seat.old seat.new (call request.now) now (answer_of text_in result) }
+    ensures known { IsPrefix seat.old.known seat.new.known }
+{
+    let called = call_of(alloc, routes, request);
+    match looked(seat, &called) {
+        Some(reply) => reply,
+        None => answer_locked(rt, desk, seat, called, now),
+    }
+}
