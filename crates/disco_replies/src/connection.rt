@@ -1,10 +1,10 @@
 //! A connection of a row.
 use crate::pieces::Pieces;
 use crate::ticks::Ticks;
-use disco_http::{Counted, Reader, Writer, serve};
+use disco_http::{Counted, Reader, Writer};
 use disco_hub::{Hub, Settings};
 use disco_message::Limits;
-use disco_server::{HubService, Routes};
+use disco_server::{HubService, Routes, serve_hub};
 use std::alloc::{AllocError, Global};
 
 /// What a connection gets that sends these bytes to an empty server, where a read gives at most so
@@ -24,7 +24,7 @@ pub(crate) fn run(
     let mut written = Vec::new(alloc);
     let mut reader = Reader::new(alloc, Pieces::new(request, piece), Limits::of_server())?;
     let mut writer = Writer::new(alloc, Counted::new(&mut written))?;
-    let _served = serve(alloc, &mut reader, &mut writer, &mut service);
+    let _served = serve_hub(alloc, &mut reader, &mut writer, &mut service);
     drop(writer);
     Ok(written)
 }

@@ -1,0 +1,6 @@
+use Rattle.std.proofs.Common.{◌*◌}
+use Rattle.disco_server.specs.Draining.{GoesPast}
+use Rattle.disco_server.proofs.draining.drain.Given as goal
+
+abbrev pub invariant-loop : goal.invariant-loop
+invariant-loop g l = GoesPast (l.counter * 4096) (g.S.Source.remaining l.fn.source) (g.S.Source.remaining l.source)

@@ -1,0 +1,81 @@
+//! A desk that answers the requests of a worker's connections.
+ghost use Rattle.std.specs.Prelude.{◌≡◌};
+
+use crate::clock::Clock;
+use crate::gate::{Gate, Point};
+use disco_answers::{Shared, answer};
+use disco_http::Service;
+use disco_message::{Reply, Request};
+use disco_press::{Desk, Naming, Seat};
+use disco_routes::Routes;
+use std::alloc::Global;
+use std::sync::{Mutex, Wait};
+
+/// What all workers of a server share.
+#[derive(Drop)]
+pub struct Shop<'a, J: Naming, R, G> {
+    pub rt: &'a R,
+    pub alloc: Global,
+    pub desk: &'a Mutex<Desk<J>>,
+    pub gate: &'a G,
+}
+
+/// A desk that answers the requests of one connection after another, each at the moment that the
+/// worker's clock says.
+#[derive(Drop)]
+pub struct DeskService<'a, J: Naming, R, C, G> {
+    pub shop: &'a Shop<'a, J, R, G>,
+    /// The worker's own router.
+    pub routes: Routes,
+    /// The worker's own place at the desk.
+    pub seat: Seat<J>,
+    /// What says when.
+    pub clock: C,
+    /// The number of the connection, from 1.
+    pub connection: u64,
+}
+
+impl<'a, J: Naming, R, C, G> DeskService<'a, J, R, C, G> {
+    /// A service for the connections of one worker, of which there was none yet.
+    pub fn new(
+        shop: &'a Shop<'a, J, R, G>,
+        routes: Routes,
+        seat: Seat<J>,
+        clock: C,
+    ) -> DeskService<'a, J, R, C, G>
+        ensures seat { result.seat ≡ seat }
+        ensures clock { result.clock ≡ clock }
+    {
+        DeskService {
+            shop,
+            routes,
+            seat,
+            clock,
+            connection: 0,
+        }
+    }
+}
+
+impl<'a, J: Naming, R: Wait, C: Clock, G: Gate> Service for DeskService<'a, J, R, C, G> {
+    ghost use Rattle.disco_server.specs.Serving.{ServesDesk};
+
+    type Body = Shared;
+
+    ghost answers = { ServesDesk C.ticks };
+
+    fn call(&mut self, request: &Request) -> Reply<Shared> {
+        self.shop.gate.pass(Point::Received(self.connection));
+        let now = self.clock.now();
+        let reply = answer(
+            self.shop.rt,
+            self.shop.alloc,
+            &self.routes,
+            self.shop.desk,
+            &mut self.seat,
+            request,
+            now,
+        );
+        self.shop.gate.pass(Point::Answered(self.connection));
+        reply
+    }
+}

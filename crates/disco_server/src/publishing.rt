@@ -1,0 +1,63 @@
+//! The steps of a publisher.
+ghost use Rattle.std.specs.Prelude.{◌≡◌, ◌≢◌, [], IfErr, IfOk, IfSome, None, OnErr};
+ghost use Rattle.disco_instance.specs.declared.fault.Fault.TheVariants.{OutOfMemory};
+ghost use Rattle.disco_server.specs.Publishing.{Moves};
+
+use disco_instance::Fault;
+use disco_press::{Desk, Naming};
+use std::sync::Wait;
+
+/// What a step of a publisher did.
+#[derive(Clone, Copy, Debug, PartialEq, Eq)]
+pub enum Step {
+    /// It began a round, since none was open.
+    Begun,
+    /// It copied one key of the open round.
+    Copied,
+    /// It published the open round, of which no key was left.
+    Published,
+}
+
+/// Begins a round.
+fn begin<J: Naming>(desk: &mut Desk<J>) -> Result<Step, Fault>
+    requires { desk.old.hub.rounds.round ≡ None }
+    ensures moves { IfOk result (λ step. Moves desk.old step desk.new) }
+    ensures rest { desk.new.hub ≡ record desk.old.hub { rounds = desk.new.hub.rounds } }
+    ensures refused { IfErr result (λ fault. fault ≡ OutOfMemory) }
+    ensures as_before { OnErr result (desk.new ≡ desk.old) }
+{
+    match desk.begin() {
+        Ok(_) => Ok(Step::Begun),
+        Err(_) => Err(Fault::OutOfMemory),
+    }
+}
+
+/// Publishes the open round, of which no key is left.
+fn publish<J: Naming, R: Wait>(rt: &R, desk: &mut Desk<J>) -> Step
+    requires left { IfSome desk.old.hub.rounds.round (λ r. r.left ≡ []) }
+    requires round { desk.old.hub.rounds.round ≢ None }
+    ensures moves { Moves desk.old result desk.new }
+    ensures rest { desk.new.hub ≡ record desk.old.hub { rounds = desk.new.hub.rounds } }
+{
+    let Ok(_) = desk.publish(rt) else {
+        unreachable!()
+    };
+    Step::Published
+}
+
+/// Takes the next step of a publisher: it goes on with the round that is open, and begins one only
+/// where none is. May wait for a seat that is inside its look. Refused only as `OutOfMemory`, and
+/// then the desk is as it was.
+pub fn publish_step<J: Naming, R: Wait>(rt: &R, desk: &mut Desk<J>) -> Result<Step, Fault>
+    ensures moves { IfOk result (λ step. Moves desk.old step desk.new) }
+    ensures rest { desk.new.hub ≡ record desk.old.hub { rounds = desk.new.hub.rounds } }
+    ensures refused { IfErr result (λ fault. fault ≡ OutOfMemory) }
+    ensures as_before { OnErr result (desk.new ≡ desk.old) }
+{
+    match desk.copy_one() {
+        Ok(Some(_)) => Ok(Step::Copied),
+        Ok(None) => Ok(publish(rt, desk)),
+        Err(Fault::NoRound) => begin(desk),
+        Err(_) => Err(Fault::OutOfMemory),
+    }
+}

@@ -1,0 +1,99 @@
+//! Starts a server's workers.
+ghost use Rattle.std.specs.Prelude.{◌≡◌, ◌⊎◌, IfErr};
+ghost use Rattle.disco_instance.specs.declared.fault.Fault.TheVariants.{OutOfMemory, ReadFailed};
+
+use crate::clock::Clock;
+use crate::desk_service::Shop;
+use crate::door::{Door, Refusal};
+use crate::gate::Gate;
+use crate::worker::{Worker, work};
+use disco_instance::Fault;
+use disco_message::Limits;
+use disco_press::{Desk, Naming, Seat};
+use std::alloc::{AllocError, Global};
+use std::net::TcpListener;
+use std::sync::{Mutex, Wait};
+use std::thread;
+use std::thread::Threads;
+
+/// A worker for each seat.
+fn workers_for<'a, J: Naming, R, C: Clock + Copy, G>(
+    shop: &'a Shop<'a, J, R, G>,
+    seats: Vec<Seat<J>>,
+    limits: Limits,
+    clock: C,
+) -> Result<Vec<Worker<'a, J, R, C, G>>, AllocError> {
+    let mut workers = Vec::new(shop.alloc);
+    for seat in seats {
+        workers.push(Worker::new(shop, seat, clock, limits)?)?;
+    }
+    Ok(workers)
+}
+
+/// Has each worker on a thread of its own take connections through the door, and returns once all
+/// have ended.
+fn run<J, R, C, G>(
+    rt: &R,
+    alloc: Global,
+    listener: &TcpListener,
+    door: &Mutex<Door>,
+    workers: Vec<Worker<'_, J, R, C, G>>,
+)
+where
+    J: Naming + Send + Sync,
+    R: Threads + Wait + Sync,
+    C: Clock + Copy + Send,
+    G: Gate + Sync,
+{
+    thread::scope(thread::scope_env(), rt, move |scope| {
+        // No connection is taken before all workers are there.
+        let mut entry = door.lock(rt);
+        for worker in workers {
+            if scope
+                .spawn(move || work(rt, alloc, listener, door, worker))
+                .is_err()
+            {
+                entry.refuse(Refusal::ByHost);
+                break;
+            }
+        }
+    });
+}
+
+/// Serves the connections of a listener, with a worker on a thread of its own for each seat. Each
+/// takes the next connection as soon as it is free. Returns after so many connections in all, and
+/// never where that is 0; with no seat none is taken.
+///
+/// Refused as `OutOfMemory` and as `ReadFailed`, once all workers have ended. Where the host refuses a
+/// worker, or there is no memory before they begin, none takes a connection; where it refuses a
+/// connection, or one of them finds no memory for its router, no more is taken, and those that were
+/// taken are served to their end.
+pub fn start<'a, J, R, C, G>(
+    rt: &'a R,
+    alloc: Global,
+    listener: TcpListener,
+    desk: &'a Mutex<Desk<J>>,
+    seats: Vec<Seat<J>>,
+    limits: &Limits,
+    connections: u64,
+    clock: C,
+    gate: &'a G,
+) -> Result<(), Fault>
+where
+    J: Naming + Send + Sync,
+    R: Threads + Wait + Sync,
+    C: Clock + Copy + Send,
+    G: Gate + Sync,
+    ensures { IfErr result (λ fault. (fault ≡ OutOfMemory) ⊎ (fault ≡ ReadFailed)) }
+{
+    let shop = Shop {
+        rt,
+        alloc,
+        desk,
+        gate,
+    };
+    let workers = workers_for(&shop, seats, *limits, clock)?;
+    let door = Mutex::new(Door::new(connections));
+    run(rt, alloc, &listener, &door, workers);
+    door.into_inner().outcome()
+}

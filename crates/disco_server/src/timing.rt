@@ -1,0 +1,184 @@
+//! What is done again and again beside the requests.
+ghost use Rattle.std.specs.Prelude.{◌≡◌, IfErr};
+ghost use Rattle.disco_instance.specs.declared.fault.Fault.TheVariants.{ReadFailed};
+
+use crate::clock::Clock;
+use crate::publishing::{Step, publish_step};
+use crate::timer::Timer;
+use disco_instance::Fault;
+use disco_press::{Desk, Naming};
+use std::sync::atomic::{AtomicBool, Ordering};
+use std::sync::{Mutex, MutexGuard, Wait};
+use std::thread::Threads;
+use std::time::Duration;
+use std::{rt, thread};
+
+/// How many milliseconds a worker sleeps before it looks again whether it is to stop, and what is
+/// due.
+const NAP_MILLIS: u64 = 50;
+
+/// Milliseconds between two rounds of the publisher.
+const PUBLISHER_PERIOD: u64 = 30_000;
+
+/// Milliseconds between two cleanings of the recent changes.
+const CLEANER_PERIOD: u64 = 30_000;
+
+/// Milliseconds between two closings of a minute.
+const MINUTE_PERIOD: u64 = 60_000;
+
+/// Milliseconds between two runs that let leases run out.
+const EXPIRY_PERIOD: u64 = 60_000;
+
+/// What a timed worker does.
+#[derive(Clone, Copy, Debug)]
+enum Chore {
+    Publish,
+    Clean,
+    CloseMinute,
+    Expire,
+}
+
+const CHORES: [Chore; 4] = [
+    Chore::Publish,
+    Chore::Clean,
+    Chore::CloseMinute,
+    Chore::Expire,
+];
+
+impl Chore {
+    /// How long it is from one time to the next, in milliseconds.
+    fn period(self) -> u64 {
+        match self {
+            Chore::Publish => PUBLISHER_PERIOD,
+            Chore::Clean => CLEANER_PERIOD,
+            Chore::CloseMinute => MINUTE_PERIOD,
+            Chore::Expire => EXPIRY_PERIOD,
+        }
+    }
+}
+
+/// What ends the timed workers.
+#[derive(Clone, Copy)]
+struct Ends<'a> {
+    /// The caller's word.
+    stop: &'a AtomicBool,
+    /// The host refused a worker.
+    refused: &'a AtomicBool,
+}
+
+impl<'a> Ends<'a> {
+    fn have_come(&self) -> bool {
+        self.stop.load(Ordering::SeqCst) || self.refused.load(Ordering::SeqCst)
+    }
+}
+
+/// Takes one step of a publisher under the lock.
+fn publish_step_locked<J: Naming, R: Wait>(rt: &R, desk: &Mutex<Desk<J>>) -> Result<Step, Fault> {
+    let mut guard = desk.lock(rt);
+    let step = publish_step(rt, &mut *guard);
+    MutexGuard::unlock(guard);
+    step
+}
+
+/// Goes on with the open round, or begins one, up to its publication. Others may have the lock
+/// between two steps. Where there is no memory the round stays open for the next time.
+fn publish<J: Naming, R: Wait>(rt: &R, desk: &Mutex<Desk<J>>, ends: Ends<'_>) {
+    for _ in rt.forever() {
+        if ends.have_come() {
+            return;
+        }
+        match publish_step_locked(rt, desk) {
+            Ok(Step::Begun) | Ok(Step::Copied) => {}
+            Ok(Step::Published) | Err(_) => return,
+        }
+    }
+}
+
+/// Forgets recent changes.
+fn clean<J: Naming, R: Wait>(rt: &R, desk: &Mutex<Desk<J>>, now: u64) {
+    let mut guard = desk.lock(rt);
+    guard.clean(now);
+    MutexGuard::unlock(guard);
+}
+
+/// Closes a minute of renewals.
+fn close_minute<J: Naming, R: Wait>(rt: &R, desk: &Mutex<Desk<J>>) {
+    let mut guard = desk.lock(rt);
+    guard.close_minute();
+    MutexGuard::unlock(guard);
+}
+
+/// Lets leases run out. What a refusal leaves is taken the next time.
+fn expire<J: Naming, R: Wait>(rt: &R, desk: &Mutex<Desk<J>>, now: u64) {
+    let mut guard = desk.lock(rt);
+    guard.expire(now);
+    MutexGuard::unlock(guard);
+}
+
+/// Does what is due at a moment.
+fn tend<J: Naming, R: Wait>(rt: &R, desk: &Mutex<Desk<J>>, chore: Chore, now: u64, ends: Ends<'_>) {
+    match chore {
+        Chore::Publish => publish(rt, desk, ends),
+        Chore::Clean => clean(rt, desk, now),
+        Chore::CloseMinute => close_minute(rt, desk),
+        Chore::Expire => expire(rt, desk, now),
+    }
+}
+
+/// Does a chore each time that it is due, until it is to end.
+fn tend_often<J: Naming, R: Wait + rt::Clock, C: Clock + Copy>(
+    rt: &R,
+    desk: &Mutex<Desk<J>>,
+    mut clock: C,
+    chore: Chore,
+    ends: Ends<'_>,
+) {
+    let mut timer = Timer::new(chore.period(), clock.now());
+    for _ in rt.forever() {
+        if ends.have_come() {
+            return;
+        }
+        let now = clock.now();
+        if timer.is_due(now) {
+            tend(rt, desk, chore, now, ends);
+        }
+        thread::sleep(rt, Duration::from_millis(NAP_MILLIS));
+    }
+}
+
+/// Publishes and cleans every 30,000 milliseconds of the clock, and closes minutes and lets leases
+/// run out every 60,000, each on a thread of its own. Returns once `stop` is set.
+///
+/// Refused only as `ReadFailed`, where the host refuses a thread: then the others end at once, and
+/// what they did until then stays.
+pub fn timers<J, R, C>(
+    rt: &R,
+    desk: &Mutex<Desk<J>>,
+    clock: C,
+    stop: &AtomicBool,
+) -> Result<(), Fault>
+where
+    J: Naming + Send + Sync,
+    R: Threads + Wait + rt::Clock + Sync,
+    C: Clock + Copy + Send,
+    ensures { IfErr result (λ fault. fault ≡ ReadFailed) }
+{
+    let refused = AtomicBool::new(false);
+    let ends = Ends {
+        stop,
+        refused: &refused,
+    };
+    thread::scope(thread::scope_env(), rt, move |scope| {
+        for chore in CHORES {
+            let worker = scope.spawn(move || tend_often(rt, desk, clock, chore, ends));
+            if worker.is_err() {
+                ends.refused.store(true, Ordering::SeqCst);
+                break;
+            }
+        }
+    });
+    if refused.load(Ordering::SeqCst) {
+        return Err(Fault::ReadFailed);
+    }
+    Ok(())
+}

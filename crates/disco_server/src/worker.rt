@@ -1,0 +1,85 @@
+//! A worker, which serves one connection after another.
+use crate::attending::{Buffers, attend};
+use crate::clock::Clock;
+use crate::desk_service::{DeskService, Shop};
+use crate::door::{Door, Refusal};
+use crate::gate::Gate;
+use crate::taking::next_connection;
+use disco_message::Limits;
+use disco_press::{Naming, Seat};
+use disco_routes::Routes;
+use std::alloc::{AllocError, Global};
+use std::net::TcpListener;
+use std::sync::{Mutex, Wait};
+
+/// What a worker goes to its thread with.
+#[derive(Drop)]
+pub(crate) struct Worker<'a, J: Naming, R, C, G> {
+    shop: &'a Shop<'a, J, R, G>,
+    seat: Seat<J>,
+    clock: C,
+    buffers: Buffers,
+}
+
+impl<'a, J: Naming, R, C, G> Worker<'a, J, R, C, G> {
+    /// A worker with its buffers.
+    pub(crate) fn new(
+        shop: &'a Shop<'a, J, R, G>,
+        seat: Seat<J>,
+        clock: C,
+        limits: Limits,
+    ) -> Result<Worker<'a, J, R, C, G>, AllocError>
+    where
+        C: Drop,
+    {
+        let buffers = Buffers::new(shop.alloc, limits)?;
+        Ok(Worker {
+            shop,
+            seat,
+            clock,
+            buffers,
+        })
+    }
+}
+
+/// Serves one connection after another, until the door is shut.
+fn serve_all<J: Naming, R: Wait, C: Clock + Copy, G: Gate>(
+    rt: &R,
+    alloc: Global,
+    listener: &TcpListener,
+    door: &Mutex<Door>,
+    mut service: DeskService<'_, J, R, C, G>,
+    mut buffers: Buffers,
+) {
+    for _ in rt.forever() {
+        let Some((stream, number)) = next_connection(rt, listener, door) else {
+            return;
+        };
+        service.connection = number;
+        buffers = attend(alloc, buffers, &stream, &mut service);
+    }
+}
+
+/// Takes one connection after another through the door and serves it, until the door is shut. Shuts
+/// it where there is no memory for the worker's router.
+pub(crate) fn work<J: Naming, R: Wait, C: Clock + Copy, G: Gate>(
+    rt: &R,
+    alloc: Global,
+    listener: &TcpListener,
+    door: &Mutex<Door>,
+    worker: Worker<'_, J, R, C, G>,
+) {
+    let Worker {
+        shop,
+        seat,
+        clock,
+        buffers,
+    } = worker;
+    match Routes::new(alloc) {
+        Ok(routes) => {
+            let service = DeskService::new(shop, routes, seat, clock);
+            serve_all(rt, alloc, listener, door, service, buffers);
+        }
+        Err(_) => door.lock(rt).refuse(Refusal::NoMemory),
+    }
+}
