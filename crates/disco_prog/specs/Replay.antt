@@ -12,6 +12,7 @@ use Rattle.disco_core.specs.declared.settings.Settings.{Settings}
 use Rattle.disco_lines.specs.Answers.{answer_lines}
 use Rattle.disco_lines.specs.Input.{AreRead, NamesBadLine}
 use Rattle.disco_prog.specs.Options.{NamedBy}
+use Rattle.disco_prog.specs.declared.verb.Verb.TheVariants.{Replay}
 
 -- the fault names the first event of the whole input that can't be run
 abbrev pub NamesBadEvent : Settings → Option (List ℕ) → Fault → Type 0
@@ -34,11 +35,11 @@ pub record IsAnswered (settings : Settings) (known old new : Option (List ℕ)) 
 
 -- the words are `replay` and options, and the input is answered with the settings that these name
 abbrev pub IsReplayed : List Text → Option (List ℕ) → Option (List ℕ) → Option (List ℕ) → Type 0
-IsReplayed words known old new = (settings : Settings) × NamedBy words settings × IsAnswered settings known old new
+IsReplayed words known old new = (settings : Settings) × NamedBy Replay words settings × IsAnswered settings known old new
 
 -- why a run of these words fails: want of memory, or what the run with their settings fails for
 abbrev pub IsFaultOf : List Text → Option (List ℕ) → Fault → Type 0
-IsFaultOf words known fault = (fault ≡ OutOfMemory) ⊎ ((settings : Settings) × NamedBy words settings × IsRunFault settings known fault)
+IsFaultOf words known fault = (fault ≡ OutOfMemory) ⊎ ((settings : Settings) × NamedBy Replay words settings × IsRunFault settings known fault)
 
 -- the run failed, and nothing was answered, but where a write failed or memory was wanting
 abbrev pub IsFailed : {W : Type 0} → List Text → Option (List ℕ) → W → W → Type 0

@@ -2,25 +2,62 @@
 //! that `disco_prog` answers for.
 #![tactic(auto)]
 
-use disco_prog::{replay, without_words};
+ghost use Rattle.std.specs.Prelude.{◌≡◌};
+
+use disco_press::{Naming, Opening};
+use disco_prog::{Verb, fleet, replay, serve, without_words};
+use std::alloc::Global;
+use std::io::{Read, Write};
+use std::marker::Brand;
+use std::net::{Net, TcpListener, TcpStream};
 use std::process::ExitCode;
+use std::rt::Clock;
+use std::sync::Wait;
+use std::thread::Threads;
 use std::{env, io};
 
 fn words_given(rt: &HostRuntime) -> io::Result<Vec<String>> {
     Ok(env::args(rt)?.skip(1).collect(rt.alloc())?)
 }
 
+/// Runs the command that the words name, and gives the exit status.
+fn run<J: Naming + Send + Sync, R, I: Read, W: Write, E: Write>(
+    rt: &R,
+    alloc: Global,
+    opening: Opening,
+    input: &mut I,
+    out: &mut W,
+    errors: &mut E,
+    words: io::Result<Vec<String>>,
+) -> u8
+where
+    R: Net<Listener = TcpListener, Stream = TcpStream> + Threads + Wait + Clock + Sync,
+    requires marks { opening.marks.name ≡ J.list }
+    requires name { opening.blank.name ≡ J.name }
+    requires parts { opening.blank.parts ≡ J.parts }
+{
+    let words = match words {
+        Ok(words) => words,
+        Err(error) => return without_words(&error, errors),
+    };
+    let words = words.as_slice();
+    match Verb::of(words) {
+        Verb::Replay => replay(alloc, input, out, errors, words),
+        Verb::Serve => serve::<J, R, W, E>(rt, alloc, opening, out, errors, words),
+        Verb::Fleet => fleet::<J, R, W, E>(rt, alloc, opening, out, errors, words),
+    }
+}
+
 fn main(rt: HostRuntime) -> ExitCode {
     let (mut input, mut out, mut errors) = (rt.stdin(), rt.stdout(), rt.stderr());
-    let status = match words_given(&rt) {
-        Ok(words) => replay(
-            rt.alloc(),
-            &mut input,
-            &mut out,
-            &mut errors,
-            words.as_slice(),
-        ),
-        Err(error) => without_words(&error, &mut errors),
-    };
-    ExitCode::from(status)
+    let words = words_given(&rt);
+    ExitCode::from(run::<Brand, _, _, _, _>(
+        &rt,
+        rt.alloc(),
+        Opening::new(),
+        &mut input,
+        &mut out,
+        &mut errors,
+        words,
+    ))
 }

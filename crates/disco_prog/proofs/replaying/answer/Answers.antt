@@ -1,6 +1,6 @@
 use Rattle.std.proofs.lemmas.Result.{err_from_is_err_and}
 use Rattle.disco_prog.proofs.Whole.{none_bad, run_fault, then_ok}
-use Rattle.disco_prog.proofs.command.answer.Goals as goal
+use Rattle.disco_prog.proofs.replaying.answer.Goals as goal
 
 pub returns-in_err-replies-clause-fault : goal.returns-in_err-replies-clause-fault
 returns-in_err-replies-clause-fault g c =

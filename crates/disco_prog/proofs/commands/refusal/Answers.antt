@@ -6,7 +6,7 @@ use Rattle.clap.specs.declared.error.kind.ErrorKind.{ErrorKind}
 use Rattle.clap.specs.declared.error.kind.ErrorKind.TheVariants.{MissingSubcommand, OutOfMemory}
 use Rattle.clap.proofs.OnLiterals.{clap_on_literals}
 use Rattle.disco_prog.specs.Options.{program_app}
-use Rattle.disco_prog.proofs.options.refusal.Goals as goal
+use Rattle.disco_prog.proofs.commands.refusal.Goals as goal
 
 is_plain : is_simple_and_free program_app ≡ true
 unfolding clap_on_literals

@@ -5,11 +5,12 @@ ghost use Rattle.disco_instance.specs.declared.fault.Fault.{Fault};
 ghost use Rattle.disco_instance.specs.declared.fault.Fault.TheVariants.{OutOfMemory, WriteFailed};
 ghost use Rattle.disco_prog.specs.Faults.{IsStatusAmong};
 ghost use Rattle.disco_lines.specs.Lines.{IsFirstBadLine};
-ghost use Rattle.disco_prog.specs.Options.{faults_of_words};
+ghost use Rattle.disco_prog.specs.Options.{faults_of};
 ghost use Rattle.disco_prog.specs.Replay.{IsAnswered, IsFailed, IsReplayed, IsRunFault};
 
 use crate::faults::{refused, report};
-use crate::options::read_words;
+use crate::settings::read_settings;
+use crate::verb::Verb;
 use disco_instance::Fault;
 use disco_lines::{read_events, write_answers};
 use disco_world::{Settings, run};
@@ -52,34 +53,34 @@ pub fn replay<R: Read, W: Write, E: Write>(
     ensures status { result ≤ 2 }
 
     // Words with no fault are `replay` with options: 0 says that all is answered, else it is 1.
-    ensures answered { faults_of_words (map string_bytes words.now) ≡ [] → result ≡ 0
+    ensures answered { faults_of Verb.Replay (map string_bytes words.now) ≡ [] → result ≡ 0
         → IsReplayed (map string_bytes words.now) (R.remaining reader.old)
         (W.contents out.old) (W.contents out.new) }
-    ensures end { faults_of_words (map string_bytes words.now) ≡ [] → result ≡ 0
+    ensures end { faults_of Verb.Replay (map string_bytes words.now) ≡ [] → result ≡ 0
         → IsAtEnd (R.remaining reader.new) }
-    ensures settled { faults_of_words (map string_bytes words.now) ≡ [] → result ≤ 1 }
+    ensures settled { faults_of Verb.Replay (map string_bytes words.now) ≡ [] → result ≤ 1 }
 
     // Other words end as what is wrong with them asks.
-    ensures refused { faults_of_words (map string_bytes words.now) ≢ []
-        → IsStatusAmong (faults_of_words (map string_bytes words.now)) result }
+    ensures refused { faults_of Verb.Replay (map string_bytes words.now) ≢ []
+        → IsStatusAmong (faults_of Verb.Replay (map string_bytes words.now)) result }
 
     // Words that are refused or ask for help leave the input as it is, and those that are refused
     // the output too.
-    ensures unread { faults_of_words (map string_bytes words.now) ≢ [] → reader.new ≡ reader.old }
+    ensures unread { faults_of Verb.Replay (map string_bytes words.now) ≢ [] → reader.new ≡ reader.old }
     ensures unwritten { result ≡ 2 → out.new ≡ out.old }
 
     // Where a line of the input means nothing, no event is answered.
-    ensures bad_line { faults_of_words (map string_bytes words.now) ≡ []
+    ensures bad_line { faults_of Verb.Replay (map string_bytes words.now) ≡ []
         → (input : List ℕ) (bad : Fault) → R.remaining reader.old ≡ Some input
         → IsFirstBadLine input bad → (result ≡ 1) × (out.new ≡ out.old) }
 
     // Where the run is refused no event is answered, unless memory or a write failed.
-    ensures failed { faults_of_words (map string_bytes words.now) ≡ [] → result ≡ 1
+    ensures failed { faults_of Verb.Replay (map string_bytes words.now) ≡ [] → result ≡ 1
         → IsFailed (map string_bytes words.now) (R.remaining reader.old) out.old out.new }
 
     ensures silent { result ≡ 0 → errors.new ≡ errors.old }
 {
-    match read_words(alloc, words) {
+    match read_settings(alloc, Verb::Replay, words) {
         Ok(settings) => match answer(alloc, &settings, reader, out) {
             Ok(()) => 0,
             Err(fault) => report(&fault, errors),

@@ -1,15 +1,13 @@
-use Rattle.std.proofs.Common.{rules, ap, ap₂, codes, ◌≡◌, ◌∙◌}
+use Rattle.std.proofs.Common.{rules, ap₂, codes, refl, ◌≡◌, ◌∙◌}
 use Rattle.std.proofs.lemmas.Result.{IfOk-weaker}
-use Rattle.clap.specs.Words.{app_of, new_app, rule_of, with_rule}
-use Rattle.clap.specs.Simple.{app_of_fields}
+use Rattle.clap.specs.Words.{rule_of, with_rule}
 use Rattle.disco_prog.specs.Options.{number_rule}
-use Rattle.disco_prog.proofs.options.replay_command.Goals as goal
+use Rattle.disco_prog.proofs.options.with_settings.Goals as goal
 
 pub returns : goal.returns
 returns c =
-    let app0 : app_of c.about.result ≡ new_app (codes "replay") = ap app_of_fields c.about.ensures ∙ c.new.ensures.app in
     let rule1 : rule_of c.number.result ≡ number_rule (codes "versions") 1 18446744073709551615 = search rules in
-    let app1 = c.in_ok-arg.ensures.shape c.number.ensures.local ∙ ap₂ with_rule app0 rule1 in
+    let app1 = c.in_ok-arg.ensures.shape c.number.ensures.local ∙ ap₂ with_rule refl rule1 in
     let rule2 : rule_of c.number-2.result ≡ number_rule (codes "instances") 1 65536 = search rules in
     let app2 = c.in_ok-arg-2.ensures.shape c.number-2.ensures.local ∙ ap₂ with_rule app1 rule2 in
     let rule3 : rule_of c.number-3.result ≡ number_rule (codes "queue") 1 65536 = search rules in

@@ -1,0 +1,209 @@
+//! The command `fleet`.
+ghost use Rattle.std.specs.Prelude.{◌≡◌, ◌≢◌, ◌<◌, ◌≤◌, [], map, string_bytes};
+ghost use Rattle.disco_prog.specs.Faults.{IsStatusAmong};
+ghost use Rattle.disco_prog.specs.Options.{faults_of};
+
+mod following;
+mod registering;
+mod rounds;
+mod showing;
+
+use crate::commands::read_words;
+use crate::faults::{refused, report};
+use crate::listening::listen;
+use crate::options::count;
+use crate::settings::settings_from;
+use crate::verb::Verb;
+use clap::ArgMatches;
+use disco_instance::Fault;
+use disco_message::Limits;
+use disco_press::{Desk, Naming, Opening, Seat, open};
+use disco_server::{Open, SystemClock, start};
+use disco_world::Settings;
+use following::{Follower, connect_all, refresh_all};
+use registering::register_all;
+use rounds::{publish_round, publish_rounds};
+use showing::show;
+use std::alloc::Global;
+use std::io::Write;
+use std::net::{Net, TcpListener, TcpStream};
+use std::rt::Clock;
+use std::sync::{Mutex, Wait};
+use std::thread::{Threads, join};
+
+/// How often each client refreshes while instances are registered.
+const REFRESHES: u64 = 5;
+
+/// How many rounds are published while instances are registered.
+const ROUNDS: u64 = 3;
+
+/// Who is at work.
+#[derive(Clone, Copy, Debug)]
+struct Plan {
+    settings: Settings,
+    writers: u64,
+    clients: u64,
+    instances: u64,
+    ghost some_writers: { 0 < writers },
+    ghost some_clients: { 0 < clients },
+    ghost few_clients: { clients ≤ 64 },
+}
+
+/// What the words of `fleet` name.
+fn plan_from(matches: &ArgMatches<'_>) -> Plan {
+    Plan {
+        settings: settings_from(matches),
+        writers: count(matches, "writers", 64, 1),
+        clients: count(matches, "clients", 64, 1),
+        instances: count(matches, "instances", 65_536, 1),
+    }
+}
+
+/// Instances are registered, rounds are published and clients refresh, all at once. Gives the
+/// clients back.
+fn begin<J: Naming + Send + Sync, R>(
+    rt: &R,
+    alloc: Global,
+    plan: &Plan,
+    desk: &Mutex<Desk<J>>,
+    clients: Vec<Follower>,
+) -> Result<Vec<Follower>, Fault>
+where
+    R: Threads + Wait + Clock + Sync,
+{
+    let (registered, (published, clients)) = join(
+        rt,
+        move || register_all(rt, alloc, desk, plan.writers, plan.instances),
+        move || {
+            join(
+                rt,
+                move || publish_rounds(rt, desk, ROUNDS),
+                move || refresh_all(rt, clients, REFRESHES),
+            )
+        },
+    );
+    registered?;
+    published?;
+    clients
+}
+
+/// What the writers, the publisher and the clients do beside the server.
+fn work<J: Naming + Send + Sync, R, W: Write>(
+    rt: &R,
+    alloc: Global,
+    plan: &Plan,
+    desk: &Mutex<Desk<J>>,
+    clients: Vec<Follower>,
+    out: &mut W,
+) -> Result<(), Fault>
+where
+    R: Threads + Wait + Clock + Sync,
+{
+    let clients = begin(rt, alloc, plan, desk, clients)?;
+    publish_round(rt, desk)?;
+    let clients = refresh_all(rt, clients, 1)?;
+    show(rt, alloc, desk, clients.as_slice(), out)
+}
+
+/// A server with a worker for each client, and beside it the work.
+fn run<J: Naming + Send + Sync, R, W: Write>(
+    rt: &R,
+    alloc: Global,
+    plan: &Plan,
+    listener: TcpListener,
+    desk: &Mutex<Desk<J>>,
+    seats: Vec<Seat<J>>,
+    out: &mut W,
+) -> Result<(), Fault>
+where
+    R: Net<Listener = TcpListener, Stream = TcpStream> + Threads + Wait + Clock + Sync,
+{
+    let clients = connect_all(rt, alloc, &listener, plan.clients)?;
+    let limits = Limits::of_server();
+    let limits = &limits;
+    let (served, worked) = join(
+        rt,
+        move || {
+            start(
+                rt,
+                alloc,
+                listener,
+                desk,
+                seats,
+                limits,
+                plan.clients,
+                SystemClock::new(rt),
+                &Open,
+            )
+        },
+        move || work(rt, alloc, plan, desk, clients, out),
+    );
+    worked?;
+    served
+}
+
+/// Listens, opens a desk, and runs all.
+fn listen_and_run<J: Naming + Send + Sync, R, W: Write>(
+    rt: &R,
+    alloc: Global,
+    plan: &Plan,
+    opening: Opening,
+    out: &mut W,
+) -> Result<(), Fault>
+where
+    R: Net<Listener = TcpListener, Stream = TcpStream> + Threads + Wait + Clock + Sync,
+    requires marks { opening.marks.name ≡ J.list }
+    requires name { opening.blank.name ≡ J.name }
+    requires parts { opening.blank.parts ≡ J.parts }
+{
+    let Ok(listener) = listen(rt, 0) else {
+        return Err(Fault::ReadFailed);
+    };
+    let seats = plan.clients as usize;
+    let (desk, seats) = open::<J, R>(rt, alloc, &plan.settings, seats, opening)?;
+    let desk = Mutex::new(desk);
+    let done = run(rt, alloc, plan, listener, &desk, seats, out);
+    desk.into_inner().close(rt);
+    done
+}
+
+/// Runs the command `fleet` on the words behind the program's name, and gives the exit status.
+///
+/// A server with a worker for each client listens on a free port of 127.0.0.1. While writers
+/// register the instances, each client refreshes five times and three rounds are published. After
+/// one more round and one more refresh it writes `fleet N HASH` to `out`, and of each client
+/// whether its copy has exactly the registry's records: `client I yes` or `client I no`. The status
+/// is 0 then, and where help was asked for. It is 2 for words that are refused, with a message on
+/// `errors`. Else it is 1, with the line `discovery: fault N` on `errors`.
+pub fn fleet<J: Naming + Send + Sync, R, W: Write, E: Write>(
+    rt: &R,
+    alloc: Global,
+    opening: Opening,
+    out: &mut W,
+    errors: &mut E,
+    words: &[String],
+) -> u8
+where
+    R: Net<Listener = TcpListener, Stream = TcpStream> + Threads + Wait + Clock + Sync,
+    requires marks { opening.marks.name ≡ J.list }
+    requires name { opening.blank.name ≡ J.name }
+    requires parts { opening.blank.parts ≡ J.parts }
+    ensures status { result ≤ 2 }
+
+    // Words that are refused, or ask for help, end as what is wrong with them asks, and those that
+    // are refused leave the output as it is.
+    ensures refused { faults_of Verb.Fleet (map string_bytes words.now) ≢ []
+        → IsStatusAmong (faults_of Verb.Fleet (map string_bytes words.now)) result }
+    ensures settled { faults_of Verb.Fleet (map string_bytes words.now) ≡ [] → result ≤ 1 }
+    ensures unwritten { result ≡ 2 → out.new ≡ out.old }
+    ensures silent { result ≡ 0 → errors.new ≡ errors.old }
+{
+    let plan = match read_words(alloc, Verb::Fleet, words) {
+        Ok(matches) => plan_from(&matches),
+        Err(error) => return refused(&error, out, errors),
+    };
+    match listen_and_run::<J, R, W>(rt, alloc, &plan, opening, out) {
+        Ok(()) => 0,
+        Err(fault) => report(&fault, errors),
+    }
+}

@@ -1,0 +1,38 @@
+//! A publisher.
+use disco_instance::Fault;
+use disco_press::{Desk, Naming};
+use disco_server::{Step, publish_step};
+use std::sync::{Mutex, MutexGuard, Wait};
+
+/// Takes the next step of a publisher, under the lock.
+fn step<J: Naming, R: Wait>(rt: &R, desk: &Mutex<Desk<J>>) -> Result<Step, Fault> {
+    let mut guard = desk.lock(rt);
+    let step = publish_step(rt, &mut *guard);
+    MutexGuard::unlock(guard);
+    step
+}
+
+/// Publishes one round. Others get the lock between its steps.
+pub(super) fn publish_round<J: Naming, R: Wait>(
+    rt: &R,
+    desk: &Mutex<Desk<J>>,
+) -> Result<(), Fault> {
+    for _ in rt.forever() {
+        if step(rt, desk)? == Step::Published {
+            return Ok(());
+        }
+    }
+    unreachable!()
+}
+
+/// Publishes so many rounds.
+pub(super) fn publish_rounds<J: Naming, R: Wait>(
+    rt: &R,
+    desk: &Mutex<Desk<J>>,
+    rounds: u64,
+) -> Result<(), Fault> {
+    for _ in 0..rounds {
+        publish_round(rt, desk)?;
+    }
+    Ok(())
+}
