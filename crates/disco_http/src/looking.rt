@@ -32,6 +32,27 @@ pub(crate) enum Found {
     Trailer(usize),
 }
 
+/// Whether bytes end an empty line: a line feed behind another one, with or without a carriage return
+/// between the two.
+fn have_empty_line(bytes: &[u8]) -> bool {
+    let (feeds, lines) = ("\n\n".as_bytes(), "\n\r\n".as_bytes());
+    bytes.windows(2).any(|end| end == feeds) || bytes.windows(3).any(|end| end == lines)
+}
+
+/// Whether it is worth to look at bytes, of which the first `looked` don't have the part: they have
+/// what a part ends with, or are twice as many, so that a wrong byte isn't told late.
+pub(crate) fn may_have(part: Part, bytes: &[u8], looked: usize) -> bool {
+    if bytes.len() / 2 >= looked {
+        return true;
+    }
+    match part {
+        Part::SizeLine => bytes.contains(&b'\n'),
+        Part::RequestHead | Part::ReplyHead | Part::Trailer => {
+            have_empty_line(bytes.get(looked.saturating_sub(2)..).unwrap_or(bytes))
+        }
+    }
+}
+
 /// The part at the front of bytes, if it is whole.
 pub(crate) fn look_at(
     part: Part,

@@ -1,12 +1,12 @@
 //! Bytes that are taken from the front of what is ahead.
-ghost use Rattle.std.specs.Prelude.{◌≡◌, IsTrue, ◌-◌, ◌+◌, ◌≤◌, ◌<◌, ◌++◌, ◌^◌, [], ℕ, List, drop, take, length, vec_len, IfOk, IfErr, IfNone, IfSome, OnOk};
-ghost use Rattle.std.specs.Io.KnownBytes.{Keeps, Consumes};
-ghost use Rattle.disco_instance.specs.declared.fault.Fault.TheVariants.{ReadFailed};
+ghost use Rattle.std.specs.Prelude.{◌≡◌, ◌⊎◌, IsTrue, IsFalse, IsErrOf, ◌-◌, ◌+◌, ◌≤◌, ◌<◌, ◌++◌, ◌^◌, [], ℕ, List, drop, take, length, vec_len, IfOk, IfErr, IfNone, IfSome, OnOk};
+ghost use Rattle.std.specs.Io.KnownBytes.{Keeps, Consumes, IsAtEnd};
+ghost use Rattle.disco_instance.specs.declared.fault.Fault.TheVariants.{HeadTooLarge, ReadFailed};
 ghost use Rattle.disco_http.specs.Bodies.{EndsBefore};
 ghost use Rattle.disco_http.specs.Causes.{Cause, is_of_reading};
 
 use crate::fill::fill_from;
-use crate::looking::{Found, Part, look_at};
+use crate::looking::{Found, Part, look_at, may_have};
 use crate::reader::Reader;
 use crate::source::{Failed, Source};
 use disco_instance::Fault;
@@ -28,6 +28,32 @@ impl<R: Source> Reader<R> {
         look_at(part, &self.buffer[self.start..self.end], &mut self.spans)
     }
 
+    /// Reads until a part may be whole that what is unread doesn't have, at least once. False at the
+    /// end of the input.
+    fn more_for(&mut self, part: Part) -> Result<bool, Fault>
+        ensures ahead { Keeps (ahead R.remaining self.old) (ahead R.remaining self.new) }
+        ensures limits { self.new.limits ≡ self.old.limits }
+        ensures grown { IfOk result (λ more. IsTrue more → self.old.end - self.old.start < self.new.end - self.new.start) }
+        ensures at_end { IfOk result (λ more. IsFalse more → IsAtEnd (R.remaining self.new.source)) }
+        ensures same { IfOk result (λ more. IsFalse more → unread self.new ≡ unread self.old) }
+        ensures room { IfOk result (λ more. IsFalse more → self.new.end - self.new.start < self.new.limits.head) }
+        ensures full { IsErrOf result HeadTooLarge → (unread self.new ≡ unread self.old) × (self.new.end - self.new.start ≡ self.new.limits.head) }
+        ensures fault { IfErr result (λ fault. (fault ≡ HeadTooLarge) ⊎ (fault ≡ ReadFailed)) }
+        ensures cause { Cause ReadFailed (R.failed self.old.source) (R.failed self.new.source) result }
+        ensures none_failed { OnOk result (R.failed self.new.source ≡ R.failed self.old.source) }
+    {
+        let looked = self.end - self.start;
+        if !self.more()? {
+            return Ok(false);
+        }
+        while self.end - self.start < self.limits.head && !may_have(part, self.unread(), looked) {
+            if !self.more()? {
+                return Ok(true);
+            }
+        }
+        Ok(true)
+    }
+
     /// The part at the front of what is ahead. None at the end of the input.
     pub(crate) fn find(&mut self, part: Part) -> Result<Option<Found>, Fault>
         ensures ahead { Keeps (ahead R.remaining self.old) (ahead R.remaining self.new) }
@@ -43,7 +69,7 @@ impl<R: Source> Reader<R> {
             if let Some(found) = self.look(part)? {
                 return Ok(Some(found));
             }
-            if !self.more()? {
+            if !self.more_for(part)? {
                 if self.start == self.end {
                     return Ok(None);
                 }
