@@ -32,24 +32,31 @@ pub(crate) enum Found {
     Trailer(usize),
 }
 
-/// Whether bytes end an empty line: a line feed behind another one, with or without a carriage return
-/// between the two.
+/// Whether an empty line stands behind a line in bytes.
 fn have_empty_line(bytes: &[u8]) -> bool {
-    let (feeds, lines) = ("\n\n".as_bytes(), "\n\r\n".as_bytes());
-    bytes.windows(2).any(|end| end == feeds) || bytes.windows(3).any(|end| end == lines)
+    let mut line_is_empty = false;
+    for byte in bytes {
+        match *byte {
+            b'\n' if line_is_empty => return true,
+            b'\n' => line_is_empty = true,
+            b'\r' => {}
+            _ => line_is_empty = false,
+        }
+    }
+    false
 }
 
-/// Whether it is worth to look at bytes, of which the first `looked` don't have the part: they have
-/// what a part ends with, or are twice as many, so that a wrong byte isn't told late.
-pub(crate) fn may_have(part: Part, bytes: &[u8], looked: usize) -> bool {
+/// Whether it is worth to look at bytes again for a part, of which the first `looked` were looked at
+/// and the first `seen` don't have what a part ends with: it came behind these, or the bytes are twice
+/// as many as were looked at, so that a wrong one isn't told late.
+pub(crate) fn may_have(part: Part, bytes: &[u8], looked: usize, seen: usize) -> bool {
     if bytes.len() / 2 >= looked {
         return true;
     }
+    let unseen = bytes.get(seen.saturating_sub(2)..).unwrap_or(bytes);
     match part {
-        Part::SizeLine => bytes.contains(&b'\n'),
-        Part::RequestHead | Part::ReplyHead | Part::Trailer => {
-            have_empty_line(bytes.get(looked.saturating_sub(2)..).unwrap_or(bytes))
-        }
+        Part::SizeLine => unseen.contains(&b'\n'),
+        Part::RequestHead | Part::ReplyHead | Part::Trailer => have_empty_line(unseen),
     }
 }
 

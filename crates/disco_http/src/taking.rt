@@ -46,7 +46,11 @@ impl<R: Source> Reader<R> {
         if !self.more()? {
             return Ok(false);
         }
-        while self.end - self.start < self.limits.head && !may_have(part, self.unread(), looked) {
+        let mut seen = looked;
+        while self.end - self.start < self.limits.head
+            && !may_have(part, self.unread(), looked, seen)
+        {
+            seen = self.end - self.start;
             if !self.more()? {
                 return Ok(true);
             }

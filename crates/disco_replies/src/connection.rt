@@ -1,30 +1,83 @@
 //! A connection of a row.
+ghost use Rattle.std.specs.Prelude.{◌≡◌};
+
 use crate::pieces::Pieces;
 use crate::ticks::Ticks;
-use disco_http::{Counted, Reader, Writer};
+use disco_http::{Counted, Reader, Service, Writer, serve};
 use disco_hub::{Hub, Settings};
 use disco_message::Limits;
-use disco_server::{HubService, Routes, serve_hub};
+use disco_press::{Desk, Naming, Opening, Seat, open};
+use disco_server::{DeskService, HubService, Open, Routes, Shop};
 use std::alloc::{AllocError, Global};
+use std::io;
+use std::sync::{Mutex, Wait};
 
-/// What a connection gets that sends these bytes to an empty server, where a read gives at most so
-/// many of them.
-pub(crate) fn run(
+/// What a connection gets that sends these bytes, where a read gives at most so many of them.
+fn run<V: Service>(
+    alloc: Global,
+    service: &mut V,
+    request: &[u8],
+    piece: usize,
+) -> Result<Vec<u8>, AllocError> {
+    let mut written = Vec::new(alloc);
+    let mut reader = Reader::new(alloc, Pieces::new(request, piece), Limits::of_server())?;
+    let mut writer = Writer::new(alloc, Counted::new(&mut written))?;
+    let _served = serve(alloc, &mut reader, &mut writer, service);
+    drop(writer);
+    Ok(written)
+}
+
+/// What a connection gets over an empty hub.
+pub(crate) fn over_a_hub(
     alloc: Global,
     settings: &Settings,
     request: &[u8],
     piece: usize,
 ) -> Result<Vec<u8>, AllocError> {
-    let mut service = HubService::new(
+    let hub = Hub::new(alloc, settings);
+    let mut service = HubService::new(alloc, Routes::new(alloc)?, hub, Ticks::new());
+    run(alloc, &mut service, request, piece)
+}
+
+fn at_a_seat<J: Naming, R: Wait>(
+    rt: &R,
+    alloc: Global,
+    desk: &Mutex<Desk<J>>,
+    seat: Seat<J>,
+    request: &[u8],
+    piece: usize,
+) -> Result<Vec<u8>, AllocError> {
+    let shop = Shop {
+        rt,
         alloc,
-        Routes::new(alloc)?,
-        Hub::new(alloc, settings),
-        Ticks::new(),
-    );
-    let mut written = Vec::new(alloc);
-    let mut reader = Reader::new(alloc, Pieces::new(request, piece), Limits::of_server())?;
-    let mut writer = Writer::new(alloc, Counted::new(&mut written))?;
-    let _served = serve_hub(alloc, &mut reader, &mut writer, &mut service);
-    drop(writer);
-    Ok(written)
+        desk,
+        gate: &Open,
+    };
+    let mut service = DeskService::new(&shop, Routes::new(alloc)?, seat, Ticks::new());
+    run(alloc, &mut service, request, piece)
+}
+
+/// What a connection gets at the one seat of an empty desk, which is under its lock.
+pub(crate) fn over_a_desk<J: Naming, R: Wait>(
+    rt: &R,
+    alloc: Global,
+    opening: Opening,
+    settings: &Settings,
+    request: &[u8],
+    piece: usize,
+) -> io::Result<Vec<u8>>
+    requires marks { opening.marks.name ≡ J.list }
+    requires name { opening.blank.name ≡ J.name }
+    requires parts { opening.blank.parts ≡ J.parts }
+{
+    let Ok((desk, mut seats)) = open::<J, R>(rt, alloc, settings, 1, opening) else {
+        return Err(io::Error::from(io::ErrorKind::OutOfMemory));
+    };
+    let desk = Mutex::new(desk);
+    let came = match seats.pop() {
+        Some(seat) => at_a_seat(rt, alloc, &desk, seat, request, piece),
+        None => Ok(Vec::new(alloc)),
+    };
+    desk.into_inner().close(rt);
+    Ok(came?)
 }

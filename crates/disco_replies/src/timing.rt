@@ -1,0 +1,48 @@
+//! Times a row.
+use crate::connection::over_a_hub;
+use crate::files::read_row;
+use std::alloc::Global;
+use std::io;
+use std::rt::{Clock, Files};
+use std::time::Instant;
+
+/// What is timed.
+#[derive(Debug, Drop)]
+pub(crate) struct Timing<'a> {
+    /// The row.
+    name: &'a str,
+    /// How often it is run.
+    times: u32,
+    /// How many bytes a read gives at most.
+    piece: usize,
+}
+
+impl<'a> Timing<'a> {
+    /// What the words name: a row, how often it is run, and the bytes of a read.
+    pub(crate) fn of(words: &'a [String]) -> Option<Timing<'a>> {
+        let [name, times, piece] = words else {
+            return None;
+        };
+        Some(Timing {
+            name: name.as_str(),
+            times: times.as_str().parse().ok()?,
+            piece: piece.as_str().parse().ok()?,
+        })
+    }
+}
+
+/// Prints how many nanoseconds all runs take together, and how many bytes each writes.
+pub(crate) fn run<R: Clock + Files + AllocGlobal + Print>(
+    rt: &R,
+    timing: &Timing<'_>,
+) -> io::Result<bool> {
+    let row = read_row(rt, timing.name)?;
+    let start = Instant::now(rt)?;
+    let mut size = 0;
+    for _ in 0..timing.times {
+        let request = row.request.as_slice();
+        size = over_a_hub(rt.alloc(), &row.settings, request, timing.piece)?.len();
+    }
+    println!(rt; "{} {size}", start.elapsed(rt)?.as_nanos())?;
+    Ok(true)
+}
