@@ -15,13 +15,20 @@ mod row;
 use names::names;
 use std::alloc::Global;
 use std::io;
+use std::net::{Net, TcpListener, TcpStream};
 use std::process::ExitCode;
-use std::rt::Files;
+use std::rt::{Clock, Files};
+use std::sync::Wait;
+use std::thread::Threads;
 
 /// Runs the row of a name, prints how it went, and tells whether it is as it has to be.
-fn is_kept<R: Files + AllocGlobal + Print>(rt: &R, name: &str) -> io::Result<bool> {
+fn is_kept<R>(rt: &R, name: &str) -> io::Result<bool>
+where
+    R: Net<Listener = TcpListener, Stream = TcpStream> + Threads + Wait + Clock,
+    R: Files + AllocGlobal + Print + Sync,
+{
     let row = files::read_row(rt, name)?;
-    let came = row::run(rt.alloc(), &row)?;
+    let came = row::run(rt, &row)?;
     match difference::first(&row.wanted, &came) {
         Some(difference) => {
             difference::write_difference(&mut io::writer(rt), name, &difference)?;
@@ -35,7 +42,11 @@ fn is_kept<R: Files + AllocGlobal + Print>(rt: &R, name: &str) -> io::Result<boo
 }
 
 /// As [`is_kept`]; of a row whose files can't be read it is printed why.
-fn is_kept_or_told<R: Files + AllocGlobal + Print>(rt: &R, name: &str) -> io::Result<bool> {
+fn is_kept_or_told<R>(rt: &R, name: &str) -> io::Result<bool>
+where
+    R: Net<Listener = TcpListener, Stream = TcpStream> + Threads + Wait + Clock,
+    R: Files + AllocGlobal + Print + Sync,
+{
     match is_kept(rt, name) {
         Ok(kept) => Ok(kept),
         Err(error) => {
@@ -46,7 +57,11 @@ fn is_kept_or_told<R: Files + AllocGlobal + Print>(rt: &R, name: &str) -> io::Re
 }
 
 /// Runs all rows, and tells whether each is as it has to be.
-fn are_kept<R: Files + AllocGlobal + Print + Clone + Drop>(rt: &R) -> io::Result<bool> {
+fn are_kept<R>(rt: &R) -> io::Result<bool>
+where
+    R: Net<Listener = TcpListener, Stream = TcpStream> + Threads + Wait + Clock,
+    R: Files + AllocGlobal + Print + Clone + Drop + Sync,
+{
     let mut all = true;
     for name in &names(rt)? {
         all = is_kept_or_told(rt, name.as_str())? && all;

@@ -1,10 +1,18 @@
 //! A row, and how it is run.
+ghost use Rattle.std.specs.Prelude.{◌≡◌};
+
 use crate::meanings::write_meanings;
 use crate::outcome::Outcome;
-use disco_prog::replay;
+use disco_press::{Naming, Opening};
+use disco_prog::{Verb, fleet, replay, serve};
 use std::alloc::Global;
 use std::io;
 use std::io::Write;
+use std::marker::Brand;
+use std::net::{Net, TcpListener, TcpStream};
+use std::rt::Clock;
+use std::sync::Wait;
+use std::thread::Threads;
 
 /// What a row gives to what it shows.
 #[derive(Debug, Drop)]
@@ -29,9 +37,28 @@ pub(crate) fn status_line(alloc: Global, status: u8) -> io::Result<Vec<u8>> {
     Ok(line)
 }
 
-fn replayed(alloc: Global, words: &[String], input: &[u8]) -> io::Result<Outcome> {
-    let (mut reader, mut answers, mut faults) = (input, Vec::new(alloc), Vec::new(alloc));
-    let status = replay(alloc, &mut reader, &mut answers, &mut faults, words);
+/// Runs the command that the words name, as the program does.
+fn run_command<J: Naming + Send + Sync, R>(
+    rt: &R,
+    opening: Opening,
+    words: &[String],
+    mut input: &[u8],
+) -> io::Result<Outcome>
+where
+    R: Net<Listener = TcpListener, Stream = TcpStream> + Threads + Wait + Clock,
+    R: AllocGlobal + Sync,
+    requires marks { opening.marks.name ≡ J.list }
+    requires name { opening.blank.name ≡ J.name }
+    requires parts { opening.blank.parts ≡ J.parts }
+{
+    let alloc = rt.alloc();
+    let (mut answers, mut faults) = (Vec::new(alloc), Vec::new(alloc));
+    let (out, errors) = (&mut answers, &mut faults);
+    let status = match Verb::of(words) {
+        Verb::Replay => replay(alloc, &mut input, out, errors, words),
+        Verb::Serve => serve::<J, R, _, _>(rt, alloc, opening, out, errors, words),
+        Verb::Fleet => fleet::<J, R, _, _>(rt, alloc, opening, out, errors, words),
+    };
     Ok(Outcome {
         status: status_line(alloc, status)?,
         answers,
@@ -49,10 +76,16 @@ fn read(alloc: Global, documents: &[u8]) -> io::Result<Outcome> {
     })
 }
 
-/// Runs a row: events by `replay`, documents by what they mean.
-pub(crate) fn run(alloc: Global, row: &Row) -> io::Result<Outcome> {
+/// Runs a row: events by the program's commands, documents by what they mean.
+pub(crate) fn run<R>(rt: &R, row: &Row) -> io::Result<Outcome>
+where
+    R: Net<Listener = TcpListener, Stream = TcpStream> + Threads + Wait + Clock,
+    R: AllocGlobal + Sync,
+{
     match &row.given {
-        Given::Events { words, input } => replayed(alloc, words.as_slice(), input.as_slice()),
-        Given::Documents(documents) => read(alloc, documents.as_slice()),
+        Given::Events { words, input } => {
+            run_command::<Brand, R>(rt, Opening::new(), words.as_slice(), input.as_slice())
+        }
+        Given::Documents(documents) => read(rt.alloc(), documents.as_slice()),
     }
 }
