@@ -13,4 +13,6 @@ mod press;
 #[cfg(test)]
 mod program;
 #[cfg(test)]
+mod refreshing;
+#[cfg(test)]
 mod rounds;

@@ -1,5 +1,5 @@
 //! Runs of the program over streams that fail, and over more instances than it holds.
-use disco_prog::{replay, settings_of};
+use disco_prog::replay;
 use std::alloc::{AllocError, Global};
 use std::io;
 use std::io::{Read, Write};
@@ -38,23 +38,10 @@ fn holds_65536_instances(rt: HostRuntime) -> Result<(), Fail> {
     Ok(())
 }
 
-#[test]
-fn has_defaults(rt: HostRuntime) -> Result<(), Fail> {
-    let words = strings(rt.alloc(), &["replay"])?;
-    let settings = settings_of(rt.alloc(), words.as_slice()).map_err(|_| "refused")?;
-    assert_eq!(rt; settings.versions, u64::MAX);
-    assert_eq!(rt; settings.instances, 65536);
-    assert_eq!(rt; settings.queue, 65536);
-    assert_eq!(rt; settings.entries, 4096);
-    assert_eq!(rt; settings.retention, 180000);
-    assert!(rt; settings.delta);
-    Ok(())
-}
-
 /// A reader that fails where its bytes end.
 #[derive(Drop)]
-struct Torn<'a> {
-    rest: &'a [u8],
+pub(crate) struct Torn<'a> {
+    pub(crate) rest: &'a [u8],
 }
 
 impl Read for Torn<'_> {
@@ -85,8 +72,8 @@ fn says_that_reading_failed(rt: HostRuntime) -> Result<(), Fail> {
 
 /// A writer that takes so many bytes and then fails, at a flush too.
 #[derive(Drop)]
-struct Full {
-    room: usize,
+pub(crate) struct Full {
+    pub(crate) room: usize,
 }
 
 impl Write for Full {
