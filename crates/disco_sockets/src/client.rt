@@ -1,0 +1,44 @@
+//! The client's end of a connection.
+use disco_http::{Counted, Reader, ReceivedReply};
+use disco_message::Limits;
+use std::alloc::Global;
+use std::io;
+use std::io::{Read, Write};
+use std::net::{Net, SocketAddr, TcpStream};
+use std::time::Duration;
+
+/// How many seconds a client waits for a reply, at most.
+const PATIENCE_SECS: u64 = 20;
+
+/// A connection to the server.
+pub(crate) fn visit<R: Net<Stream = TcpStream>>(
+    rt: &R,
+    server: SocketAddr,
+) -> io::Result<TcpStream> {
+    let stream = TcpStream::connect(rt, server)?;
+    stream.set_nodelay(true)?;
+    stream.set_read_timeout(Some(Duration::from_secs(PATIENCE_SECS)))?;
+    Ok(stream)
+}
+
+/// Sends bytes.
+pub(crate) fn send(mut stream: &TcpStream, bytes: &[u8]) -> io::Result<()> {
+    stream.write_all(bytes)
+}
+
+/// The next reply, where it comes.
+pub(crate) fn hear(alloc: Global, stream: &TcpStream) -> Option<ReceivedReply> {
+    let mut reader = Reader::new(alloc, Counted::new(stream), Limits::of_client()).ok()?;
+    reader.read_reply(alloc).ok()
+}
+
+/// Whether the next reply has this status.
+pub(crate) fn hears(alloc: Global, stream: &TcpStream, status: u16) -> bool {
+    hear(alloc, stream).is_some_and(|reply| reply.head.status() == status)
+}
+
+/// Whether nothing more comes, and the connection has an end.
+pub(crate) fn is_at_end(mut stream: &TcpStream) -> bool {
+    let mut byte = [0u8; 1];
+    matches!(stream.read(&mut byte), Ok(0))
+}

@@ -1,0 +1,139 @@
+//! The server beside its trials.
+ghost use Rattle.std.specs.Prelude.{◌≡◌};
+
+use crate::holding::Holding;
+use crate::ticks::Ticks;
+use crate::trials;
+use crate::trials::CONNECTIONS;
+use disco_hub::Settings;
+use disco_instance::Fault;
+use disco_message::Limits;
+use disco_press::{Desk, Naming, Opening, Seat, open};
+use disco_server::{start, timers};
+use std::alloc::Global;
+use std::net::{Net, SocketAddr, TcpListener, TcpStream};
+use std::sync::atomic::{AtomicBool, Ordering};
+use std::sync::{Mutex, Wait};
+use std::thread::{Threads, join};
+use std::{io, rt};
+
+/// Two workers, and one seat for the trials.
+const SEATS: usize = 3;
+
+fn settings() -> Settings {
+    Settings {
+        versions: u64::MAX,
+        instances: 65_536,
+        queue: 65_536,
+        entries: 4_096,
+        retention: 180_000,
+        delta: true,
+    }
+}
+
+/// Prints what came of a trial, and answers it.
+fn told<R: Print>(rt: &R, name: &str, well: bool) -> io::Result<bool> {
+    if well {
+        println!(rt; "{name}: yes")?;
+    } else {
+        println!(rt; "{name}: no")?;
+    }
+    Ok(well)
+}
+
+/// All trials of a server, one after another.
+fn try_all<J: Naming, R: Net<Stream = TcpStream> + Wait + rt::Clock + Print>(
+    rt: &R,
+    alloc: Global,
+    server: SocketAddr,
+    desk: &Mutex<Desk<J>>,
+    seat: &mut Seat<J>,
+) -> io::Result<bool> {
+    let at_once = trials::two_at_once(rt, alloc, server)?;
+    let bytes = trials::byte_by_byte(rt, alloc, server)?;
+    let half = trials::half_a_head(rt, alloc, server)?;
+    let unread = trials::unread_behind(rt, alloc, server)?;
+    let many = trials::many_requests(rt, alloc, server)?;
+    let seen = trials::seen_in_time(rt, alloc, server, seat)?;
+    let beside = trials::served_beside_the_lock(rt, alloc, server, desk)?;
+    let all = [
+        told(rt, "two clients at once", at_once)?,
+        told(rt, "byte by byte", bytes)?,
+        told(rt, "half a head", half)?,
+        told(rt, "unread behind the last request", unread)?,
+        told(rt, "as many requests as there may be", many)?,
+        told(rt, "seen in time", seen)?,
+        told(rt, "served beside the lock", beside)?,
+    ];
+    Ok(all.iter().all(|well| *well))
+}
+
+/// The server, its timed workers and the trials, at once.
+fn serve_and_try<J, R>(
+    rt: &R,
+    alloc: Global,
+    listener: TcpListener,
+    desk: &Mutex<Desk<J>>,
+    seats: Vec<Seat<J>>,
+    seat: Seat<J>,
+) -> io::Result<bool>
+where
+    J: Naming + Send + Sync,
+    R: Threads + Wait + rt::Clock + Net<Listener = TcpListener, Stream = TcpStream> + Print + Sync,
+{
+    let server = listener.local_addr()?;
+    let limits = Limits::of_server();
+    let (gate, stop) = (Holding::new(), AtomicBool::new(false));
+    let (limits, gate, stop) = (&limits, &gate, &stop);
+    let (served, (timed, tried)) = join(
+        rt,
+        move || {
+            start(
+                rt,
+                alloc,
+                listener,
+                desk,
+                seats,
+                limits,
+                CONNECTIONS,
+                Ticks::new(),
+                gate,
+            )
+        },
+        move || join(
+            rt,
+            move || timers(rt, desk, Ticks::new(), stop),
+            move || {
+                let mut seat = seat;
+                let tried = try_all(rt, alloc, server, desk, &mut seat);
+                stop.store(true, Ordering::SeqCst);
+                tried
+            },
+        ),
+    );
+    let well = served.is_ok() && timed.is_ok() && !gate.was_in_vain();
+    Ok(told(rt, "all workers ended well", well)? && tried?)
+}
+
+/// Tries a server over a new desk, and tells whether all is as it has to be.
+pub(crate) fn run<J: Naming + Send + Sync, R>(rt: &R, opening: Opening) -> io::Result<bool>
+where
+    R: Threads + Wait + rt::Clock + Net<Listener = TcpListener, Stream = TcpStream>,
+    R: AllocGlobal + Print + Sync,
+    requires marks { opening.marks.name ≡ J.list }
+    requires name { opening.blank.name ≡ J.name }
+    requires parts { opening.blank.parts ≡ J.parts }
+{
+    let alloc = rt.alloc();
+    let listener = TcpListener::bind(rt, "127.0.0.1:0")?;
+    let Ok((desk, mut seats)) = open::<J, R>(rt, alloc, &settings(), SEATS, opening) else {
+        return told(rt, "memory", false);
+    };
+    let desk = Mutex::new(desk);
+    let tried = match seats.pop() {
+        Some(seat) => serve_and_try(rt, alloc, listener, &desk, seats, seat),
+        None => Ok(false),
+    };
+    desk.into_inner().close(rt);
+    tried
+}
