@@ -22,10 +22,12 @@ fn serve_command<'a>(alloc: Global) -> Result<Command<'a>, AllocError>
     ensures { IfOk result (λ c. app_of c ≡ serve_app) }
 {
     let port = "The port of 127.0.0.1 to listen on, 1 to 65535";
-    let workers = "How many connections are served at once, 1 to 64; a silent one is closed after 30 seconds [default: 4]";
+    let workers =
+        "How many connections are served at once, 1 to 64; a silent one is closed after 30 seconds [default: 4]";
     let connections = "After how many connections the server ends; 0 is no end [default: 0]";
-    let command =
-        Command::new(alloc, "serve").about("Serves Eureka's REST operations at /eureka/v2");
+    let command = Command::new(alloc, "serve").about(
+        "Serves Eureka's REST operations at /eureka/v2",
+    );
     with_settings(alloc, command)?
         .arg(needed(number(alloc, "port", "P", 1, 65_535, port)))?
         .arg(number(alloc, "workers", "N", 1, 64, workers))?
