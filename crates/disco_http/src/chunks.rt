@@ -1,5 +1,5 @@
 //! Bodies in chunks.
-ghost use Rattle.std.specs.Prelude.{◌≡◌, ◌+◌, ◌≤◌, ◌<◌, ◌^◌, ◌++◌, ℕ, List, length, vec_len, IfOk, IfErr, IfSome, Some, OnOk, IsTrue, ◌↔◌, drop};
+ghost use Rattle.std.specs.Prelude.{◌≡◌, ◌+◌, ◌≤◌, ◌<◌, ◌^◌, ◌++◌, [], ℕ, List, length, vec_len, IfOk, IfErr, IfSome, Some, OnOk, IsTrue, ◌↔◌, drop};
 ghost use Rattle.std.specs.Io.KnownBytes.{Consumes};
 ghost use Rattle.httparse.specs.Ascii.{crlf_bytes};
 ghost use Rattle.disco_instance.specs.declared.fault.Fault.TheVariants.{ReadFailed};
@@ -10,7 +10,6 @@ use crate::looking::{Found, Part};
 use crate::reader::Reader;
 use crate::source::Source;
 use disco_instance::Fault;
-use std::alloc::Global;
 
 /// Whether a line end stands from a place on, and nothing behind it.
 fn is_line_end(bytes: &[u8], from: usize) -> bool
@@ -108,8 +107,9 @@ impl<R: Source> Reader<R> {
         Ok(true)
     }
 
-    /// Reads a body in chunks.
-    pub(crate) fn read_chunks(&mut self, alloc: Global) -> Result<Vec<u8>, Fault>
+    /// Reads a body in chunks, into room for it.
+    pub(crate) fn read_chunks(&mut self, empty: Vec<u8>) -> Result<Vec<u8>, Fault>
+        requires { empty.items ≡ [] }
         ensures body { IfOk result (λ body. IfSome (ahead R.remaining self.old) (λ after.
             (rest : List ℕ) × ReadsBody self.old.limits Chunked after body.items rest × (ahead R.remaining self.new ≡ Some rest))) }
         ensures refused { IfErr result (λ fault. IfSome (ahead R.remaining self.old) (ChunksRefused self.old.limits fault)) }
@@ -118,7 +118,7 @@ impl<R: Source> Reader<R> {
         ensures cause { Cause ReadFailed (R.failed self.old.source) (R.failed self.new.source) result }
         ensures none_failed { OnOk result (R.failed self.new.source ≡ R.failed self.old.source) }
     {
-        let mut body = Vec::new(alloc);
+        let mut body = empty;
         while self.read_chunk(&mut body)? {}
         self.skip_trailer()?;
         Ok(body)

@@ -6,12 +6,13 @@ ghost use Rattle.disco_http.specs.Causes.{Counts, Cause};
 use crate::fill::read_from;
 use crate::source::{Failed, Source};
 use disco_instance::Fault;
-use disco_message::Limits;
+use disco_message::{HeadRoom, Limits, Request};
 use httparse::spans::{EMPTY_HEADER_SPAN, HeaderSpan};
 use std::alloc::{AllocError, Global};
 
 /// A source with a buffer in front of it, which holds what was read and not yet taken. The buffer
-/// has the size of the largest head and keeps it.
+/// has the size of the largest head and keeps it. The room of a request that was answered is kept for
+/// the next: it grows to the largest head and the largest body that were read.
 #[derive(Drop)]
 pub struct Reader<R> {
     pub(crate) limits: Limits,
@@ -20,6 +21,8 @@ pub struct Reader<R> {
     pub(crate) start: usize,
     pub(crate) end: usize,
     pub(crate) spans: Vec<HeaderSpan>,
+    pub(crate) head: HeadRoom,
+    pub(crate) body: Vec<u8>,
     pub(crate) spent: bool,
     ghost ordered: { start ≤ end },
     ghost within: { end ≤ vec_len buffer },
@@ -48,6 +51,8 @@ impl<R: Source> Reader<R> {
             start: 0,
             end: 0,
             spans,
+            head: HeadRoom::new(alloc),
+            body: Vec::new(alloc),
             spent: false,
         })
     }
@@ -68,6 +73,8 @@ impl<R: Source> Reader<R> {
             start: _,
             end: _,
             spans,
+            head,
+            body,
             spent: _,
         } = self;
         Reader {
@@ -77,8 +84,20 @@ impl<R: Source> Reader<R> {
             start: 0,
             end: 0,
             spans,
+            head,
+            body,
             spent: false,
         }
+    }
+
+    /// Keeps the room of a request that was answered, for the next one.
+    pub fn keep(&mut self, request: Request)
+        ensures ahead { ahead R.remaining self.new ≡ ahead R.remaining self.old }
+        ensures limits { limits_of self.new ≡ limits_of self.old }
+        ensures source { source_of self.new ≡ source_of self.old }
+        ensures spent { is_spent self.new ≡ is_spent self.old }
+    {
+        (self.head, self.body) = request.into_room();
     }
 
     /// Whether a call was refused. Then nothing more is read.

@@ -11,9 +11,10 @@ use crate::looking::{Found, Part};
 use crate::reader::Reader;
 use crate::source::Source;
 use disco_instance::Fault;
-use disco_message::{Framing, Head, Request};
+use disco_message::{Framing, Head, HeadRoom, Request};
 use httparse::spans::RequestSpans;
 use std::alloc::Global;
+use std::mem;
 
 impl<R: Source> Reader<R> {
     ghost use Rattle.disco_http.specs.Bodies.{ReadsBody, BodyRefused};
@@ -21,12 +22,12 @@ impl<R: Source> Reader<R> {
     ghost use Rattle.disco_http.specs.Streams.{ahead, unread};
 
     /// What the head that was found says.
-    fn copy_head(&self, alloc: Global, line: &RequestSpans) -> Result<Head, Fault>
+    fn copy_head(&self, room: HeadRoom, line: &RequestSpans) -> Result<Head, Fault>
         requires { IsRequestWithin (unread self.now) self.now.spans.items line.now }
         ensures fault { IfErr result (λ fault. IsTrue (is_of_reading fault)) }
         ensures says { (h : RequestHead) → IsRequestAt (unread self.now) self.now.spans.items line.now h → (result ≡ heading h) ⊎ ((result ≡ Err OutOfMemory) × IsOk (heading h)) }
     {
-        Head::new(alloc, self.unread(), &self.spans, line)
+        Head::new(room, self.unread(), &self.spans, line)
     }
 
     /// Reads a head. None at the end of the input.
@@ -41,7 +42,8 @@ impl<R: Source> Reader<R> {
     {
         match self.find(Part::RequestHead)? {
             Some(Found::RequestHead(line)) => {
-                let head = self.copy_head(alloc, &line)?;
+                let room = mem::replace(&mut self.head, HeadRoom::new(alloc));
+                let head = self.copy_head(room, &line)?;
                 self.take(line.len);
                 Ok(Some(head))
             }
@@ -49,8 +51,9 @@ impl<R: Source> Reader<R> {
         }
     }
 
-    /// Reads a body.
-    pub(crate) fn read_body(&mut self, alloc: Global, framing: Framing) -> Result<Vec<u8>, Fault>
+    /// Reads a body, into room for it.
+    pub(crate) fn read_body(&mut self, empty: Vec<u8>, framing: Framing) -> Result<Vec<u8>, Fault>
+        requires { empty.items ≡ [] }
         ensures body { IfOk result (λ body. IfSome (ahead R.remaining self.old) (λ after.
             (rest : List ℕ) × ReadsBody self.old.limits framing after body.items rest × (ahead R.remaining self.new ≡ Some rest))) }
         ensures refused { IfErr result (λ fault. IfSome (ahead R.remaining self.old) (BodyRefused self.old.limits framing fault)) }
@@ -60,13 +63,14 @@ impl<R: Source> Reader<R> {
         ensures none_failed { OnOk result (R.failed self.new.source ≡ R.failed self.old.source) }
     {
         match framing {
-            Framing::Sized(size) => self.read_sized(alloc, size),
-            Framing::Chunked => self.read_chunks(alloc),
+            Framing::Sized(size) => self.read_sized(empty, size),
+            Framing::Chunked => self.read_chunks(empty),
         }
     }
 
     /// Reads a body of so many bytes.
-    fn read_sized(&mut self, alloc: Global, size: u64) -> Result<Vec<u8>, Fault>
+    fn read_sized(&mut self, empty: Vec<u8>, size: u64) -> Result<Vec<u8>, Fault>
+        requires { empty.items ≡ [] }
         ensures body { IfOk result (λ body. IfSome (ahead R.remaining self.old) (λ after.
             (rest : List ℕ) × ReadsBody self.old.limits (Sized size) after body.items rest × (ahead R.remaining self.new ≡ Some rest))) }
         ensures refused { IfErr result (λ fault. IfSome (ahead R.remaining self.old) (BodyRefused self.old.limits (Sized size) fault)) }
@@ -78,7 +82,7 @@ impl<R: Source> Reader<R> {
         if size > self.limits.body {
             return Err(Fault::BodyTooLarge);
         }
-        let mut body = Vec::new(alloc);
+        let mut body = empty;
         self.append(&mut body, size as usize)?;
         Ok(body)
     }
@@ -102,7 +106,9 @@ impl<R: Source> Reader<R> {
         let Some(head) = self.read_head(alloc)? else {
             return Ok(None);
         };
-        let body = self.read_body(alloc, head.framing())?;
+        let mut empty = mem::replace(&mut self.body, Vec::new(alloc));
+        empty.clear();
+        let body = self.read_body(empty, head.framing())?;
         Ok(Some(Request::new(head, body)))
     }
 

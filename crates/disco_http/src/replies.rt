@@ -106,7 +106,7 @@ impl<R: Source> Reader<R> {
         ensures none_failed { OnOk result (R.failed self.new.source ≡ R.failed self.old.source) }
     {
         match extent {
-            Extent::Framed(framing) => self.read_body(alloc, framing),
+            Extent::Framed(framing) => self.read_body(Vec::new(alloc), framing),
             Extent::UntilEnd => self.read_to_end(alloc),
         }
     }

@@ -127,7 +127,11 @@ fn exchange<R: Source, W: Sink, S: Service>(
     ensures none_failed { result ≡ Step.Goes → (R.failed (source_of reader.new) ≡ R.failed (source_of reader.old)) × (W.failed (sink_of writer.new) ≡ W.failed (sink_of writer.old)) }
 {
     match reader.read_request(alloc) {
-        Ok(Some(request)) => answer(writer, service, &request, last),
+        Ok(Some(request)) => {
+            let step = answer(writer, service, &request, last);
+            reader.keep(request);
+            step
+        }
         Ok(None) => Step::Stops(End::Closed),
         Err(Fault::ReadFailed) => Step::Stops(End::Fault(Fault::ReadFailed)),
         Err(fault) => refuse::<W, S::Body>(writer, fault),

@@ -8,10 +8,11 @@ ghost use Rattle.disco_instance.specs.declared.fault.Fault.TheVariants.{BadReque
 use crate::fields::Values;
 use crate::framing::{Framing, framed};
 use crate::lists::any_lists;
+use crate::room::{HeadRoom, refill_bytes, refill_spans};
 use crate::target::{Path, path_of};
 use disco_instance::Fault;
 use httparse::spans::{HeaderSpan, RequestSpans};
-use std::alloc::{AllocError, Global};
+use std::alloc::AllocError;
 use std::marker::Model;
 
 /// The head of a request that may be read on. Contracts see what it says.
@@ -53,7 +54,7 @@ pub(crate) fn closes(text: &[u8], minor: u8, fields: &[HeaderSpan]) -> bool
 
 /// Copies a head out of the buffer that it was found in.
 fn copy(
-    alloc: Global,
+    room: HeadRoom,
     buf: &[u8],
     spans: &[HeaderSpan],
     line: &RequestSpans,
@@ -68,13 +69,18 @@ fn copy(
     ensures framing { IfOk result (λ head. head.framing ≡ framing) }
     ensures closes { IfOk result (λ head. head.closes ≡ closes) }
 {
-    let target = path.copy(alloc)?;
-    let text = Vec::from_slice(alloc, &buf[..line.len])?;
-    let spans = Vec::from_slice(alloc, &spans[..line.headers])?;
+    let HeadRoom {
+        mut text,
+        spans: mut fields,
+        mut target,
+    } = room;
+    path.copy_to(&mut target)?;
+    refill_bytes(&mut text, &buf[..line.len])?;
+    refill_spans(&mut fields, &spans[..line.headers])?;
     Ok(Head {
         text,
         line: *line,
-        spans,
+        spans: fields,
         target,
         framing,
         closes,
@@ -85,10 +91,10 @@ impl Head {
     ghost use Rattle.disco_message.specs.Fields.{values};
     ghost use Rattle.disco_message.specs.ValuesLeft.{values_left};
 
-    /// The head that was found at the front of a buffer. Refused as `BadRequest` or
-    /// `UnsupportedCoding` for what it says, and else as `OutOfMemory`.
+    /// The head that was found at the front of a buffer, copied into room. Refused as `BadRequest`
+    /// or `UnsupportedCoding` for what it says, and else as `OutOfMemory`.
     pub fn new(
-        alloc: Global,
+        room: HeadRoom,
         buf: &[u8],
         spans: &[HeaderSpan],
         line: &RequestSpans,
@@ -103,9 +109,24 @@ impl Head {
         };
         let framing = framed(buf, line.version, fields)?;
         let closes = closes(buf, line.version, fields);
-        match copy(alloc, buf, spans, line, path, framing, closes) {
+        match copy(room, buf, spans, line, path, framing, closes) {
             Ok(head) => Ok(head),
             Err(AllocError) => Err(Fault::OutOfMemory),
+        }
+    }
+
+    /// The room that it takes.
+    pub(crate) fn into_room(self) -> HeadRoom {
+        let Head {
+            text,
+            spans,
+            target,
+            ..
+        } = self;
+        HeadRoom {
+            text,
+            spans,
+            target,
         }
     }
 

@@ -13,6 +13,7 @@ mod received;
 mod reply;
 mod reply_head;
 mod request;
+mod room;
 mod status_line;
 mod target;
 
@@ -24,4 +25,5 @@ pub use received::{Extent, ReceivedHead};
 pub use reply::{Document, Reply};
 pub use reply_head::{HEAD_ROOM, push_bytes, push_head};
 pub use request::Request;
+pub use room::HeadRoom;
 pub use status_line::{Allow, StatusLine, refusal};

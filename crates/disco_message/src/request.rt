@@ -4,6 +4,7 @@ ghost use Rattle.disco_message.specs.Asked.{asked};
 
 use crate::fields::Values;
 use crate::head::Head;
+use crate::room::HeadRoom;
 use std::marker::Model;
 
 /// A whole request. Contracts see what it asks.
@@ -30,6 +31,11 @@ impl Request {
         ensures { result ≡ asked head body.items }
     {
         Request { head, body }
+    }
+
+    /// The room of its head and that of its body, for the next one.
+    pub fn into_room(self) -> (HeadRoom, Vec<u8>) {
+        (self.head.into_room(), self.body)
     }
 
     /// The method, as it stands in the request: `get` is another one than `GET`.

@@ -3,7 +3,7 @@ ghost use Rattle.std.specs.Prelude.{◌≡◌};
 ghost use Rattle.disco_message.specs.Target.{path_of, behind_scheme, with_slash, from_path};
 
 use http1::text::eq_ignore_case;
-use std::alloc::{AllocError, Global};
+use std::alloc::AllocError;
 use std::marker::Model;
 
 /// A path with its query: bytes of the target, and perhaps a `/` in front of them.
@@ -63,17 +63,16 @@ fn behind_authority(target: &[u8]) -> Path<'_>
 }
 
 impl<'a> Path<'a> {
-    ghost use Rattle.std.specs.Prelude.{IfOk};
+    ghost use Rattle.std.specs.Prelude.{OnOk};
 
-    /// Its bytes.
-    pub(crate) fn copy(&self, alloc: Global) -> Result<Vec<u8>, AllocError>
-        ensures { IfOk result (λ bytes. bytes.items ≡ self.now) }
+    /// Puts its bytes in the place of those that are kept.
+    pub(crate) fn copy_to(&self, kept: &mut Vec<u8>) -> Result<(), AllocError>
+        ensures { OnOk result (kept.new.items ≡ self.now) }
     {
-        let mut bytes = Vec::with_capacity(alloc, self.rest.len() + 1)?;
+        kept.clear();
         if self.slash {
-            bytes.push(b'/')?;
+            kept.push(b'/')?;
         }
-        bytes.extend_from_slice(self.rest)?;
-        Ok(bytes)
+        kept.extend_from_slice(self.rest)
     }
 }
