@@ -42,7 +42,7 @@ impl Model for DocCache {
 }
 
 /// Where the document of a key is, or where it would go.
-pub(crate) fn place(docs: &[Arc<Payload, Global>], key: &DocKey) -> Result<usize, usize>
+fn place(docs: &[Arc<Payload, Global>], key: &DocKey) -> Result<usize, usize>
     requires { AreSorted docs.now }
     ensures found { IfOk result (λ i. IsAt docs.now key.now i) }
     ensures absent { IfErr result (λ i. IsGap docs.now key.now i) }

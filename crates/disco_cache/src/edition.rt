@@ -1,9 +1,10 @@
 //! Documents that a publisher shows to readers.
-ghost use Rattle.std.specs.Prelude.{◌≡◌, IfErr, IfSome, OnErr, OnOk, option_map};
+ghost use Rattle.std.specs.Prelude.{◌≡◌, IfErr, IfOk, IfSome, OnErr, OnOk, option_map};
 ghost use Rattle.std.specs.FinMap as finmap;
 ghost use Rattle.disco_instance.specs.declared.fault.Fault.TheVariants.{OutOfMemory};
+ghost use Rattle.disco_cache.specs.Shelved.{AreShelved, IsAt, IsGap};
 
-use crate::cache::place;
+use crate::entry::Entry;
 use crate::key::DocKey;
 use crate::payload::Payload;
 use disco_instance::Fault;
@@ -14,23 +15,32 @@ use std::sync::Arc;
 /// Documents by key, as many as were copied.
 #[derive(Drop)]
 pub struct Edition {
-    docs: Vec<Arc<Payload, Global>>,
+    entries: Vec<Entry>,
 }
 
 impl Model for Edition {
     ghost use Rattle.std.specs.Coded.{codes};
     ghost use Rattle.std.specs.FinMap.{FinMap, code};
     ghost use Rattle.disco_cache.specs.Keys.{doc_cmp};
-    ghost use Rattle.disco_cache.specs.Kept.{AreSorted, map_of};
+    ghost use Rattle.disco_cache.specs.Shelved.{AreShelved, map_of};
     ghost use Rattle.disco_cache.specs.declared.payload.Payload.{Payload};
 
     ghost Value = { FinMap doc_cmp Payload };
 
     ghost coded = { Prim.hlevel (codes, code) };
 
-    ghost view = { λ e. map_of e.docs.items };
+    ghost view = { λ e. map_of e.entries.items };
 
-    ghost invariant = { λ e. AreSorted e.docs.items };
+    ghost invariant = { λ e. AreShelved e.entries.items };
+}
+
+/// Where the document of a key is, or where it would go.
+fn place(entries: &[Entry], key: &DocKey) -> Result<usize, usize>
+    requires { AreShelved entries.now }
+    ensures found { IfOk result (λ i. IsAt entries.now key.now i) }
+    ensures absent { IfErr result (λ i. IsGap entries.now key.now i) }
+{
+    entries.binary_search_by(|entry| entry.key.compare(key))
 }
 
 impl Edition {
@@ -39,7 +49,7 @@ impl Edition {
         ensures { result ≡ finmap.empty }
     {
         Edition {
-            docs: Vec::new(alloc),
+            entries: Vec::new(alloc),
         }
     }
 
@@ -47,7 +57,7 @@ impl Edition {
     pub fn len(&self) -> usize
         ensures { result ≡ finmap.len self.now }
     {
-        self.docs.len()
+        self.entries.len()
     }
 
     /// The document of a key, if there is one. Takes no memory.
@@ -55,8 +65,8 @@ impl Edition {
         ensures found { option_map (λ d. d.now.value) result ≡ finmap.get self.now key.now }
         ensures same_key { IfSome result (λ d. d.now.value.key ≡ key.now) }
     {
-        match place(&self.docs, key) {
-            Ok(i) => Some(&self.docs[i]),
+        match place(&self.entries, key) {
+            Ok(i) => Some(&self.entries[i].doc),
             Err(_) => None,
         }
     }
@@ -68,9 +78,10 @@ impl Edition {
         ensures err { OnErr result (self.new ≡ self.old) }
         ensures memory { IfErr result (λ e. e ≡ OutOfMemory) }
     {
-        match place(&self.docs, &doc.key) {
-            Ok(i) => self.docs[i] = doc,
-            Err(i) => self.docs.insert(i, doc)?,
+        let entry = Entry::of(doc)?;
+        match place(&self.entries, &entry.key) {
+            Ok(i) => self.entries[i] = entry,
+            Err(i) => self.entries.insert(i, entry)?,
         }
         Ok(())
     }
@@ -79,8 +90,8 @@ impl Edition {
     pub fn remove(&mut self, key: &DocKey)
         ensures { self.new ≡ finmap.remove self.old key.now }
     {
-        if let Ok(i) = place(&self.docs, key) {
-            let _ = self.docs.remove(i);
+        if let Ok(i) = place(&self.entries, key) {
+            let _ = self.entries.remove(i);
         }
     }
 }

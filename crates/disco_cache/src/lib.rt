@@ -3,6 +3,7 @@
 
 mod cache;
 mod edition;
+mod entry;
 mod key;
 mod named;
 mod payload;
