@@ -3,11 +3,11 @@ use Rattle.std.proofs.Common.{◌≡◌, ◌≢◌, ◌⊎◌, inl, inr, ℕ, tr
 use Rattle.std.proofs.lemmas.List.{map-append}
 use Rattle.std.specs.declared.alloc.Global.{Global}
 use Rattle.std.specs.declared.sync.Arc.{Arc}
-use Rattle.disco_instance.specs.Fault.{fault_number}
-use Rattle.disco_instance.specs.declared.fault.Fault.{Fault}
-use Rattle.disco_instance.specs.declared.fault.Fault.TheVariants.{OutOfMemory}
-use Rattle.disco_instance.specs.declared.form.Form.{Form}
-use Rattle.disco_instance.specs.declared.key.Key.{Key}
+use Rattle.disco_values.specs.Fault.{fault_number}
+use Rattle.disco_values.specs.declared.fault.Fault.{Fault}
+use Rattle.disco_values.specs.declared.fault.Fault.TheVariants.{OutOfMemory}
+use Rattle.disco_values.specs.declared.form.Form.{Form}
+use Rattle.disco_values.specs.declared.key.Key.{Key}
 use Rattle.disco_history.specs.Change.{Entry}
 use Rattle.disco_cache.specs.declared.key.DocKey.{DocKey}
 use Rattle.disco_cache.specs.declared.payload.Payload.{Payload}

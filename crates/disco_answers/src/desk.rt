@@ -2,7 +2,7 @@
 ghost use Rattle.std.specs.Prelude.{◌≡◌, ◌≤◌, Ok, Result};
 ghost use mathlib.Core.List.{IsPrefix};
 ghost use Rattle.disco_instance.specs.Instance.{Gives};
-ghost use Rattle.disco_instance.specs.declared.fault.Fault.{Fault};
+ghost use Rattle.disco_values.specs.declared.fault.Fault.{Fault};
 ghost use Rattle.disco_hub.specs.State.{rules_of};
 ghost use Rattle.disco_message.specs.ReplyText.{answer_of};
 ghost use Rattle.disco_calls.specs.Calls.{Asks, call, loads, seen, shows, shows_id, writes};

@@ -2,7 +2,7 @@
 ghost use Rattle.std.specs.Prelude.{◌≡◌, IfSome, Result};
 ghost use mathlib.Core.List.{IsPrefix};
 ghost use Rattle.disco_instance.specs.Instance.{Gives};
-ghost use Rattle.disco_instance.specs.declared.fault.Fault.{Fault};
+ghost use Rattle.disco_values.specs.declared.fault.Fault.{Fault};
 ghost use Rattle.disco_message.specs.ReplyText.{answer_of};
 ghost use Rattle.disco_calls.specs.Calls.{Asks, call, seen};
 ghost use Rattle.disco_answers.specs.Desks.{IsAnsweredBySome, IsLooked, IsTold};

@@ -9,8 +9,8 @@ use Rattle.std.specs.Ordering.{nat_cmp, is_eq, ordering_then}
 use Rattle.std.specs.Str.{bytes_eq}
 use Rattle.std.proofs.lemmas.Map.Text.{is_eq-slice_cmp}
 use Rattle.disco_instance.specs.Row.{Row}
-use Rattle.disco_instance.specs.declared.form.Form.{Form}
-use Rattle.disco_instance.specs.declared.form.Form.TheVariants.{Full, Compact}
+use Rattle.disco_values.specs.declared.form.Form.{Form}
+use Rattle.disco_values.specs.declared.form.Form.TheVariants.{Full, Compact}
 use Rattle.disco_history.specs.Query.{asks_for, vips}
 use Rattle.disco_history.proofs.Keys.{same_key-parts, same_key-sym}
 use Rattle.disco_writer.specs.Documents.{asked_by}

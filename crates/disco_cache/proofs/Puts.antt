@@ -4,7 +4,7 @@ use Rattle.std.specs.List as list
 use Rattle.std.specs.FinMap as map
 use Rattle.std.specs.declared.alloc.Global.{Global}
 use Rattle.std.specs.declared.sync.Arc.{Arc}
-use Rattle.disco_instance.specs.declared.fault.Fault.{Fault}
+use Rattle.disco_values.specs.declared.fault.Fault.{Fault}
 use Rattle.disco_history.proofs.SortedBy.{get_at, get_gap, inserted_gap, len_of}
 use Rattle.disco_cache.specs.Docs.{Docs}
 use Rattle.disco_cache.specs.Kept.{AreSorted, IsAt, IsGap, Stored, key_in, map_of, shown}

@@ -4,7 +4,7 @@ ghost use Rattle.std.specs.Option.{option_map_or};
 ghost use Rattle.std.specs.List as list;
 ghost use Rattle.std.specs.FinMap as finmap;
 ghost use Rattle.disco_instance.specs.Row.{row};
-ghost use Rattle.disco_instance.specs.declared.fault.Fault.TheVariants.{OutOfMemory};
+ghost use Rattle.disco_values.specs.declared.fault.Fault.TheVariants.{OutOfMemory};
 ghost use Rattle.disco_history.specs.Query.{asks_for, is_named, vips};
 ghost use Rattle.disco_writer.specs.Documents.{asked_by};
 ghost use Rattle.disco_cache.specs.Docs.{Drops};

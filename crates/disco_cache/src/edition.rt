@@ -1,7 +1,7 @@
 //! Documents that a publisher shows to readers.
 ghost use Rattle.std.specs.Prelude.{◌≡◌, IfErr, IfOk, IfSome, OnErr, OnOk, option_map};
 ghost use Rattle.std.specs.FinMap as finmap;
-ghost use Rattle.disco_instance.specs.declared.fault.Fault.TheVariants.{OutOfMemory};
+ghost use Rattle.disco_values.specs.declared.fault.Fault.TheVariants.{OutOfMemory};
 ghost use Rattle.disco_cache.specs.Shelved.{AreShelved, IsAt, IsGap};
 
 use crate::entry::Entry;

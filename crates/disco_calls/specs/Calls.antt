@@ -2,11 +2,11 @@
 use Rattle.std.specs.Prelude.{ℕ, List, Option, Some, None, Result, Ok, Err, if◌then◌else◌}
 use Rattle.std.specs.Str.{is_utf8}
 use Rattle.disco_cache.specs.declared.key.DocKey.{DocKey}
-use Rattle.disco_instance.specs.Text.{in_upper_case}
-use Rattle.disco_instance.specs.declared.fault.Fault.{Fault}
-use Rattle.disco_instance.specs.declared.fault.Fault.TheVariants.{BadMethod, BadRequest, NotAcceptable, NotFound}
-use Rattle.disco_instance.specs.declared.form.Form.{Form}
-use Rattle.disco_instance.specs.declared.key.Key.{Key}
+use Rattle.disco_values.specs.Text.{in_upper_case}
+use Rattle.disco_values.specs.declared.fault.Fault.{Fault}
+use Rattle.disco_values.specs.declared.fault.Fault.TheVariants.{BadMethod, BadRequest, NotAcceptable, NotFound}
+use Rattle.disco_values.specs.declared.form.Form.{Form}
+use Rattle.disco_values.specs.declared.key.Key.{Key}
 use Rattle.disco_message.specs.Asked.{Asked}
 use Rattle.disco_message.specs.declared.status_line.Allow.{Allow}
 use Rattle.disco_registry.specs.Op.{Ask, ask_of, cancel, renew, drop_status, add_metadata}

@@ -2,10 +2,10 @@
 use Rattle.std.specs.Prelude.{ℕ, List, Option, Some, None, Result, Ok, Err, if◌then◌else◌}
 use Rattle.std.specs.Str.{bytes_eq}
 use Rattle.disco_instance.specs.Row.{Row}
-use Rattle.disco_instance.specs.Text.{in_upper_case}
-use Rattle.disco_instance.specs.declared.fault.Fault.{Fault}
-use Rattle.disco_instance.specs.declared.fault.Fault.TheVariants.{BadStatus, MismatchedApp}
-use Rattle.disco_instance.specs.declared.key.Key.{Key}
+use Rattle.disco_values.specs.Text.{in_upper_case}
+use Rattle.disco_values.specs.declared.fault.Fault.{Fault}
+use Rattle.disco_values.specs.declared.fault.Fault.TheVariants.{BadStatus, MismatchedApp}
+use Rattle.disco_values.specs.declared.key.Key.{Key}
 use Rattle.disco_registry.specs.Op.{Ask, register, set_status}
 
 -- the key that a path names: the app's name counts in upper case

@@ -4,7 +4,7 @@ use Rattle.std.specs.List.{after_first, before_first}
 use Rattle.std.specs.Str.{bytes_eq}
 use Rattle.std.specs.Str.Lossy.{utf8_lossy}
 use Rattle.form_urlencoded.specs.Form.{decode, raw_pairs}
-use Rattle.disco_instance.specs.Entries.{entries_of}
+use Rattle.disco_values.specs.Entries.{entries_of}
 
 abbrev pub is_question : ℕ → Bool
 is_question b = b == 63

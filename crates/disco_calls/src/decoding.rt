@@ -1,6 +1,6 @@
 //! Names in a path, percent-decoded.
 ghost use Rattle.std.specs.Prelude.{◌≡◌, IfOk, IfErr};
-ghost use Rattle.disco_instance.specs.declared.fault.Fault.TheVariants.{OutOfMemory};
+ghost use Rattle.disco_values.specs.declared.fault.Fault.TheVariants.{OutOfMemory};
 ghost use Rattle.disco_routes.specs.Places.{shown};
 ghost use Rattle.disco_calls.specs.Decoding.{decoded, text_of_part, two_texts};
 

@@ -1,7 +1,7 @@
 //! The operations that requests ask for.
 ghost use Rattle.std.specs.Prelude.{◌≡◌, IfOk, IfErr, Ok};
 ghost use Rattle.disco_instance.specs.Instance.{Gives};
-ghost use Rattle.disco_instance.specs.declared.fault.Fault.TheVariants.{OutOfMemory};
+ghost use Rattle.disco_values.specs.declared.fault.Fault.TheVariants.{OutOfMemory};
 ghost use Rattle.disco_registry.specs.Op as asking;
 ghost use Rattle.disco_registry.specs.Op.{ask_of};
 ghost use Rattle.disco_wire.specs.Registration.{registration_of};

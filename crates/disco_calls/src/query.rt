@@ -1,7 +1,7 @@
 //! The query of a request's target.
 ghost use Rattle.std.specs.Prelude.{◌≡◌, IfOk, IfErr};
 ghost use Rattle.std.specs.List.{after_first, before_first, position};
-ghost use Rattle.disco_instance.specs.declared.fault.Fault.TheVariants.{OutOfMemory};
+ghost use Rattle.disco_values.specs.declared.fault.Fault.TheVariants.{OutOfMemory};
 ghost use Rattle.disco_calls.specs.Query.{entries_of_query, is_question, pairs_of, path_in, query_in, text_of, value_of};
 
 use disco_instance::{Entries, Fault, Text};

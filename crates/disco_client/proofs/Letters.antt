@@ -6,7 +6,7 @@ use Rattle.std.specs.Str.{bytes_eq}
 use Rattle.std.proofs.lemmas.Bool.Decides.{nat_tests, same_from_decides}
 use Rattle.std.proofs.lemmas.Slice.Eq.{bytes_eq-Decides}
 use Rattle.std.proofs.lemmas.Str.Ascii.{lowercase-uppercase}
-use Rattle.disco_instance.specs.Text.{in_upper_case}
+use Rattle.disco_values.specs.Text.{in_upper_case}
 use Rattle.disco_history.specs.Query.{between_commas, vips}
 
 uppercase-lowercase : (c : ℕ) → to_ascii_uppercase (to_ascii_lowercase c) ≡ to_ascii_uppercase c

@@ -1,10 +1,10 @@
 -- The count of a status is below that of all places.
 use Rattle.std.proofs.Common.{◌≡◌, ℕ, ◌+◌, ◌-◌, ◌<◌, ◌^◌, refl, ap, ◌∙◌, arith}
 use Rattle.std.specs.FinMap.{FinMap, get, insert, len}
-use Rattle.disco_instance.specs.Key.{key_cmp}
-use Rattle.disco_instance.specs.declared.key.Key.{Key}
-use Rattle.disco_instance.specs.declared.status.Status.{Status}
-use Rattle.disco_instance.specs.declared.status.Status.TheVariants.{Up, Down, Starting, OutOfService, Unknown}
+use Rattle.disco_values.specs.Key.{key_cmp}
+use Rattle.disco_values.specs.declared.key.Key.{Key}
+use Rattle.disco_values.specs.declared.status.Status.{Status}
+use Rattle.disco_values.specs.declared.status.Status.TheVariants.{Up, Down, Starting, OutOfService, Unknown}
 use Rattle.disco_history.specs.Change.{Entry}
 use Rattle.disco_index.proofs.Changes.{count_law, insert_law}
 use Rattle.disco_index.specs.Tally.{Tally, count_in, more, tally_in, without}

@@ -2,10 +2,10 @@
 use Rattle.std.proofs.Common.{◌≡◌, Bool, true, false, cond, List, [], ◌∷◌, map, Option, Some, None, option_map, option_and_then, refl, sym, ap, ◌∙◌}
 use Rattle.std.specs.FinMap.{FinMap, empty, get, get-empty, get-insert, get-remove, keys, len, same_map, values}
 use Rattle.std.specs.Option.{option_or}
-use Rattle.disco_instance.specs.Key.{key_cmp, same_key}
+use Rattle.disco_values.specs.Key.{key_cmp, same_key}
 use Rattle.disco_instance.specs.Row.{Row}
-use Rattle.disco_instance.specs.declared.action.Action.TheVariants.{Added, Modified, Deleted}
-use Rattle.disco_instance.specs.declared.key.Key.{Key}
+use Rattle.disco_values.specs.declared.action.Action.TheVariants.{Added, Modified, Deleted}
+use Rattle.disco_values.specs.declared.key.Key.{Key}
 use Rattle.disco_history.specs.Change.{Entry, key_of, last}
 use Rattle.disco_history.specs.Held.{record_at}
 use Rattle.disco_instance.specs.Mention.{Mention}

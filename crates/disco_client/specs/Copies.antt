@@ -3,11 +3,11 @@ use Rattle.std.specs.Prelude.{◌≡◌, ℕ, Bool, false, ◌&&◌, List, map, 
 use Rattle.std.specs.FinMap.{FinMap, keys, values}
 use Rattle.std.specs.List.{list_any}
 use Rattle.std.specs.Str.{bytes_eq}
-use Rattle.disco_instance.specs.Key.{key_cmp}
+use Rattle.disco_values.specs.Key.{key_cmp}
 use Rattle.disco_instance.specs.Row.{Row}
-use Rattle.disco_instance.specs.Status.{is_same}
-use Rattle.disco_instance.specs.Text.{in_upper_case}
-use Rattle.disco_instance.specs.declared.status.Status.TheVariants.{Up}
+use Rattle.disco_values.specs.Status.{is_same}
+use Rattle.disco_values.specs.Text.{in_upper_case}
+use Rattle.disco_values.specs.declared.status.Status.TheVariants.{Up}
 use Rattle.disco_history.specs.Change.{Entry}
 use Rattle.disco_history.specs.Chosen.{chosen}
 use Rattle.disco_history.specs.Hash.{hash}

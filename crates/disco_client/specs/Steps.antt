@@ -1,8 +1,8 @@
 -- Entries that are put in and taken out one after another.
 use Rattle.std.specs.Prelude.{List, [], ◌∷◌, Option, Some, None}
 use Rattle.std.specs.FinMap.{FinMap, insert, remove}
-use Rattle.disco_instance.specs.Key.{key_cmp}
-use Rattle.disco_instance.specs.declared.key.Key.{Key}
+use Rattle.disco_values.specs.Key.{key_cmp}
+use Rattle.disco_values.specs.declared.key.Key.{Key}
 use Rattle.disco_history.specs.Change.{Entry, key_of}
 use Rattle.disco_history.specs.Registry.{put_of}
 

@@ -3,7 +3,7 @@ ghost use Rattle.std.specs.Prelude.{◌≡◌, ◌≢◌, ◌↔◌, ◌⊎◌, 
 ghost use Rattle.std.specs.FinMap.{empty, len, values};
 ghost use Rattle.std.specs.Str.{bytes_eq};
 ghost use Rattle.disco_instance.specs.Row.{row};
-ghost use Rattle.disco_instance.specs.declared.fault.Fault.TheVariants.{BadDocument, OutOfMemory};
+ghost use Rattle.disco_values.specs.declared.fault.Fault.TheVariants.{BadDocument, OutOfMemory};
 ghost use Rattle.disco_history.specs.Hash.{hash};
 ghost use Rattle.disco_history.specs.Mentions.{copied, overlay};
 ghost use Rattle.disco_wire.specs.Wire.{tell_all};
@@ -30,7 +30,7 @@ pub struct Copy {
 
 impl Model for Copy {
     ghost use Rattle.std.specs.FinMap.{FinMap};
-    ghost use Rattle.disco_instance.specs.Key.{key_cmp};
+    ghost use Rattle.disco_values.specs.Key.{key_cmp};
     ghost use Rattle.disco_instance.specs.Row.{Row};
     ghost use Rattle.std.specs.Coded.{codes};
     ghost use Rattle.std.specs.FinMap.{code};

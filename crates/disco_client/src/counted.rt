@@ -2,7 +2,7 @@
 ghost use Rattle.std.specs.Prelude.{◌≡◌, ◌<◌, ◌≤◌, ◌+◌, IfOk, IfErr, OnOk, map, vec_len};
 ghost use Rattle.std.specs.FinMap.{empty, get, insert, len, remove, values};
 ghost use Rattle.std.specs.Str.{bytes_eq};
-ghost use Rattle.disco_instance.specs.declared.fault.Fault.TheVariants.{OutOfMemory};
+ghost use Rattle.disco_values.specs.declared.fault.Fault.TheVariants.{OutOfMemory};
 ghost use Rattle.disco_history.specs.Hash.{hash};
 ghost use Rattle.disco_history.specs.Held.{entry_of};
 ghost use Rattle.disco_index.specs.Tally.{rows_of, tally_in, without};

@@ -1,7 +1,7 @@
 //! The records that a copy takes from the mentions of a document.
 ghost use Rattle.std.specs.Prelude.{◌≡◌, IfOk, map};
 ghost use Rattle.disco_instance.specs.Row.{row};
-ghost use Rattle.disco_instance.specs.declared.action.Action.TheVariants.{Added};
+ghost use Rattle.disco_values.specs.declared.action.Action.TheVariants.{Added};
 ghost use Rattle.disco_history.specs.Held.{entry_of};
 ghost use Rattle.disco_history.specs.Mentions.{known};
 ghost use Rattle.disco_wire.specs.Wire.{tell_all};

@@ -3,7 +3,7 @@ ghost use Rattle.std.specs.Prelude.{◌≡◌, ◌==◌, ◌&&◌, not, length, 
 ghost use Rattle.std.specs.List.{list_any};
 ghost use Rattle.std.specs.Str.{bytes_eq};
 ghost use Rattle.disco_instance.specs.Row.{row};
-ghost use Rattle.disco_instance.specs.Text.{in_upper_case};
+ghost use Rattle.disco_values.specs.Text.{in_upper_case};
 ghost use Rattle.disco_history.specs.Query.{vips};
 ghost use Rattle.disco_client.specs.Copies.{is_up_under};
 

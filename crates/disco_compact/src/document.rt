@@ -1,7 +1,7 @@
 //! Documents in the compact form.
 ghost use Rattle.std.specs.Prelude.{◌≡◌, length, IfErr, IfOk, List, false, option_map, true};
-ghost use Rattle.disco_instance.specs.declared.fault.Fault.TheVariants.{OutOfMemory};
-ghost use Rattle.disco_instance.specs.declared.form.Form.TheVariants.{Compact};
+ghost use Rattle.disco_values.specs.declared.fault.Fault.TheVariants.{OutOfMemory};
+ghost use Rattle.disco_values.specs.declared.form.Form.TheVariants.{Compact};
 ghost use Rattle.disco_history.specs.Change.{Entry};
 ghost use Rattle.disco_index.specs.Tally.{tally_in};
 ghost use Rattle.disco_index.specs.Vips.{IsIndexOf};

@@ -1,8 +1,8 @@
 //! The compact form of a record.
 ghost use Rattle.std.specs.Prelude.{◌≡◌, IfErr, IfOk};
 ghost use Rattle.disco_instance.specs.Row.{row};
-ghost use Rattle.disco_instance.specs.declared.fault.Fault.TheVariants.{OutOfMemory};
-ghost use Rattle.disco_instance.specs.declared.form.Form.TheVariants.{Compact};
+ghost use Rattle.disco_values.specs.declared.fault.Fault.TheVariants.{OutOfMemory};
+ghost use Rattle.disco_values.specs.declared.form.Form.TheVariants.{Compact};
 ghost use Rattle.disco_history.specs.Forms.{default_lease, formed};
 
 use disco_instance::{Entries, Fault, Lease, Record, Text};

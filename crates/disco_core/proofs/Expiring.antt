@@ -4,14 +4,14 @@ use Rattle.std.proofs.lemmas.Option.{same_Some}
 use Rattle.std.specs.FinMap.{get, keys, len}
 use Rattle.std.specs.Option.{option_flatten, option_map_or}
 use Rattle.disco_instance.specs.Row.{Row}
-use Rattle.disco_instance.specs.declared.key.Key.{Key}
+use Rattle.disco_values.specs.declared.key.Key.{Key}
 use Rattle.disco_history.specs.Registry.{reg}
 use Rattle.disco_history.proofs.Sets.{not_there}
 use Rattle.disco_lease.specs.Due.{due_at, due_moment, lets_expire, most_taken, overdue, taken}
 use Rattle.disco_lease.specs.Leases.{Lease, Leases, lease_at}
 use Rattle.disco_lease.proofs.Due.{same_overdue}
 use Rattle.disco_core.specs.Past.{Past, due_in, duration_at, history, taken_in}
-use Rattle.disco_instance.specs.declared.fault.Fault.{Fault}
+use Rattle.disco_values.specs.declared.fault.Fault.{Fault}
 use Rattle.std.specs.declared.vec.Vec.{Vec}
 use Rattle.std.specs.declared.alloc.Global.{Global}
 use Rattle.disco_core.specs.State.{AreLeasesOf, State, StandsFor}

@@ -4,11 +4,11 @@ use Rattle.std.specs.FinMap.{FinMap, get, get-insert, insert}
 use Rattle.std.specs.List.{list_any}
 use Rattle.std.specs.Option.{unwrap_or}
 use Rattle.std.specs.Str.{bytes_eq}
-use Rattle.disco_instance.specs.Key.{key_cmp, same_key}
+use Rattle.disco_values.specs.Key.{key_cmp, same_key}
 use Rattle.disco_instance.specs.Row.{Row}
-use Rattle.disco_instance.specs.declared.action.Action.{Action}
-use Rattle.disco_instance.specs.declared.action.Action.TheVariants.{Added, Modified, Deleted}
-use Rattle.disco_instance.specs.declared.key.Key.{Key}
+use Rattle.disco_values.specs.declared.action.Action.{Action}
+use Rattle.disco_values.specs.declared.action.Action.TheVariants.{Added, Modified, Deleted}
+use Rattle.disco_values.specs.declared.key.Key.{Key}
 use Rattle.disco_history.specs.Change.{Entry, key_of}
 use Rattle.disco_history.specs.Query.{asks_for, of_vip, vips}
 use Rattle.disco_history.specs.Registry.{put_of}

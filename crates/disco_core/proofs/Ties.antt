@@ -2,11 +2,11 @@
 use Rattle.std.proofs.Common.{◌≡◌, ℕ, ◌+◌, ◌-◌, ◌≤◌, Bool, true, false, cond, List, [], length, Option, Some, None, option_map, Result, Ok, Err, IfErr, IfSome, OnErr, refl, sym, ap, subst, ◌∙◌, arith}
 use Rattle.std.specs.FinMap.{FinMap, contains_key, empty, get, get-empty, get-insert, get-remove, insert, len, len-empty, len-insert, len-remove, remove}
 use Rattle.std.specs.Option.{option_flatten}
-use Rattle.disco_instance.specs.Key.{key_cmp, same_key}
+use Rattle.disco_values.specs.Key.{key_cmp, same_key}
 use Rattle.disco_instance.specs.Row.{Row}
-use Rattle.disco_instance.specs.declared.fault.Fault.{Fault}
-use Rattle.disco_instance.specs.declared.fault.Fault.TheVariants.{NotFound}
-use Rattle.disco_instance.specs.declared.key.Key.{Key}
+use Rattle.disco_values.specs.declared.fault.Fault.{Fault}
+use Rattle.disco_values.specs.declared.fault.Fault.TheVariants.{NotFound}
+use Rattle.disco_values.specs.declared.key.Key.{Key}
 use Rattle.disco_history.specs.Change.{Entry, key_of, seen}
 use Rattle.disco_history.specs.Registry.{put_of}
 use Rattle.disco_history.proofs.Keys.{keys_total, same_is}
@@ -23,8 +23,8 @@ use Rattle.disco_queue.specs.Queue.{Keeps, Queue, version}
 use Rattle.disco_registry.specs.Commit.{Takes, held_after, version_after}
 use Rattle.disco_history.specs.Held.{record_at}
 use Rattle.disco_registry.specs.State.{State, StandsFor, IsSameRegistry}
-use Rattle.disco_instance.specs.declared.action.Action.{Action}
-use Rattle.disco_instance.specs.declared.action.Action.TheVariants.{Added, Modified, Deleted}
+use Rattle.disco_values.specs.declared.action.Action.{Action}
+use Rattle.disco_values.specs.declared.action.Action.TheVariants.{Added, Modified, Deleted}
 use Rattle.disco_core.specs.State as core
 use Rattle.disco_core.specs.Moves.{Moves, lease_by}
 use Rattle.disco_core.specs.State.{AddsAny, HasVipPlaces}

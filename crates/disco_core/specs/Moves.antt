@@ -1,7 +1,7 @@
 -- What the private steps of a commit do to leases and places. Nothing here need be believed.
 use Rattle.std.specs.Prelude.{◌≡◌, ℕ, Option, Some, None, IsSome, option_map}
-use Rattle.disco_instance.specs.declared.action.Action.TheVariants.{Added, Modified, Deleted}
-use Rattle.disco_instance.specs.declared.key.Key.{Key}
+use Rattle.disco_values.specs.declared.action.Action.TheVariants.{Added, Modified, Deleted}
+use Rattle.disco_values.specs.declared.key.Key.{Key}
 use Rattle.disco_history.specs.Change.{Entry, key_of}
 use Rattle.disco_index.specs.Vips.{KeepsOthers, VipKeys}
 use Rattle.disco_lease.specs.Leases.{Lease, Leases, Sets, counted, extended, lease_at, marked}

@@ -1,10 +1,10 @@
 -- Which document is asked for, and why it isn't served.
 use Rattle.std.specs.Prelude.{ℕ, Bool, true, List, if◌then◌else◌, Option, Some, None, option_map}
 use Rattle.disco_instance.specs.Row.{Row}
-use Rattle.disco_instance.specs.declared.fault.Fault.{Fault}
-use Rattle.disco_instance.specs.declared.fault.Fault.TheVariants.{DeltaDisabled, NotFound}
-use Rattle.disco_instance.specs.declared.form.Form.{Form}
-use Rattle.disco_instance.specs.declared.key.Key.{Key}
+use Rattle.disco_values.specs.declared.fault.Fault.{Fault}
+use Rattle.disco_values.specs.declared.fault.Fault.TheVariants.{DeltaDisabled, NotFound}
+use Rattle.disco_values.specs.declared.form.Form.{Form}
+use Rattle.disco_values.specs.declared.key.Key.{Key}
 use Rattle.disco_history.specs.Change.{Entry}
 use Rattle.disco_history.specs.Query.{by_id, is_absent}
 use Rattle.disco_history.specs.Registry.{reg}

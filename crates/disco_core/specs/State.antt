@@ -1,8 +1,8 @@
 -- What a core is, and what its commits need.
 use Rattle.std.specs.Prelude.{◌≡◌, ℕ, Bool, true, Option, Some, None, Ok, IfSome, option_map}
 use Rattle.std.specs.FinMap.{FinMap, get}
-use Rattle.disco_instance.specs.Key.{key_cmp}
-use Rattle.disco_instance.specs.declared.key.Key.{Key}
+use Rattle.disco_values.specs.Key.{key_cmp}
+use Rattle.disco_values.specs.declared.key.Key.{Key}
 use Rattle.disco_history.specs.Change.{Entry, is_proper, key_of, seen}
 use Rattle.disco_history.specs.Registry.{put_of, reg}
 use Rattle.disco_index.specs.Vips as vips

@@ -1,8 +1,8 @@
 -- What ties the counts, the vips and the leases to the registry.
 use Rattle.std.specs.Prelude.{◌≡◌, ◌≤◌, option_map}
 use Rattle.std.specs.FinMap.{FinMap, len}
-use Rattle.disco_instance.specs.Key.{key_cmp}
-use Rattle.disco_instance.specs.declared.key.Key.{Key}
+use Rattle.disco_values.specs.Key.{key_cmp}
+use Rattle.disco_values.specs.declared.key.Key.{Key}
 use Rattle.disco_history.specs.Change.{Entry}
 use Rattle.disco_index.specs.Tally.{Tally, tally_in}
 use Rattle.disco_index.specs.Vips.{IsIndexOf, VipKeys}

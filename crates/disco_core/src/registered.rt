@@ -1,7 +1,7 @@
 //! The registry and all that follows its changes.
 ghost use Rattle.std.specs.Prelude.{◌≡◌, ◌≢◌, ◌<◌, ◌≤◌, ◌+◌, ◌-◌, List, IfErr, IfNone, IfOk, IfSome, OnErr, OnOk, Ok, Some, None, length, map, true, false, option_map};
 ghost use Rattle.std.specs.FinMap.{len};
-ghost use Rattle.disco_instance.specs.declared.fault.Fault.TheVariants.{OutOfMemory};
+ghost use Rattle.disco_values.specs.declared.fault.Fault.TheVariants.{OutOfMemory};
 ghost use Rattle.disco_instance.specs.Row.{row};
 ghost use Rattle.disco_history.specs.Change.{Entry, key_of, seen};
 ghost use Rattle.disco_history.specs.Held.{record_at};

@@ -1,7 +1,7 @@
 -- The place of the last change of a key, one change on.
 use Rattle.std.proofs.Common.{◌≡◌, ℕ, ◌+◌, ◌<◌, Bool, true, false, ◌&&◌, cond, List, [], ◌∷◌, ◌++◌, map, drop, take, length, Option, Some, None, option_map, MatchOption, slice_get, get_or, sym, ap, ◌∙◌, arith}
-use Rattle.disco_instance.specs.Key.{same_key}
-use Rattle.disco_instance.specs.declared.key.Key.{Key}
+use Rattle.disco_values.specs.Key.{same_key}
+use Rattle.disco_values.specs.declared.key.Key.{Key}
 use Rattle.disco_history.specs.declared.change.Change.{Change}
 use Rattle.disco_history.specs.Change.{key_of, last, seen}
 use Rattle.std.specs.Str.{bytes_eq}

@@ -6,11 +6,11 @@ use Rattle.std.specs.Option.{option_or}
 use Rattle.std.specs.FinMap.{FinMap, get, keys, values, len, entries, entries_sorted, same_map, contains_key-keys, from_sorted, entries-from_sorted, get-from_sorted, get-entries, len-entries}
 use Rattle.std.specs.FinMap.Entries.{is_sorted, find}
 use Rattle.std.proofs.lemmas.List.{length-map}
-use Rattle.disco_instance.specs.Key.{key_cmp, same_key}
+use Rattle.disco_values.specs.Key.{key_cmp, same_key}
 use Rattle.disco_instance.specs.Row.{Row}
-use Rattle.disco_instance.specs.declared.action.Action.{Action}
-use Rattle.disco_instance.specs.declared.action.Action.TheVariants.{Added, Modified, Deleted}
-use Rattle.disco_instance.specs.declared.key.Key.{Key}
+use Rattle.disco_values.specs.declared.action.Action.{Action}
+use Rattle.disco_values.specs.declared.action.Action.TheVariants.{Added, Modified, Deleted}
+use Rattle.disco_values.specs.declared.key.Key.{Key}
 use Rattle.disco_history.specs.Change.{Entry, key_of, last}
 use Rattle.disco_history.specs.Query.{Asked, all, of_key, asks_for, restrict}
 use Rattle.disco_history.specs.Registry.{put_of, reg, said}

@@ -5,9 +5,9 @@ use Rattle.std.specs.Ordering.{eq_by_cmp, is_lt}
 use Rattle.std.specs.FinMap.{FinMap, get, keys, values, len, entries, entries_sorted, same_map, contains_key-keys, insert, remove, empty, get-insert, get-remove, get-empty, from_sorted, entries-from_sorted, get-from_sorted, get-entries, len-entries}
 use Rattle.std.specs.FinMap.Entries.{is_sorted, below_all, find}
 use Rattle.std.proofs.lemmas.List.{length-map}
-use Rattle.disco_instance.specs.Key.{key_cmp, same_key}
+use Rattle.disco_values.specs.Key.{key_cmp, same_key}
 use Rattle.disco_instance.specs.Row.{Row}
-use Rattle.disco_instance.specs.declared.key.Key.{Key}
+use Rattle.disco_values.specs.declared.key.Key.{Key}
 use Rattle.disco_history.specs.Change.{Entry, key_of, last}
 use Rattle.disco_instance.specs.Mention.{Mention}
 use Rattle.disco_history.specs.Mentions.{delta, known, overlaid_by, overlay}

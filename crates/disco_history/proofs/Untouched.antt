@@ -2,8 +2,8 @@
 use Rattle.std.proofs.Common.{◌≡◌, Bool, true, false, ◌||◌, cond, List, [], ◌∷◌, ◌++◌, Option, Some, None, option_map, option_and_then, refl, sym, ap, ◌∙◌}
 use Rattle.std.specs.FinMap.{get, same_map}
 use Rattle.std.specs.Option.{option_map_or}
-use Rattle.disco_instance.specs.Key.{same_key}
-use Rattle.disco_instance.specs.declared.key.Key.{Key}
+use Rattle.disco_values.specs.Key.{same_key}
+use Rattle.disco_values.specs.declared.key.Key.{Key}
 use Rattle.disco_history.specs.Change.{Entry, key_of, last}
 use Rattle.disco_history.specs.Laws.{UntouchedLaw}
 use Rattle.disco_history.specs.Query.{Asked, asks_for, is_named, restrict}

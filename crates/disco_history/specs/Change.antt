@@ -1,11 +1,11 @@
 -- Changes of a registry as plain data, and the last one of each key.
 use Rattle.std.specs.Prelude.{ℕ, Bool, true, false, List, [], ◌∷◌, if◌then◌else◌, Option, Some, None, take}
 use Rattle.std.specs.Option.{option_or}
-use Rattle.disco_instance.specs.Key.{same_key}
+use Rattle.disco_values.specs.Key.{same_key}
 use Rattle.disco_instance.specs.Row.{Row, row}
-use Rattle.disco_instance.specs.declared.action.Action.{Action}
-use Rattle.disco_instance.specs.declared.action.Action.TheVariants.{Deleted}
-use Rattle.disco_instance.specs.declared.key.Key.{Key}
+use Rattle.disco_values.specs.declared.action.Action.{Action}
+use Rattle.disco_values.specs.declared.action.Action.TheVariants.{Deleted}
+use Rattle.disco_values.specs.declared.key.Key.{Key}
 use Rattle.disco_history.specs.declared.change.Change.{Change}
 use Rattle.disco_history.specs.declared.change.Change.TheVariants.{Put, Gone}
 

@@ -2,8 +2,8 @@
 use Rattle.std.specs.Prelude.{List, Option, option_map}
 use Rattle.std.specs.List.{filter_map}
 use Rattle.std.specs.FinMap.{FinMap, from_entries}
-use Rattle.disco_instance.specs.Key.{key_cmp}
-use Rattle.disco_instance.specs.declared.key.Key.{Key}
+use Rattle.disco_values.specs.Key.{key_cmp}
+use Rattle.disco_values.specs.declared.key.Key.{Key}
 
 -- at each of the keys what f gives there, if anything
 unfoldable pub chosen : {V : Type 0} → (Key → Option V) → List Key → FinMap key_cmp V

@@ -1,10 +1,10 @@
 -- The form of a record (this project's own rule).
 use Rattle.std.specs.Prelude.{false, [], option_map}
 use Rattle.std.specs.FinMap.{FinMap, get, keys}
-use Rattle.disco_instance.specs.Key.{key_cmp}
+use Rattle.disco_values.specs.Key.{key_cmp}
 use Rattle.disco_instance.specs.Row.{Row}
-use Rattle.disco_instance.specs.declared.form.Form.{Form}
-use Rattle.disco_instance.specs.declared.form.Form.TheVariants.{Full, Compact}
+use Rattle.disco_values.specs.declared.form.Form.{Form}
+use Rattle.disco_values.specs.declared.form.Form.TheVariants.{Full, Compact}
 use Rattle.disco_instance.specs.declared.lease.Lease.{Lease}
 use Rattle.disco_history.specs.Chosen.{chosen}
 use Rattle.disco_instance.specs.Mention.{Mention}

@@ -2,9 +2,9 @@
 use Rattle.std.specs.Prelude.{ℕ, ◌+◌, ◌==◌, List, [], ◌∷◌, ◌++◌, map, count_by, if◌then◌else◌}
 use Rattle.std.specs.Int.Digits.{digits_of}
 use Rattle.disco_instance.specs.Row.{Row}
-use Rattle.disco_instance.specs.Status.{is_same, status_name}
-use Rattle.disco_instance.specs.declared.status.Status.{Status}
-use Rattle.disco_instance.specs.declared.status.Status.TheVariants.{Up, Down, Starting, OutOfService, Unknown}
+use Rattle.disco_values.specs.Status.{is_same, status_name}
+use Rattle.disco_values.specs.declared.status.Status.{Status}
+use Rattle.disco_values.specs.declared.status.Status.TheVariants.{Up, Down, Starting, OutOfService, Unknown}
 
 -- how many records have the status
 abbrev pub count_of : List Row → Status → ℕ

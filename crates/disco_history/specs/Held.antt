@@ -3,9 +3,9 @@ use Rattle.std.specs.Prelude.{Option, option_map}
 use Rattle.std.specs.Option.{option_copied}
 use Rattle.std.specs.Borrow.{Bor}
 use Rattle.std.specs.FinMap.{FinMap, get}
-use Rattle.disco_instance.specs.Key.{key_cmp}
+use Rattle.disco_values.specs.Key.{key_cmp}
 use Rattle.disco_instance.specs.Row.{Row, row}
-use Rattle.disco_instance.specs.declared.key.Key.{Key}
+use Rattle.disco_values.specs.declared.key.Key.{Key}
 use Rattle.disco_instance.specs.declared.record.Record.{Record}
 use Rattle.disco_history.specs.Change.{Entry}
 use Rattle.disco_history.specs.declared.held.Held.{Held}

@@ -1,10 +1,10 @@
 -- Laws of the definitions.
 use Rattle.std.specs.Prelude.{◌≡◌, ◌↔◌, ◌≤◌, ℕ, false, List, [], ◌∷◌, ◌++◌, length, map, option_map}
 use Rattle.std.specs.FinMap.{FinMap, get, values}
-use Rattle.disco_instance.specs.Key.{key_cmp}
+use Rattle.disco_values.specs.Key.{key_cmp}
 use Rattle.disco_instance.specs.Row.{Row}
-use Rattle.disco_instance.specs.declared.form.Form.{Form}
-use Rattle.disco_instance.specs.declared.status.Status.{Status}
+use Rattle.disco_values.specs.declared.form.Form.{Form}
+use Rattle.disco_values.specs.declared.status.Status.{Status}
 use Rattle.disco_history.specs.Change.{Entry, front, key_of}
 use Rattle.disco_history.specs.Forms.{formed, in_form, mention_in}
 use Rattle.disco_history.specs.Hash.{hash, count_of}

@@ -2,10 +2,10 @@
 use Rattle.std.specs.Prelude.{ℕ, List, map, drop, ◌++◌, Option, Some, None, option_map}
 use Rattle.std.specs.List.{filter_map}
 use Rattle.std.specs.FinMap.{FinMap, get, keys}
-use Rattle.disco_instance.specs.Key.{key_cmp}
+use Rattle.disco_values.specs.Key.{key_cmp}
 use Rattle.disco_instance.specs.Mention.{Mention}
 use Rattle.disco_instance.specs.Row.{Row}
-use Rattle.disco_instance.specs.declared.action.Action.TheVariants.{Added}
+use Rattle.disco_values.specs.declared.action.Action.TheVariants.{Added}
 use Rattle.disco_history.specs.Change.{Entry, key_of, last}
 use Rattle.disco_history.specs.Chosen.{chosen}
 use Rattle.disco_history.specs.Registry.{kept_by, reg}

@@ -1,10 +1,10 @@
 -- The registry that a history leaves, and its mentions.
 use Rattle.std.specs.Prelude.{List, map, Option, Some, None, option_map, option_and_then}
 use Rattle.std.specs.FinMap.{FinMap, keys}
-use Rattle.disco_instance.specs.Key.{key_cmp}
+use Rattle.disco_values.specs.Key.{key_cmp}
 use Rattle.disco_instance.specs.Row.{Row}
-use Rattle.disco_instance.specs.declared.action.Action.{Action}
-use Rattle.disco_instance.specs.declared.action.Action.TheVariants.{Added, Modified, Deleted}
+use Rattle.disco_values.specs.declared.action.Action.{Action}
+use Rattle.disco_values.specs.declared.action.Action.TheVariants.{Added, Modified, Deleted}
 use Rattle.disco_history.specs.Change.{Entry, key_of, last}
 use Rattle.disco_history.specs.Chosen.{chosen}
 

@@ -2,11 +2,11 @@
 use Rattle.std.specs.Prelude.{◌≡◌, ℕ, true, false, List, [], ◌∷◌, map, codes, Some, None}
 use Rattle.std.specs.FinMap.{get}
 use Rattle.disco_instance.specs.Row.{Row}
-use Rattle.disco_instance.specs.declared.action.Action.TheVariants.{Added, Modified, Deleted}
-use Rattle.disco_instance.specs.declared.form.Form.TheVariants.{Full, Compact}
-use Rattle.disco_instance.specs.declared.key.Key.{Key}
-use Rattle.disco_instance.specs.declared.status.Status.{Status}
-use Rattle.disco_instance.specs.declared.status.Status.TheVariants.{Up, Down, Unknown}
+use Rattle.disco_values.specs.declared.action.Action.TheVariants.{Added, Modified, Deleted}
+use Rattle.disco_values.specs.declared.form.Form.TheVariants.{Full, Compact}
+use Rattle.disco_values.specs.declared.key.Key.{Key}
+use Rattle.disco_values.specs.declared.status.Status.{Status}
+use Rattle.disco_values.specs.declared.status.Status.TheVariants.{Up, Down, Unknown}
 use Rattle.disco_history.specs.Change.{Entry, front}
 use Rattle.disco_history.specs.Forms.{default_lease, formed}
 use Rattle.disco_history.specs.Hash.{digits, hash}

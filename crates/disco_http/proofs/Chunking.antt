@@ -4,8 +4,8 @@ use Rattle.std.specs.Io.KnownBytes.{Consumes}
 use Rattle.std.proofs.Math.Seq.{drop-append-add, drop-append_seam, take-append-add}
 use Rattle.std.proofs.lemmas.List.{take_at, take-append-drop, length-take}
 use Rattle.httparse.specs.Ascii.{crlf_bytes}
-use Rattle.disco_instance.specs.declared.fault.Fault.{Fault}
-use Rattle.disco_instance.specs.declared.fault.Fault.TheVariants.{OutOfMemory, HeadTooLarge, BadRequest, ReadFailed}
+use Rattle.disco_values.specs.declared.fault.Fault.{Fault}
+use Rattle.disco_values.specs.declared.fault.Fault.TheVariants.{OutOfMemory, HeadTooLarge, BadRequest, ReadFailed}
 use Rattle.disco_message.specs.declared.framing.Framing.TheVariants.{Chunked}
 use Rattle.disco_message.specs.declared.limits.Limits.{Limits}
 use Rattle.disco_http.specs.Bodies.{ReadsBody}

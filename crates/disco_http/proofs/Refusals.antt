@@ -1,8 +1,8 @@
 -- From what is unread to the stream.
 use Rattle.std.proofs.Common.{◌≡◌, ◌≢◌, ℕ, ◌<◌, ◌≤◌, List, [], Option, Some, None, ◌++◌, length, sym, ◌∙◌, ap, subst, inl, inr, IfSome, append-nil}
 use Rattle.std.specs.Io.KnownBytes.{Keeps, IsAtEnd, prepend_known}
-use Rattle.disco_instance.specs.declared.fault.Fault.{Fault}
-use Rattle.disco_instance.specs.declared.fault.Fault.TheVariants.{HeadTooLarge, BadRequest, ReadFailed}
+use Rattle.disco_values.specs.declared.fault.Fault.{Fault}
+use Rattle.disco_values.specs.declared.fault.Fault.TheVariants.{HeadTooLarge, BadRequest, ReadFailed}
 use Rattle.disco_message.specs.declared.limits.Limits.{Limits}
 use Rattle.disco_http.specs.declared.looking.Part.{Part}
 use Rattle.disco_http.specs.declared.looking.Part.TheVariants.{RequestHead, ReplyHead, SizeLine, Trailer}

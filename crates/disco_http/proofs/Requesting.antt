@@ -1,8 +1,8 @@
 -- A head that is refused is a request that is.
 use Rattle.std.proofs.Common.{◌≡◌, ℕ, List, [], Option, Some, None, Result, Ok, Err, IsOk, sym, IfSome, inl, inr, refl, subst, arith}
 use Rattle.httparse.specs.Grammar.{RequestHead}
-use Rattle.disco_instance.specs.declared.fault.Fault.{Fault}
-use Rattle.disco_instance.specs.declared.fault.Fault.TheVariants.{OutOfMemory}
+use Rattle.disco_values.specs.declared.fault.Fault.{Fault}
+use Rattle.disco_values.specs.declared.fault.Fault.TheVariants.{OutOfMemory}
 use Rattle.disco_message.specs.declared.framing.Framing.{Framing}
 use Rattle.disco_message.specs.declared.framing.Framing.TheVariants.{Sized, Chunked}
 use Rattle.disco_message.specs.declared.limits.Limits.{Limits}

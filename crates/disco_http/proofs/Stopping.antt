@@ -1,7 +1,7 @@
 -- A connection that stops before a request.
 use Rattle.std.proofs.Common.{◌≢◌, ℕ, Bool, List, Option, Some, None, IfSome, inl, refl}
-use Rattle.disco_instance.specs.declared.fault.Fault.TheVariants.{ReadFailed, WriteFailed}
-use Rattle.disco_instance.specs.declared.fault.Fault as fault
+use Rattle.disco_values.specs.declared.fault.Fault.TheVariants.{ReadFailed, WriteFailed}
+use Rattle.disco_values.specs.declared.fault.Fault as fault
 use Rattle.disco_message.specs.declared.limits.Limits.{Limits}
 use Rattle.disco_message.specs.Asked as message
 use Rattle.disco_message.specs.ReplyText.{Answer}

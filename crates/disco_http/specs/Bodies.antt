@@ -1,7 +1,7 @@
 -- The body behind a head, and why it is refused.
 use Rattle.std.specs.Prelude.{◌≡◌, ℕ, ◌<◌, ◌≤◌, List, ◌++◌, length, ⊤}
-use Rattle.disco_instance.specs.declared.fault.Fault.{Fault}
-use Rattle.disco_instance.specs.declared.fault.Fault.TheVariants.{OutOfMemory, BadRequest, BodyTooLarge, ReadFailed}
+use Rattle.disco_values.specs.declared.fault.Fault.{Fault}
+use Rattle.disco_values.specs.declared.fault.Fault.TheVariants.{OutOfMemory, BadRequest, BodyTooLarge, ReadFailed}
 use Rattle.disco_message.specs.declared.framing.Framing.{Framing}
 use Rattle.disco_message.specs.declared.framing.Framing.TheVariants.{Sized, Chunked}
 use Rattle.disco_message.specs.declared.limits.Limits.{Limits}

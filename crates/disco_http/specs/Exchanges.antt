@@ -1,8 +1,8 @@
 -- Only what code keeps: nothing here is to be believed.
 use Rattle.std.specs.Prelude.{◌≡◌, ℕ, ◌-◌, Bool, false, List, [], ◌∷◌, ◌++◌, length, Option, Some, None}
 use Rattle.std.specs.Io.KnownBytes.{Appends}
-use Rattle.disco_instance.specs.declared.fault.Fault.TheVariants.{WriteFailed}
-use Rattle.disco_instance.specs.declared.fault.Fault as fault
+use Rattle.disco_values.specs.declared.fault.Fault.TheVariants.{WriteFailed}
+use Rattle.disco_values.specs.declared.fault.Fault as fault
 use Rattle.disco_message.specs.declared.limits.Limits.{Limits}
 use Rattle.disco_message.specs.Asked as message
 use Rattle.disco_message.specs.ReplyText.{Answer, reply_text}

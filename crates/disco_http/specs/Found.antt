@@ -3,12 +3,12 @@ use Rattle.std.specs.Prelude.{◌≡◌, ℕ, ◌≤◌, ⊤, ◌⊎◌, IsOk, B
 use Rattle.httparse.specs.Grammar.{RequestHead, ResponseHead, ChunkLine, Field, LineEnd, print_section, ReadsSection}
 use Rattle.httparse.specs.Spans.{IsRequestWithin, IsRequestOf, IsResponseWithin, IsResponseOf, IsChunkLineAt}
 use Rattle.httparse.specs.declared.spans.HeaderSpan.{HeaderSpan}
-use Rattle.disco_instance.specs.declared.fault.Fault.{Fault}
+use Rattle.disco_values.specs.declared.fault.Fault.{Fault}
 use Rattle.disco_http.specs.declared.looking.Found.{Found}
 use Rattle.disco_http.specs.declared.looking.Found.TheVariants as found
 use Rattle.disco_http.specs.declared.looking.Part.{Part}
 use Rattle.disco_http.specs.declared.looking.Part.TheVariants as part
-use Rattle.disco_instance.specs.declared.fault.Fault.TheVariants.{OutOfMemory, HeadTooLarge, BadRequest, ReadFailed}
+use Rattle.disco_values.specs.declared.fault.Fault.TheVariants.{OutOfMemory, HeadTooLarge, BadRequest, ReadFailed}
 use Rattle.disco_message.specs.declared.limits.Limits.{Limits}
 use Rattle.disco_http.specs.Chunks.{HasSize, LacksChunk, LineRefused, ReadsChunk, ReadsPieces, joined}
 use Rattle.disco_http.specs.Parts.{HasNo, BytesRefused, PartRefused}

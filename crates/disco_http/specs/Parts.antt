@@ -2,8 +2,8 @@
 use Rattle.std.specs.Prelude.{◌≡◌, ◌≢◌, ℕ, ◌<◌, ◌≤◌, ◌⊎◌, List, [], ◌++◌, length, ⊤}
 use Rattle.httparse.specs.Grammar.{HasNoRequest, NeverHasRequest, HasNoResponse, NeverHasResponse, HasNoSection, NeverHasSection, HasNoChunkLine, NeverHasChunkLine}
 use Rattle.httparse.specs.Spans.{RequestExceeds, ResponseExceeds, SectionExceeds}
-use Rattle.disco_instance.specs.declared.fault.Fault.{Fault}
-use Rattle.disco_instance.specs.declared.fault.Fault.TheVariants.{HeadTooLarge, BadRequest, ReadFailed}
+use Rattle.disco_values.specs.declared.fault.Fault.{Fault}
+use Rattle.disco_values.specs.declared.fault.Fault.TheVariants.{HeadTooLarge, BadRequest, ReadFailed}
 use Rattle.disco_message.specs.declared.limits.Limits.{Limits}
 use Rattle.disco_http.specs.declared.looking.Part.{Part}
 use Rattle.disco_http.specs.declared.looking.Part.TheVariants.{RequestHead, ReplyHead, SizeLine, Trailer}

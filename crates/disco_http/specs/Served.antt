@@ -1,8 +1,8 @@
 -- The answers to the requests of a stream, and how a connection ends.
 use Rattle.std.specs.Prelude.{◌≡◌, ◌≢◌, ◌⊎◌, ℕ, ◌-◌, Bool, true, false, List, [], ◌∷◌, ◌++◌, length, Option, Some, None, if◌then◌else◌, ◌==◌, ⊤}
 use Rattle.std.specs.Io.KnownBytes.{Appends}
-use Rattle.disco_instance.specs.declared.fault.Fault.TheVariants.{ReadFailed, WriteFailed}
-use Rattle.disco_instance.specs.declared.fault.Fault as fault
+use Rattle.disco_values.specs.declared.fault.Fault.TheVariants.{ReadFailed, WriteFailed}
+use Rattle.disco_values.specs.declared.fault.Fault as fault
 use Rattle.disco_message.specs.declared.limits.Limits.{Limits}
 use Rattle.disco_message.specs.Asked as message
 use Rattle.disco_message.specs.ReplyText.{Answer, reply_text}

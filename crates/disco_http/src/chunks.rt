@@ -2,7 +2,7 @@
 ghost use Rattle.std.specs.Prelude.{◌≡◌, ◌+◌, ◌≤◌, ◌<◌, ◌^◌, ◌++◌, [], ℕ, List, length, vec_len, IfOk, IfErr, IfSome, Some, OnOk, IsTrue, ◌↔◌, drop};
 ghost use Rattle.std.specs.Io.KnownBytes.{Consumes};
 ghost use Rattle.httparse.specs.Ascii.{crlf_bytes};
-ghost use Rattle.disco_instance.specs.declared.fault.Fault.TheVariants.{ReadFailed};
+ghost use Rattle.disco_values.specs.declared.fault.Fault.TheVariants.{ReadFailed};
 ghost use Rattle.disco_message.specs.declared.framing.Framing.TheVariants.{Chunked};
 ghost use Rattle.disco_http.specs.Causes.{Cause, is_of_reading};
 

@@ -2,7 +2,7 @@
 ghost use Rattle.std.specs.Prelude.{◌≡◌, ◌≤◌, ◌⊎◌, [], ℕ, List, length, IfOk, IfErr, IfNone, IfSome, IsFalse, IsTrue, IsErr, IsOk, is_err, Ok, Err, Some, OnOk, ◌-◌};
 ghost use Rattle.httparse.specs.Grammar.{RequestHead};
 ghost use Rattle.httparse.specs.Spans.{IsRequestAt, IsRequestWithin};
-ghost use Rattle.disco_instance.specs.declared.fault.Fault.TheVariants.{ReadFailed, OutOfMemory};
+ghost use Rattle.disco_values.specs.declared.fault.Fault.TheVariants.{ReadFailed, OutOfMemory};
 ghost use Rattle.disco_message.specs.Heading.{heading};
 ghost use Rattle.disco_message.specs.declared.framing.Framing.TheVariants.{Sized};
 ghost use Rattle.disco_http.specs.Causes.{Cause, is_of_reading};

@@ -3,7 +3,7 @@ ghost use Rattle.std.specs.Prelude.{◌≡◌, ◌≤◌, ◌⊎◌, ◌+◌, �
 ghost use Rattle.std.specs.Io.KnownBytes.{Consumes};
 ghost use Rattle.httparse.specs.Grammar.{ResponseHead};
 ghost use Rattle.httparse.specs.Spans.{IsResponseAt, IsResponseWithin};
-ghost use Rattle.disco_instance.specs.declared.fault.Fault.TheVariants.{BodyTooLarge, ReadFailed, OutOfMemory};
+ghost use Rattle.disco_values.specs.declared.fault.Fault.TheVariants.{BodyTooLarge, ReadFailed, OutOfMemory};
 ghost use Rattle.disco_message.specs.Received.{received};
 ghost use Rattle.disco_message.specs.declared.received.Extent.TheVariants.{UntilEnd};
 ghost use Rattle.disco_http.specs.Causes.{Cause, is_of_reading};

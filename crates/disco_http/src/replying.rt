@@ -1,7 +1,7 @@
 //! Replies that are written, without memory.
 ghost use Rattle.std.specs.Prelude.{◌≡◌, IfErr, OnOk, OnErr, length, option_map};
 ghost use Rattle.std.specs.Io.KnownBytes.{Appends};
-ghost use Rattle.disco_instance.specs.declared.fault.Fault.TheVariants.{WriteFailed};
+ghost use Rattle.disco_values.specs.declared.fault.Fault.TheVariants.{WriteFailed};
 ghost use Rattle.disco_message.specs.ReplyText.{answer_of, reply_text, reply_body};
 ghost use Rattle.disco_http.specs.Causes.{Raises};
 ghost use Rattle.disco_http.specs.Sinks.{AppendsFront, sink_of};

@@ -1,6 +1,6 @@
 //! One connection, from its first request to its end.
 ghost use Rattle.std.specs.Prelude.{◌≡◌, ◌≢◌, IfSome, IsFalse};
-ghost use Rattle.disco_instance.specs.declared.fault.Fault.TheVariants.{ReadFailed, WriteFailed};
+ghost use Rattle.disco_values.specs.declared.fault.Fault.TheVariants.{ReadFailed, WriteFailed};
 ghost use Rattle.disco_http.specs.Causes.{Raises};
 ghost use Rattle.disco_http.specs.Exchanges.{AnswersOne, Stopped, Exchanged, Fails};
 ghost use Rattle.disco_http.specs.Served.{end_behind, AnswersAll};

@@ -1,7 +1,7 @@
 //! Bytes that are taken from the front of what is ahead.
 ghost use Rattle.std.specs.Prelude.{◌≡◌, ◌⊎◌, IsTrue, IsFalse, IsErrOf, ◌-◌, ◌+◌, ◌≤◌, ◌<◌, ◌++◌, ◌^◌, [], ℕ, List, drop, take, length, vec_len, IfOk, IfErr, IfNone, IfSome, OnOk};
 ghost use Rattle.std.specs.Io.KnownBytes.{Keeps, Consumes, IsAtEnd};
-ghost use Rattle.disco_instance.specs.declared.fault.Fault.TheVariants.{HeadTooLarge, ReadFailed};
+ghost use Rattle.disco_values.specs.declared.fault.Fault.TheVariants.{HeadTooLarge, ReadFailed};
 ghost use Rattle.disco_http.specs.Bodies.{EndsBefore};
 ghost use Rattle.disco_http.specs.Causes.{Cause, is_of_reading};
 

@@ -1,7 +1,7 @@
 //! A sink with room for a reply in front of it.
 ghost use Rattle.std.specs.Prelude.{◌≤◌, ◌+◌, vec_len};
 ghost use Rattle.std.specs.Vec.{vec_capacity};
-ghost use Rattle.disco_instance.specs.declared.fault.Fault.TheVariants.{WriteFailed};
+ghost use Rattle.disco_values.specs.declared.fault.Fault.TheVariants.{WriteFailed};
 
 use crate::replying::write_all;
 use crate::source::{Failed, Sink};

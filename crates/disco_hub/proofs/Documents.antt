@@ -8,9 +8,9 @@ use Rattle.std.specs.Ordering.{is_eq}
 use Rattle.std.specs.declared.cmp.Ordering.{Ordering}
 use Rattle.std.specs.declared.cmp.Ordering.TheVariants.{Less, Equal, Greater}
 use Rattle.disco_instance.specs.Row.{Row}
-use Rattle.disco_instance.specs.declared.fault.Fault.{Fault}
-use Rattle.disco_instance.specs.declared.fault.Fault.TheVariants.{DeltaDisabled, NotFound}
-use Rattle.disco_instance.specs.declared.form.Form.{Form}
+use Rattle.disco_values.specs.declared.fault.Fault.{Fault}
+use Rattle.disco_values.specs.declared.fault.Fault.TheVariants.{DeltaDisabled, NotFound}
+use Rattle.disco_values.specs.declared.form.Form.{Form}
 use Rattle.disco_history.specs.Change.{Entry, key_of}
 use Rattle.disco_history.specs.Hash.{hash}
 use Rattle.disco_history.specs.Held.{record_at}
@@ -50,9 +50,9 @@ left false b e = refl
 left true b e = absurd (cc)
 
 put_unasked : (f : Row → Bool) (c : Entry) → f c.0 ≡ false → option_map_or f (option_map (λ e. e.0) (put_of c)) false ≡ false
-put_unasked f (r, Rattle.disco_instance.specs.declared.action.Action.TheVariants.Added) e = e
-put_unasked f (r, Rattle.disco_instance.specs.declared.action.Action.TheVariants.Modified) e = e
-put_unasked f (r, Rattle.disco_instance.specs.declared.action.Action.TheVariants.Deleted) e = refl
+put_unasked f (r, Rattle.disco_values.specs.declared.action.Action.TheVariants.Added) e = e
+put_unasked f (r, Rattle.disco_values.specs.declared.action.Action.TheVariants.Modified) e = e
+put_unasked f (r, Rattle.disco_values.specs.declared.action.Action.TheVariants.Deleted) e = refl
 
 both : (a b : Bool) → a ≡ false → b ≡ false → (a || b) ≡ false
 both a b e f = ap (λ x. x || b) e ∙ f

@@ -1,7 +1,7 @@
 -- What the private steps of a hub do to kept documents. Nothing here is to be believed.
 use Rattle.std.specs.Prelude.{◌≡◌, ◌⊎◌, true, Option, Some, None}
 use Rattle.std.specs.FinMap.{FinMap, get}
-use Rattle.disco_instance.specs.Key.{key_cmp}
+use Rattle.disco_values.specs.Key.{key_cmp}
 use Rattle.disco_history.specs.Change.{Entry, key_of}
 use Rattle.disco_history.specs.Held.{record_at}
 use Rattle.disco_history.specs.Query.{is_named}

@@ -1,8 +1,8 @@
 -- Rounds, in which a publisher copies documents (this project's own rule).
 use Rattle.std.specs.Prelude.{◌≡◌, ◌≢◌, ℕ, Bool, List, [], ◌∷◌, ◌++◌, fold, if◌then◌else◌, length, nat_lt, Option, Some, None}
 use Rattle.std.specs.FinMap.{FinMap, empty, insert, keys, len, remove}
-use Rattle.disco_instance.specs.declared.fault.Fault.{Fault}
-use Rattle.disco_instance.specs.declared.fault.Fault.TheVariants.{KeysLeft, NoRound}
+use Rattle.disco_values.specs.declared.fault.Fault.{Fault}
+use Rattle.disco_values.specs.declared.fault.Fault.TheVariants.{KeysLeft, NoRound}
 use Rattle.disco_cache.specs.Docs.{Docs}
 use Rattle.disco_cache.specs.Keys.{doc_cmp}
 use Rattle.disco_cache.specs.declared.key.DocKey.{DocKey}

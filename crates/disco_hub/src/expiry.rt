@@ -1,6 +1,6 @@
 //! Runs that cancel the instances whose leases ran out.
 ghost use Rattle.std.specs.Prelude.{◌≡◌, ◌<◌, IfErr, IfOk, OnErr, OnOk, length, map};
-ghost use Rattle.disco_instance.specs.declared.fault.Fault.TheVariants.{OutOfMemory};
+ghost use Rattle.disco_values.specs.declared.fault.Fault.TheVariants.{OutOfMemory};
 ghost use Rattle.disco_hub.specs.Expiry.{Expires};
 ghost use Rattle.disco_core.specs.Past.{Past, taken_in};
 ghost use Rattle.disco_hub.specs.State.{StandsFor, rules_of};

@@ -1,7 +1,7 @@
 //! The hub: one state behind all documents, with the documents that are kept.
 ghost use Rattle.std.specs.Prelude.{◌≡◌, ◌≢◌, ◌<◌, List, [], IfErr, IfNone, IfOk, IfSome, OnErr, OnOk, Ok, None, Some, is_some, length, map, option_map, slice_get, true};
 ghost use Rattle.std.specs.FinMap as finmap;
-ghost use Rattle.disco_instance.specs.declared.fault.Fault.TheVariants.{NoRound, OutOfMemory, RoundOpen};
+ghost use Rattle.disco_values.specs.declared.fault.Fault.TheVariants.{NoRound, OutOfMemory, RoundOpen};
 ghost use Rattle.disco_history.specs.Change.{Entry};
 ghost use Rattle.disco_registry.specs.Accept.{Refuses, accepts};
 ghost use Rattle.disco_registry.specs.Commit.{Takes, changes_properly, done_by};

@@ -1,7 +1,7 @@
 //! The keys of a round.
 ghost use Rattle.std.specs.Prelude.{◌≡◌, IfErr, IfOk, OnOk, fold, map};
 ghost use Rattle.std.specs.FinMap as finmap;
-ghost use Rattle.disco_instance.specs.declared.fault.Fault.TheVariants.{OutOfMemory};
+ghost use Rattle.disco_values.specs.declared.fault.Fault.TheVariants.{OutOfMemory};
 ghost use Rattle.disco_hub.specs.Rounds.{add_within, kept_keys, kept_with, round_keys};
 ghost use Rattle.disco_hub.specs.Stored.{AreInOrder, IsAt, IsGap, pair, pairs, seen_keys};
 

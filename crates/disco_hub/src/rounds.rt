@@ -1,7 +1,7 @@
 //! The keys of the edition that readers see, and the round in which they are copied anew.
 ghost use Rattle.std.specs.Prelude.{◌≡◌, ◌≢◌, [], IfErr, IfOk, IfSome, None, OnErr, OnOk, length, option_map, slice_get};
 ghost use Rattle.std.specs.FinMap as finmap;
-ghost use Rattle.disco_instance.specs.declared.fault.Fault.TheVariants.{NoRound, OutOfMemory, RoundOpen};
+ghost use Rattle.disco_values.specs.declared.fault.Fault.TheVariants.{NoRound, OutOfMemory, RoundOpen};
 ghost use Rattle.disco_hub.specs.Rounds.{Advances, Begins, Ends, StaysOpen, round_keys};
 
 use crate::keys::round_keys;

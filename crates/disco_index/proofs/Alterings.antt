@@ -3,8 +3,8 @@ use Rattle.std.proofs.Common.{◌≡◌, ℕ, Bool, true, false, ◌&&◌, ◌||
 use Rattle.std.specs.List.{list_any}
 use Rattle.std.specs.Option.{unwrap_or}
 use Rattle.std.specs.Str.{bytes_eq}
-use Rattle.disco_instance.specs.Key.{same_key}
-use Rattle.disco_instance.specs.declared.key.Key.{Key}
+use Rattle.disco_values.specs.Key.{same_key}
+use Rattle.disco_values.specs.declared.key.Key.{Key}
 use Rattle.disco_index.specs.Places.{Alters, opened, swept, written}
 use Rattle.disco_index.specs.Vips.{IsSameVips, KeepsPlaces, VipKeys, place_at}
 

@@ -1,8 +1,8 @@
 -- Numbers of statuses, one by one.
 use Rattle.std.proofs.Common.{◌≡◌, ℕ, ◌+◌, ◌-◌, cond, Option, Some, None, refl, arith}
-use Rattle.disco_instance.specs.Status.{is_same}
-use Rattle.disco_instance.specs.declared.status.Status.{Status}
-use Rattle.disco_instance.specs.declared.status.Status.TheVariants.{Up, Down, Starting, OutOfService, Unknown}
+use Rattle.disco_values.specs.Status.{is_same}
+use Rattle.disco_values.specs.declared.status.Status.{Status}
+use Rattle.disco_values.specs.declared.status.Status.TheVariants.{Up, Down, Starting, OutOfService, Unknown}
 use Rattle.disco_history.specs.Change.{Entry}
 use Rattle.disco_index.specs.Tally.{Tally, count_in, more, fewer, without}
 

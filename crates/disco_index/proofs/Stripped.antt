@@ -4,9 +4,9 @@ use Rattle.std.specs.Borrow.{Bor}
 use Rattle.std.specs.Option.{MatchOption, option_copied}
 use Rattle.std.specs.Str.{bytes_eq}
 use Rattle.std.proofs.lemmas.Bool.Decides.{nat_tests}
-use Rattle.disco_instance.specs.Status.{status_name}
-use Rattle.disco_instance.specs.declared.status.Status.{Status}
-use Rattle.disco_instance.specs.declared.status.Status.TheVariants.{Up, Down, Starting, OutOfService, Unknown}
+use Rattle.disco_values.specs.Status.{status_name}
+use Rattle.disco_values.specs.declared.status.Status.{Status}
+use Rattle.disco_values.specs.declared.status.Status.TheVariants.{Up, Down, Starting, OutOfService, Unknown}
 use Rattle.disco_history.specs.Hash.{digits, hash_by, then_piece}
 use Rattle.disco_index.proofs.Texts.{pieces_hash, pushed}
 use Rattle.disco_index.specs.Behind.{behind}

@@ -5,9 +5,9 @@ use Rattle.std.proofs.lemmas.Bool.Decides.{nat_tests}
 use Rattle.std.proofs.lemmas.Fmt.{decimal-digits_of}
 use Rattle.std.proofs.lemmas.Int.Digits.{digits_of_step, length-digits_of-le}
 use Rattle.std.proofs.lemmas.List.{length-map, length-append, map-append}
-use Rattle.disco_instance.specs.Status.{status_name}
-use Rattle.disco_instance.specs.declared.status.Status.{Status}
-use Rattle.disco_instance.specs.declared.status.Status.TheVariants.{Up, Down, Starting, OutOfService, Unknown}
+use Rattle.disco_values.specs.Status.{status_name}
+use Rattle.disco_values.specs.declared.status.Status.{Status}
+use Rattle.disco_values.specs.declared.status.Status.TheVariants.{Up, Down, Starting, OutOfService, Unknown}
 use Rattle.disco_history.specs.Hash.{digits, hash_by, then_piece}
 
 joined : (name ds rest : List ℕ) (b : Bool) → cond b rest (name ++ 95 ∷ (ds ++ 95 ∷ rest)) ≡ cond b [] (name ++ 95 ∷ (ds ++ 95 ∷ [])) ++ rest

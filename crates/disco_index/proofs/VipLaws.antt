@@ -5,9 +5,9 @@ use Rattle.std.specs.FinMap.{FinMap, empty, entries, entries_sorted, get, get-em
 use Rattle.std.specs.FinMap.Entries.{find-where_key, is_sorted-where_key, where_key}
 use Rattle.std.specs.Option.{unwrap_or}
 use Rattle.std.specs.Ordering.{nat_cmp}
-use Rattle.disco_instance.specs.Key.{key_cmp, same_key}
+use Rattle.disco_values.specs.Key.{key_cmp, same_key}
 use Rattle.disco_instance.specs.Row.{Row}
-use Rattle.disco_instance.specs.declared.key.Key.{Key}
+use Rattle.disco_values.specs.declared.key.Key.{Key}
 use Rattle.disco_history.specs.Change.{Entry, key_of}
 use Rattle.disco_history.specs.Query.{asks_for, of_vip, restrict}
 use Rattle.disco_history.proofs.Keys.{exact_keys, keys_total, same_is}

@@ -1,7 +1,7 @@
 //! What stands behind the pieces of a hash code.
 ghost use Rattle.std.specs.Prelude.{◌≡◌, ◌∷◌, []};
 ghost use Rattle.std.specs.Option.{option_copied};
-ghost use Rattle.disco_instance.specs.Status.{status_name};
+ghost use Rattle.disco_values.specs.Status.{status_name};
 ghost use Rattle.disco_history.specs.Hash.{digits, then_piece};
 ghost use Rattle.disco_index.specs.Behind.{behind};
 

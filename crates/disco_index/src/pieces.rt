@@ -1,7 +1,7 @@
 //! The pieces of a hash code.
 ghost use Rattle.std.specs.Prelude.{◌≡◌, ◌≤◌, ◌+◌, ◌++◌, [], OnOk, length, string_bytes, vec_len};
 ghost use Rattle.std.specs.Vec.{vec_capacity};
-ghost use Rattle.disco_instance.specs.Status.{status_name};
+ghost use Rattle.disco_values.specs.Status.{status_name};
 ghost use Rattle.disco_history.specs.Hash.{digits, then_piece};
 
 use disco_instance::Status;

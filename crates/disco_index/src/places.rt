@@ -2,7 +2,7 @@
 ghost use Rattle.std.specs.Prelude.{◌≡◌, ◌↔◌, IfOk, IsTrue, OnErr, OnOk, filter, map};
 ghost use Rattle.std.specs.BTreeMap.{IsOrdered};
 ghost use Rattle.std.specs.FinMap.{empty};
-ghost use Rattle.disco_instance.specs.Key.{key_cmp};
+ghost use Rattle.disco_values.specs.Key.{key_cmp};
 ghost use Rattle.disco_index.specs.Places.{AltersAt, keys_there, opened, swept, written};
 
 use disco_instance::Key;
@@ -20,7 +20,7 @@ impl Model for Places {
     ghost use Rattle.std.specs.Prelude.{Bool};
     ghost use Rattle.std.specs.Coded.{codes};
     ghost use Rattle.std.specs.FinMap.{FinMap, code, from_entries};
-    ghost use Rattle.disco_instance.specs.Key.{key_cmp};
+    ghost use Rattle.disco_values.specs.Key.{key_cmp};
 
     ghost Value = { FinMap key_cmp Bool };
 

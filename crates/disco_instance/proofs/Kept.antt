@@ -10,7 +10,7 @@ use Rattle.std.specs.String.{string_cmp}
 use Rattle.std.specs.Str.{bytes_eq}
 use Rattle.serde_json.specs.declared.value.Value.{Value}
 use Rattle.serde_json.specs.View.{view, members_view}
-use Rattle.disco_instance.specs.Entries.{is_before, is_by_name}
+use Rattle.disco_values.specs.Entries.{is_before, is_by_name}
 use Rattle.disco_instance.specs.Metadata.{entry_text, with_entry, kept_entries}
 
 before_with : (k name : List ℕ) (o : Option (List ℕ)) (rest : List (List ℕ × List ℕ)) → slice_cmp nat_cmp k name ≡ Less → is_before k rest ≡ true → is_before k (with_entry name o rest) ≡ true

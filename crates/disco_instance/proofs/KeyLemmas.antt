@@ -4,8 +4,8 @@ use Rattle.std.specs.Option.{option_or}
 use Rattle.std.proofs.lemmas.Bool.Decides.{nat_tests}
 use Rattle.std.proofs.lemmas.Str.Ascii.{uppercase-uppercase}
 use Rattle.serde_json.specs.Data.{Data}
-use Rattle.disco_instance.specs.Text.{in_upper_case}
-use Rattle.disco_instance.specs.declared.key.Key.{Key}
+use Rattle.disco_values.specs.Text.{in_upper_case}
+use Rattle.disco_values.specs.declared.key.Key.{Key}
 use Rattle.disco_instance.specs.Members.{not_empty, text_at}
 use Rattle.disco_instance.specs.Instance.{id_at, app_at, key_by, key_at}
 use Rattle.disco_instance.specs.Steps.{IsRecordKey}

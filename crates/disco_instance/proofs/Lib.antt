@@ -3,4 +3,3 @@ mod KeyLemmas
 pub mod Kept
 pub mod Rows
 pub mod SameRow
-mod Puts

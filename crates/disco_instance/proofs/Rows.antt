@@ -1,7 +1,7 @@
 -- The member table, member by member and as one row.
 use Rattle.std.proofs.Common.{◌≡◌, List, ℕ, Option, Result, Ok, Err, sym, ap, ◌∙◌}
 use Rattle.serde_json.specs.Data.{Data}
-use Rattle.disco_instance.specs.declared.fault.Fault.{Fault}
+use Rattle.disco_values.specs.declared.fault.Fault.{Fault}
 use Rattle.disco_instance.specs.declared.record.Record.{Record}
 use Rattle.disco_instance.specs.Row.{row}
 use Rattle.disco_instance.specs.Instance.{Gives, row_at, if_ok, key_at, told_by}

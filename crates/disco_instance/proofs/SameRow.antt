@@ -3,7 +3,7 @@ use Rattle.std.proofs.Common.{◌≡◌, ◌≢◌, ℕ, ◌<◌, ◌^◌, List,
 use mathlib.Core.HLevel.{Σ_prop_path}
 use Rattle.std.specs.Coded.{Coded-set, coded_list, coded_ℕ, le_prop}
 use Rattle.disco_instance.specs.Row.{Row, row}
-use Rattle.disco_instance.specs.Text.{in_upper_case}
+use Rattle.disco_values.specs.Text.{in_upper_case}
 use Rattle.disco_instance.specs.declared.record.Record.{Record}
 
 -- what a record knows of its members

@@ -2,19 +2,19 @@
 use Rattle.std.specs.Prelude.{ℕ, ◌≡◌, ◌≢◌, true, false, List, codes, Option, Some, None, Result, Ok, Err, option_and_then, unwrap_or}
 use Rattle.std.specs.Option.{option_or}
 use Rattle.serde_json.specs.Data.{Data}
-use Rattle.disco_instance.specs.Action.{action_named}
+use Rattle.disco_values.specs.Action.{action_named}
 use Rattle.disco_instance.specs.Members.{flag_at, inner_at, non_empty_at, not_empty, number_at, override_at, port_at, status_at, text_at, text_or_empty}
 use Rattle.disco_instance.specs.Metadata.{entries_at}
 use Rattle.disco_instance.specs.Row.{Row}
-use Rattle.disco_instance.specs.Text.{in_upper_case}
-use Rattle.disco_instance.specs.declared.action.Action.{Action}
+use Rattle.disco_values.specs.Text.{in_upper_case}
+use Rattle.disco_values.specs.declared.action.Action.{Action}
 use Rattle.disco_instance.specs.declared.data_center.DataCenter.{DataCenter}
-use Rattle.disco_instance.specs.declared.fault.Fault.{Fault}
-use Rattle.disco_instance.specs.declared.fault.Fault.TheVariants.{OutOfMemory, MissingField}
-use Rattle.disco_instance.specs.declared.fault.Field.TheVariants.{InstanceId, App}
-use Rattle.disco_instance.specs.declared.key.Key.{Key}
+use Rattle.disco_values.specs.declared.fault.Fault.{Fault}
+use Rattle.disco_values.specs.declared.fault.Fault.TheVariants.{OutOfMemory, MissingField}
+use Rattle.disco_values.specs.declared.fault.Field.TheVariants.{InstanceId, App}
+use Rattle.disco_values.specs.declared.key.Key.{Key}
 use Rattle.disco_instance.specs.declared.lease.Lease.{Lease}
-use Rattle.disco_instance.specs.declared.status.Status.TheVariants.{Up}
+use Rattle.disco_values.specs.declared.status.Status.TheVariants.{Up}
 
 -- what a call gave, seen by a function, is this, unless memory ran out
 abbrev pub Gives : {X Y : Type 0} → (X → Y) → Result X Fault → Result Y Fault → Type 0

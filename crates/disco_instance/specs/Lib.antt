@@ -1,14 +1,8 @@
-pub mod Action
-pub mod Entries
-pub mod Fault
 pub mod Instance
-pub mod Key
 pub mod Members
 pub mod Mention
 pub mod Metadata
 pub mod Moments
 pub mod Row
 pub mod Since
-pub mod Status
 pub mod Steps
-pub mod Text

@@ -1,7 +1,7 @@
 -- What a document says of an instance.
 use Rattle.std.specs.Prelude.{Option}
 use Rattle.disco_instance.specs.Row.{Row}
-use Rattle.disco_instance.specs.declared.action.Action.{Action}
+use Rattle.disco_values.specs.declared.action.Action.{Action}
 
 -- a mention: an instance's row, and what was done to it where that is said
 abbrev pub Mention : Type 0

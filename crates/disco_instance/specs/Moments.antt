@@ -3,7 +3,7 @@ use Rattle.std.specs.Prelude.{ℕ}
 use Rattle.disco_instance.specs.Row.{Row}
 use Rattle.disco_instance.specs.Since.{since}
 use Rattle.disco_instance.specs.declared.lease.Lease.{Lease}
-use Rattle.disco_instance.specs.declared.status.Status.{Status}
+use Rattle.disco_values.specs.declared.status.Status.{Status}
 
 -- the lease of a record that is put at a moment
 abbrev pub put_lease : Lease → ℕ → ℕ → ℕ → Lease

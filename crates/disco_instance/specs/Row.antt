@@ -1,9 +1,9 @@
 -- A record as plain data: its members, without where they lie in memory.
 use Rattle.std.specs.Prelude.{◌≡◌, ◌≢◌, ℕ, ◌<◌, ◌^◌, Bool, true, List, []}
-use Rattle.disco_instance.specs.Entries.{is_by_name}
-use Rattle.disco_instance.specs.Text.{in_upper_case}
-use Rattle.disco_instance.specs.declared.key.Key.{Key}
-use Rattle.disco_instance.specs.declared.status.Status.{Status}
+use Rattle.disco_values.specs.Entries.{is_by_name}
+use Rattle.disco_values.specs.Text.{in_upper_case}
+use Rattle.disco_values.specs.declared.key.Key.{Key}
+use Rattle.disco_values.specs.declared.status.Status.{Status}
 use Rattle.disco_instance.specs.declared.record.Record.{Record}
 use Rattle.disco_instance.specs.declared.lease.Lease.{Lease}
 use Rattle.disco_instance.specs.declared.port.Port.{Port}

@@ -1,17 +1,14 @@
--- What steps inside this crate say of a record and of entries. Nothing here is to be believed: no public contract rests on it.
-use Rattle.std.specs.Prelude.{IfOk, List, Result, [], codes, false, length, slice_index_or, true, unwrap_or, ℕ, ◌<◌, ◌≡◌, ◌≢◌, ◌≤◌, ◌^◌}
+-- What steps inside this crate say of a record. Nothing here is to be believed: no public contract rests on it.
+use Rattle.std.specs.Prelude.{IfOk, Result, [], codes, false, true, unwrap_or, ◌<◌, ◌≡◌, ◌≢◌, ◌^◌}
 use Rattle.serde_json.specs.Data.{Data}
 use Rattle.disco_instance.specs.Members.{flag_at, inner_at, number_at, override_at, port_at, status_at, text_or_empty}
 use Rattle.disco_instance.specs.Metadata.{entries_at}
-use Rattle.disco_instance.specs.Text.{in_upper_case}
-use Rattle.disco_instance.specs.declared.fault.Fault.{Fault}
-use Rattle.disco_instance.specs.declared.key.Key.{Key}
+use Rattle.disco_values.specs.Text.{in_upper_case}
+use Rattle.disco_values.specs.declared.fault.Fault.{Fault}
+use Rattle.disco_values.specs.declared.key.Key.{Key}
 use Rattle.disco_instance.specs.declared.lease.Lease.{Lease}
 use Rattle.disco_instance.specs.declared.record.Record.{Record}
-use Rattle.disco_instance.specs.declared.status.Status.TheVariants.{Up}
-use Rattle.std.specs.declared.cmp.Ordering.TheVariants.{Less, Equal, Greater}
-use Rattle.std.specs.Ordering.{nat_cmp}
-use Rattle.std.specs.Cmp.Lexicographic.{slice_cmp}
+use Rattle.disco_values.specs.declared.status.Status.TheVariants.{Up}
 use Rattle.disco_instance.specs.Instance.{data_center_at, lease_at}
 
 -- a lease that a record may have
@@ -48,19 +45,3 @@ pub record IsRecordKey (k : Key) : Type 0 where
   pub has_app : k.app ≢ []
   pub has_id : k.id ≢ []
   pub upper : in_upper_case k.app ≡ k.app
-
--- the name comes after those of the entries before place i
-abbrev pub NameComesAfter : List ℕ → List (List ℕ × List ℕ) → ℕ → Type 0
-NameComesAfter name es i = (j : ℕ) (d : List ℕ × List ℕ) → j < i → slice_cmp nat_cmp name (slice_index_or es j d).0 ≡ Greater
-
--- the entry at place i is that of the name
-pub record IsNameAt (es : List (List ℕ × List ℕ)) (name : List ℕ) (i : ℕ) : Type 0 where
-  pub in_range : i < length es
-  pub before : NameComesAfter name es i
-  pub here : (d : List ℕ × List ℕ) → slice_cmp nat_cmp name (slice_index_or es i d).0 ≡ Equal
-
--- no entry is of the name, and it would go to place i
-pub record IsNameGap (es : List (List ℕ × List ℕ)) (name : List ℕ) (i : ℕ) : Type 0 where
-  pub in_range : i ≤ length es
-  pub before : NameComesAfter name es i
-  pub here : (d : List ℕ × List ℕ) → i < length es → slice_cmp nat_cmp name (slice_index_or es i d).0 ≡ Less

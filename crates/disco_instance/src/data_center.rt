@@ -1,7 +1,7 @@
 //! The data centre of an instance.
 ghost use Rattle.std.specs.Prelude.{◌≡◌};
 
-use crate::text::Text;
+use disco_values::Text;
 use std::alloc::AllocError;
 
 /// The data centre of an instance: the member `dataCenterInfo`.

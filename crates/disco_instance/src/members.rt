@@ -6,8 +6,7 @@ ghost use Rattle.serde_json.specs.View.{view};
 ghost use Rattle.disco_instance.specs.Members.{as_flag, as_whole, digits_number, flag_at, non_empty_at, number_at, override_at, port_at, status_at, text_at, text_or_empty};
 
 use crate::port::Port;
-use crate::status::{Status, status_of};
-use crate::text::{Text, upper_text};
+use disco_values::{Status, Text, status_of, upper_text};
 use serde_json::Value;
 use std::alloc::{AllocError, Global};
 

@@ -3,8 +3,7 @@ ghost use Rattle.std.specs.Prelude.{◌≡◌, IfOk};
 ghost use Rattle.serde_json.specs.View.{view, members_view};
 ghost use Rattle.disco_instance.specs.Metadata.{entries_at, entry_text, kept_entries};
 
-use crate::entries::Entries;
-use crate::text::Text;
+use disco_values::{Entries, Text};
 use serde_json::{Map, Value};
 use std::alloc::{AllocError, Global};
 

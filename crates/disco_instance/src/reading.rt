@@ -7,10 +7,7 @@ ghost use Rattle.disco_instance.specs.Steps.{IsRecordLease, Says};
 ghost use Rattle.disco_instance.specs.Members.{inner_at, number_at};
 ghost use Rattle.disco_instance.specs.Row.{row};
 
-use crate::action::{Action, action_of};
 use crate::data_center::DataCenter;
-use crate::fault::{Fault, Field};
-use crate::key::Key;
 use crate::lease::Lease;
 use crate::members::{
     flag_member, non_empty_member, number_member, override_member, port_member, status_member,
@@ -18,8 +15,7 @@ use crate::members::{
 };
 use crate::metadata::entries_member;
 use crate::record::Record;
-use crate::status::Status;
-use crate::text::{Text, upper_text};
+use disco_values::{Action, Fault, Field, Key, Status, Text, action_of, upper_text};
 use serde_json::Value;
 use std::alloc::{AllocError, Global};
 
@@ -101,7 +97,7 @@ fn lease_from_value(value: &Value) -> Lease
 pub fn action_from_value(value: &Value) -> Option<Action>
     ensures { result ≡ action_at (view value.now) }
 {
-    text_member(value, "actionType").and_then(action_of)
+    action_of(text_member(value, "actionType")?)
 }
 
 fn read_record(alloc: Global, value: &Value, within: Option<&str>) -> Result<Record, Fault>

@@ -1,17 +1,13 @@
 //! A record of an instance.
 ghost use Rattle.std.specs.Prelude.{◌≡◌, ◌≢◌, ◌<◌, ◌^◌, [], IfOk, IfErr};
 ghost use Rattle.disco_instance.specs.Since.{since};
-ghost use Rattle.disco_instance.specs.Text.{in_upper_case};
-ghost use Rattle.disco_instance.specs.declared.fault.Fault.TheVariants.{OutOfMemory};
+ghost use Rattle.disco_values.specs.Text.{in_upper_case};
+ghost use Rattle.disco_values.specs.declared.fault.Fault.TheVariants.{OutOfMemory};
 
 use crate::data_center::DataCenter;
-use crate::entries::Entries;
-use crate::fault::Fault;
-use crate::key::Key;
 use crate::lease::Lease;
 use crate::port::Port;
-use crate::status::Status;
-use crate::text::Text;
+use disco_values::{Entries, Fault, Key, Status, Text};
 
 /// What an instance registered, as the registry keeps it. Moments are in milliseconds.
 #[derive(Debug, Drop)]
@@ -52,7 +48,7 @@ pub struct Record {
 }
 
 impl Record {
-    ghost use Rattle.disco_instance.specs.Entries.{with_entries};
+    ghost use Rattle.disco_values.specs.Entries.{with_entries};
     ghost use Rattle.disco_instance.specs.Row.{row};
     ghost use Rattle.disco_instance.specs.Moments.{registered_at, modified_at, cancelled_at};
 

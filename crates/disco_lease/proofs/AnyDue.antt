@@ -5,8 +5,8 @@ use Rattle.std.specs.BTreeMap as tree
 use Rattle.std.specs.BTreeMap.{BTreeMap}
 use Rattle.std.specs.FinMap.{FinMap, contains_key, empty_of_len, entries, from_entries, get-empty, keys, len, len-entries, len-insert}
 use Rattle.std.specs.List.{cons_option, list_any}
-use Rattle.disco_instance.specs.Key.{key_cmp}
-use Rattle.disco_instance.specs.declared.key.Key.{Key}
+use Rattle.disco_values.specs.Key.{key_cmp}
+use Rattle.disco_values.specs.declared.key.Key.{Key}
 use Rattle.disco_lease.specs.Leases as leases
 use Rattle.disco_lease.specs.Due.{due_cmp, due_moment, overdue, passed}
 use Rattle.disco_lease.specs.Seen.{has_run_out, pair, pairs, plain_lease, seen_places}

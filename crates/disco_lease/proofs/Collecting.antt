@@ -10,7 +10,7 @@ use Rattle.std.specs.Option.{option_or}
 use Rattle.std.specs.Ordering.{match_ordering, eq_by_cmp}
 use Rattle.std.specs.FinMap.{find, from_entries, get, get-from_entries, keys, same_map}
 use Rattle.std.specs.FinMap.Entries.{put, by_order, find-put}
-use Rattle.disco_instance.specs.declared.key.Key.{Key}
+use Rattle.disco_values.specs.declared.key.Key.{Key}
 use Rattle.disco_lease.specs.Due.{due_cmp, due_moment}
 use Rattle.disco_lease.specs.Seen.{at_pair, pair, plain_lease, seen_due, stored_cmp}
 use Rattle.disco_lease.specs.declared.lease.Lease.{Lease}

@@ -5,8 +5,8 @@ use Rattle.std.specs.BTreeMap.{is_at}
 use Rattle.std.specs.Map.{lookup}
 use Rattle.std.specs.Option.{option_flatten}
 use Rattle.std.specs.FinMap.{find, get, insert, remove, same_map, get-from_entries, get-insert, get-remove}
-use Rattle.disco_instance.specs.Key.{key_cmp, same_key}
-use Rattle.disco_instance.specs.declared.key.Key.{Key}
+use Rattle.disco_values.specs.Key.{key_cmp, same_key}
+use Rattle.disco_values.specs.declared.key.Key.{Key}
 use Rattle.disco_history.proofs.Keys.{keys_total, exact_keys, same_is, same_key-sym}
 use Rattle.disco_lease.specs.Leases as leases
 use Rattle.disco_lease.specs.Seen.{Moved, plain_lease, seen_places}

@@ -4,8 +4,8 @@ use Rattle.std.specs.Ordering.{is_eq}
 use Rattle.std.specs.Cmp.{tied_itself}
 use Rattle.std.specs.Option.{option_flatten}
 use Rattle.std.specs.FinMap.{FinMap, get, insert, remove, get-insert, get-remove}
-use Rattle.disco_instance.specs.Key.{key_cmp, same_key}
-use Rattle.disco_instance.specs.declared.key.Key.{Key}
+use Rattle.disco_values.specs.Key.{key_cmp, same_key}
+use Rattle.disco_values.specs.declared.key.Key.{Key}
 use Rattle.disco_history.proofs.Keys.{keys_total, same_is}
 use Rattle.disco_lease.specs.Leases.{Lease, extended}
 

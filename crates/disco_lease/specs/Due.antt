@@ -4,8 +4,8 @@ use Rattle.std.specs.FinMap.{FinMap, from_entries, keys}
 use Rattle.std.specs.List.{filter_map}
 use Rattle.std.specs.Ordering.{nat_cmp, ordering_then}
 use Rattle.std.specs.declared.cmp.Ordering.{Ordering}
-use Rattle.disco_instance.specs.Key.{key_cmp}
-use Rattle.disco_instance.specs.declared.key.Key.{Key}
+use Rattle.disco_values.specs.Key.{key_cmp}
+use Rattle.disco_values.specs.declared.key.Key.{Key}
 use Rattle.disco_lease.specs.Leases.{Lease, Leases, lease_at}
 use Rattle.disco_lease.specs.declared.minute.Minute.{Minute}
 

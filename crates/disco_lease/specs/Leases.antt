@@ -2,8 +2,8 @@
 use Rattle.std.specs.Prelude.{◌≡◌, ℕ, ◌+◌, ◌-◌, ◌*◌, ◌^◌, min, false, if◌then◌else◌, Option, IsSome}
 use Rattle.std.specs.FinMap.{FinMap, empty, get}
 use Rattle.std.specs.Option.{option_flatten}
-use Rattle.disco_instance.specs.Key.{key_cmp, same_key}
-use Rattle.disco_instance.specs.declared.key.Key.{Key}
+use Rattle.disco_values.specs.Key.{key_cmp, same_key}
+use Rattle.disco_values.specs.declared.key.Key.{Key}
 use Rattle.disco_lease.specs.declared.minute.Minute.{Minute}
 
 -- how many seconds a lease lasts, and its mark, in milliseconds

@@ -1,6 +1,6 @@
 //! The leases of all instances.
 ghost use Rattle.std.specs.Prelude.{◌≡◌, ◌↔◌, ◌<◌, [], IfErr, IfOk, IsTrue, None, OnErr, OnOk, Some, Err, false, length, map, option_map, true};
-ghost use Rattle.disco_instance.specs.declared.fault.Fault.TheVariants.{NotFound, OutOfMemory};
+ghost use Rattle.disco_values.specs.declared.fault.Fault.TheVariants.{NotFound, OutOfMemory};
 ghost use Rattle.std.specs.FinMap.{keys};
 ghost use Rattle.disco_lease.specs.Due.{due_at, lets_expire, taken};
 ghost use Rattle.disco_lease.specs.Leases.{HasPlace, IsFilled, IsSameLeases, KeepsOthers, KeepsPlaces, Sets, counted, extended, lease_at, marked, no_leases};

@@ -4,9 +4,9 @@ ghost use Rattle.std.specs.FinMap as finmap;
 ghost use Rattle.std.specs.BTreeMap.{IsOrdered};
 ghost use Rattle.std.specs.List.{list_any};
 ghost use Rattle.std.specs.Option.{option_flatten, option_or};
-ghost use Rattle.disco_instance.specs.Key.{key_cmp};
+ghost use Rattle.disco_values.specs.Key.{key_cmp};
 ghost use Rattle.disco_lease.specs.Due.{due_moment, overdue};
-ghost use Rattle.disco_instance.specs.declared.key.Key.{Key};
+ghost use Rattle.disco_values.specs.declared.key.Key.{Key};
 ghost use Rattle.disco_lease.specs.Seen.{at_pair, pair, pairs, has_run_out, seen_due, seen_places, stored_cmp};
 
 use crate::lease::Lease;

@@ -3,7 +3,7 @@ ghost use Rattle.std.specs.Prelude.{◌≡◌, ◌<◌, [], IfOk, IsSome, IsTrue
 ghost use Rattle.std.specs.BTreeMap as tree;
 ghost use Rattle.std.specs.FinMap as finmap;
 ghost use Rattle.std.specs.Option.{option_flatten};
-ghost use Rattle.disco_instance.specs.Key.{key_cmp};
+ghost use Rattle.disco_values.specs.Key.{key_cmp};
 ghost use Rattle.disco_lease.specs.Due.{due_moment, overdue};
 ghost use Rattle.disco_lease.specs.Leases.{extended};
 ghost use Rattle.disco_lease.specs.Seen.{Moved, plain_lease};
@@ -25,7 +25,7 @@ impl Model for Places {
     ghost use Rattle.std.specs.Prelude.{Option};
     ghost use Rattle.std.specs.Coded.{codes};
     ghost use Rattle.std.specs.FinMap.{FinMap, code};
-    ghost use Rattle.disco_instance.specs.Key.{key_cmp};
+    ghost use Rattle.disco_values.specs.Key.{key_cmp};
     ghost use Rattle.disco_lease.specs.Leases as leases;
     ghost use Rattle.disco_lease.specs.Seen.{seen_places};
 

@@ -2,7 +2,7 @@
 use Rattle.std.proofs.Common.{◌≡◌, ◌⊎◌, inl, inr, ℕ, ◌+◌, ◌<◌, Bool, true, false, List, [], ◌∷◌, ◌++◌, length, map, take, drop, Option, Some, None, refl, ap, sym, ◌∙◌, arith}
 use native.Mathlib.Numerals.{unary_clauses}
 use Rattle.std.specs.List.{before_first, after_first, position_or_len}
-use Rattle.disco_instance.specs.declared.fault.Fault.TheVariants.{BadEvent}
+use Rattle.disco_values.specs.declared.fault.Fault.TheVariants.{BadEvent}
 use Rattle.disco_world.specs.declared.event.Event.{Event}
 use Rattle.std.specs.Option.{is_none}
 use Rattle.disco_lines.specs.Lines.{lines, is_feed, meanings, event_of, IsFirstBadLine}

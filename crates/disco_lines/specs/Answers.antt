@@ -4,12 +4,12 @@ use Rattle.std.specs.List.{flat_map}
 use Rattle.std.specs.Arc.{arc_value}
 use Rattle.std.specs.declared.io.ErrorKind.{ErrorKind}
 use Rattle.std.specs.declared.io.ErrorKind.TheVariants as io
-use Rattle.disco_instance.specs.Fault.{fault_number, field_name}
-use Rattle.disco_instance.specs.declared.fault.Fault.{Fault}
-use Rattle.disco_instance.specs.declared.fault.Fault.TheVariants.{MissingField, OutOfMemory, WriteFailed}
+use Rattle.disco_values.specs.Fault.{fault_number, field_name}
+use Rattle.disco_values.specs.declared.fault.Fault.{Fault}
+use Rattle.disco_values.specs.declared.fault.Fault.TheVariants.{MissingField, OutOfMemory, WriteFailed}
 use Rattle.disco_cache.specs.declared.payload.Payload.{Payload}
 use Rattle.disco_hub.specs.declared.copied.Copied.TheVariants as copied
-use Rattle.disco_instance.specs.Status.{status_name}
+use Rattle.disco_values.specs.Status.{status_name}
 use Rattle.disco_world.specs.declared.holding.Holding.{Holding}
 use Rattle.disco_world.specs.declared.event.Reply.{Reply}
 use Rattle.disco_world.specs.declared.event.Reply.TheVariants.{Changed, Same, Doc, Cleaned, Closed, Expired, Begun, Copied, Done, Published, Missed, Taken, Held, Refused}

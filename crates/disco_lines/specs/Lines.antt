@@ -3,8 +3,8 @@ use Rattle.std.specs.Prelude.{ℕ, Bool, List, [], ◌∷◌, ◌+◌, ◌<◌, 
 use Rattle.std.specs.List.{onto_first, position_or_len}
 use Rattle.std.specs.Option.{is_none}
 use Rattle.std.specs.Str.{bytes_eq}
-use Rattle.disco_instance.specs.declared.fault.Fault.{Fault}
-use Rattle.disco_instance.specs.declared.fault.Fault.TheVariants.{BadEvent}
+use Rattle.disco_values.specs.declared.fault.Fault.{Fault}
+use Rattle.disco_values.specs.declared.fault.Fault.TheVariants.{BadEvent}
 use Rattle.disco_world.specs.declared.event.Event.{Event}
 use Rattle.disco_world.specs.declared.event.Event.TheVariants.{Register, Cancel, Renew, SetStatus, DropStatus, Metadata, Clean, Minute, Expire, Begin, Copy, Publish, Take, Show}
 use Rattle.disco_lines.specs.Loads.{load_of, look_for, wanted}

@@ -1,8 +1,8 @@
 -- What the words behind `load` and `look` ask for (this project's own format).
 use Rattle.std.specs.Prelude.{ℕ, List, [], ◌∷◌, Option, Some, None, if◌then◌else◌, option_and_then, codes}
 use Rattle.std.specs.Str.{bytes_eq}
-use Rattle.disco_instance.specs.declared.form.Form.{Form}
-use Rattle.disco_instance.specs.declared.form.Form.TheVariants.{Full, Compact}
+use Rattle.disco_values.specs.declared.form.Form.{Form}
+use Rattle.disco_values.specs.declared.form.Form.TheVariants.{Full, Compact}
 use Rattle.disco_writer.specs.declared.query.Query.{Query}
 use Rattle.disco_writer.specs.declared.query.Query.TheVariants.{Apps, Delta, App, Vip, Svip, Instance}
 use Rattle.disco_world.specs.declared.event.Event.{Event}

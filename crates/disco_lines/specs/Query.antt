@@ -2,7 +2,7 @@
 use Rattle.std.specs.Prelude.{ℕ, List, map}
 use Rattle.std.specs.Str.Lossy.{utf8_lossy}
 use Rattle.form_urlencoded.specs.Form.{decode, raw_pairs}
-use Rattle.disco_instance.specs.Entries.{entries_of}
+use Rattle.disco_values.specs.Entries.{entries_of}
 
 abbrev pub text_of : List ℕ → List ℕ
 text_of encoded = utf8_lossy (decode encoded)

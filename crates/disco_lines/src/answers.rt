@@ -1,6 +1,6 @@
 //! Answer lines.
 ghost use Rattle.std.specs.Prelude.{◌≡◌, ◌⊎◌, [], IfErr, OnOk};
-ghost use Rattle.disco_instance.specs.declared.fault.Fault.TheVariants.{OutOfMemory, WriteFailed};
+ghost use Rattle.disco_values.specs.declared.fault.Fault.TheVariants.{OutOfMemory, WriteFailed};
 ghost use Rattle.std.specs.Io.KnownBytes.{Appends, append_known};
 ghost use Rattle.std.specs.IoError.{error_kind};
 ghost use Rattle.disco_lines.specs.Answers.{answer_line, answer_lines, document_line, holding_text, refusal_line, yes_or_no, write_fault};

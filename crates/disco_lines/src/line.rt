@@ -1,6 +1,6 @@
 //! The event that a line means. `None` stands for a line that can't be read.
 ghost use Rattle.std.specs.Prelude.{◌≡◌, IfOk, IfErr, Some};
-ghost use Rattle.disco_instance.specs.declared.fault.Fault.TheVariants.{OutOfMemory};
+ghost use Rattle.disco_values.specs.declared.fault.Fault.TheVariants.{OutOfMemory};
 ghost use Rattle.disco_lines.specs.Lines.{alone, cleaning, event_at, event_named, event_of, event_of_instance, expiring, metadata_change, override_removal, registration, showing, status_change, taking};
 ghost use Rattle.disco_lines.specs.Words.{client_of_word, moment_of_word};
 

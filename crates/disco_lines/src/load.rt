@@ -1,6 +1,6 @@
 //! What the words behind `load` and `look` ask for.
 ghost use Rattle.std.specs.Prelude.{◌≡◌, IfOk, IfErr, option_and_then};
-ghost use Rattle.disco_instance.specs.declared.fault.Fault.TheVariants.{OutOfMemory};
+ghost use Rattle.disco_values.specs.declared.fault.Fault.TheVariants.{OutOfMemory};
 ghost use Rattle.disco_lines.specs.Loads.{form_named, instance, load_of, look_for, named, wanted, wanted_by, wanted_of_kind, whole};
 ghost use Rattle.disco_lines.specs.Words.{text_of_word};
 

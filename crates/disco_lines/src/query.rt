@@ -1,6 +1,6 @@
 //! The query of a change of metadata.
 ghost use Rattle.std.specs.Prelude.{◌≡◌, IfOk, IfErr};
-ghost use Rattle.disco_instance.specs.declared.fault.Fault.TheVariants.{OutOfMemory};
+ghost use Rattle.disco_values.specs.declared.fault.Fault.TheVariants.{OutOfMemory};
 ghost use Rattle.disco_lines.specs.Query.{entries_of_query, pairs_of, text_of};
 
 use disco_instance::{Entries, Fault, Text};

@@ -4,7 +4,7 @@ use Rattle.httparse.specs.Grammar.{RequestHead}
 use Rattle.httparse.specs.Spans.{IsRequestAt, span_bytes, header_bytes}
 use Rattle.httparse.specs.declared.spans.HeaderSpan.{HeaderSpan}
 use Rattle.httparse.specs.declared.spans.RequestSpans.{RequestSpans}
-use Rattle.disco_instance.specs.declared.fault.Fault.{Fault}
+use Rattle.disco_values.specs.declared.fault.Fault.{Fault}
 use Rattle.disco_message.specs.declared.framing.Framing.{Framing}
 use Rattle.disco_message.specs.Heading.{Heading, headed, heading, heading_by, closes}
 

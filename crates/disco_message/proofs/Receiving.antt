@@ -4,7 +4,7 @@ use Rattle.httparse.specs.Grammar.{ResponseHead}
 use Rattle.httparse.specs.Spans.{IsResponseAt, header_bytes}
 use Rattle.httparse.specs.declared.spans.HeaderSpan.{HeaderSpan}
 use Rattle.httparse.specs.declared.spans.ResponseSpans.{ResponseSpans}
-use Rattle.disco_instance.specs.declared.fault.Fault.{Fault}
+use Rattle.disco_values.specs.declared.fault.Fault.{Fault}
 use Rattle.disco_message.specs.Heading.{closes}
 use Rattle.disco_message.specs.declared.received.Extent.{Extent}
 use Rattle.disco_message.specs.Received.{Received, received, received_by, received_with}

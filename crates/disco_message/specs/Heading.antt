@@ -4,8 +4,8 @@ use Rattle.std.specs.List.{list_any}
 use Rattle.httparse.specs.Grammar.{RequestHead}
 use Rattle.httparse.specs.Spans.{name_and_value}
 use Rattle.http1.specs.Fields.{elements, has_option}
-use Rattle.disco_instance.specs.declared.fault.Fault.{Fault}
-use Rattle.disco_instance.specs.declared.fault.Fault.TheVariants.{BadRequest}
+use Rattle.disco_values.specs.declared.fault.Fault.{Fault}
+use Rattle.disco_values.specs.declared.fault.Fault.TheVariants.{BadRequest}
 use Rattle.disco_message.specs.Fields.{values}
 use Rattle.disco_message.specs.Framing.{framed}
 use Rattle.disco_message.specs.Target.{path_of}

@@ -2,8 +2,8 @@
 use Rattle.std.specs.Prelude.{ℕ, Bool, ◌==◌, ◌&&◌, List, length, map, Option, Some, None, option_map, Result, Ok, Err, if◌then◌else◌, codes}
 use Rattle.httparse.specs.Grammar.{ResponseHead, status_code}
 use Rattle.httparse.specs.Spans.{name_and_value}
-use Rattle.disco_instance.specs.declared.fault.Fault.{Fault}
-use Rattle.disco_instance.specs.declared.fault.Fault.TheVariants.{BadRequest}
+use Rattle.disco_values.specs.declared.fault.Fault.{Fault}
+use Rattle.disco_values.specs.declared.fault.Fault.TheVariants.{BadRequest}
 use Rattle.disco_message.specs.Fields.{values}
 use Rattle.disco_message.specs.Framing.{framing_of}
 use Rattle.disco_message.specs.Heading.{closes}

@@ -1,7 +1,7 @@
 -- Status lines, and what `Allow` lists.
 use Rattle.std.specs.Prelude.{ℕ, List, codes}
-use Rattle.disco_instance.specs.declared.fault.Fault.{Fault}
-use Rattle.disco_instance.specs.declared.fault.Fault.TheVariants as fault
+use Rattle.disco_values.specs.declared.fault.Fault.{Fault}
+use Rattle.disco_values.specs.declared.fault.Fault.TheVariants as fault
 use Rattle.disco_message.specs.declared.status_line.Allow.{Allow}
 use Rattle.disco_message.specs.declared.status_line.Allow.TheVariants.{Get, GetPost, GetPutDelete, PutDelete, Put}
 use Rattle.disco_message.specs.declared.status_line.StatusLine.{StatusLine}

@@ -3,7 +3,7 @@ ghost use Rattle.std.specs.Prelude.{◌≡◌, ◌⊎◌, ◌≤◌, ℕ, List, 
 ghost use Rattle.httparse.specs.Grammar.{RequestHead};
 ghost use Rattle.httparse.specs.Spans.{IsRequestAt, IsRequestWithin, IsHeaderWithin, IsWithin, span_bytes, header_bytes};
 ghost use Rattle.disco_message.specs.Heading.{heading, heading_by, closes};
-ghost use Rattle.disco_instance.specs.declared.fault.Fault.TheVariants.{BadRequest, UnsupportedCoding, OutOfMemory};
+ghost use Rattle.disco_values.specs.declared.fault.Fault.TheVariants.{BadRequest, UnsupportedCoding, OutOfMemory};
 
 use crate::fields::Values;
 use crate::framing::{Framing, framed};

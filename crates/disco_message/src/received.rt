@@ -2,7 +2,7 @@
 ghost use Rattle.std.specs.Prelude.{◌≡◌, ◌==◌, ◌⊎◌, ℕ, List, length, take, map, All, IfOk, IfErr, IsOk, Err};
 ghost use Rattle.httparse.specs.Grammar.{ResponseHead};
 ghost use Rattle.httparse.specs.Spans.{IsResponseAt, IsResponseWithin, IsHeaderWithin, header_bytes};
-ghost use Rattle.disco_instance.specs.declared.fault.Fault.TheVariants.{BadRequest, OutOfMemory};
+ghost use Rattle.disco_values.specs.declared.fault.Fault.TheVariants.{BadRequest, OutOfMemory};
 ghost use Rattle.disco_message.specs.Received.{received, body_extent, extent_of};
 ghost use Rattle.disco_message.specs.Few.{FewAre};
 

@@ -1,6 +1,6 @@
 -- What the private steps of a run do. Nothing here is to be believed.
 use Rattle.std.specs.Prelude.{◌≡◌, ℕ, Option, Ok}
-use Rattle.disco_instance.specs.declared.key.Key.{Key}
+use Rattle.disco_values.specs.declared.key.Key.{Key}
 use Rattle.disco_history.specs.Change.{Entry}
 use Rattle.disco_registry.specs.Op.{cancel}
 use Rattle.disco_core.specs.Past.{Past, with_done}

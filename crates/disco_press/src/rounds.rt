@@ -1,7 +1,7 @@
 //! Rounds of a publisher.
 ghost use Rattle.std.specs.Prelude.{◌≡◌, ◌≢◌, [], ◌∷◌, ◌++◌, IfErr, IfNone, IfOk, IfSome, None, OnErr, OnOk, slice_get};
 ghost use Rattle.std.specs.FinMap.{len};
-ghost use Rattle.disco_instance.specs.declared.fault.Fault.TheVariants.{NoRound, OutOfMemory, RoundOpen};
+ghost use Rattle.disco_values.specs.declared.fault.Fault.TheVariants.{NoRound, OutOfMemory, RoundOpen};
 ghost use Rattle.disco_core.specs.Past.{Past};
 ghost use Rattle.disco_hub.specs.Levels.{put_copy};
 ghost use Rattle.disco_hub.specs.Press as press;

@@ -2,8 +2,8 @@
 use Rattle.std.specs.Prelude.{◌≡◌, ◌≢◌, ◌⊎◌, ℕ, List, length, Option}
 use Rattle.std.specs.Io.KnownBytes.{Appends}
 use Rattle.clap.specs.Words.{Text}
-use Rattle.disco_instance.specs.declared.fault.Fault.{Fault}
-use Rattle.disco_instance.specs.declared.fault.Fault.TheVariants.{OutOfMemory, ReadFailed, WriteFailed}
+use Rattle.disco_values.specs.declared.fault.Fault.{Fault}
+use Rattle.disco_values.specs.declared.fault.Fault.TheVariants.{OutOfMemory, ReadFailed, WriteFailed}
 use Rattle.disco_core.specs.State.{rules}
 use Rattle.disco_world.specs.Answers.{AreAnswers, AreKnown, AreServed, IsFirstBadEvent}
 use Rattle.disco_world.specs.declared.event.Event.{Event}
@@ -11,8 +11,8 @@ use Rattle.disco_world.specs.declared.event.Reply.{Reply}
 use Rattle.disco_core.specs.declared.settings.Settings.{Settings}
 use Rattle.disco_lines.specs.Answers.{answer_lines}
 use Rattle.disco_lines.specs.Input.{AreRead, NamesBadLine}
-use Rattle.disco_prog.specs.Options.{NamedBy}
-use Rattle.disco_prog.specs.declared.verb.Verb.TheVariants.{Replay}
+use Rattle.disco_options.specs.Options.{NamedBy}
+use Rattle.disco_options.specs.declared.verb.Verb.TheVariants.{Replay}
 
 -- the fault names the first event of the whole input that can't be run
 abbrev pub NamesBadEvent : Settings → Option (List ℕ) → Fault → Type 0

@@ -1,22 +1,18 @@
 //! The command `fleet`.
 ghost use Rattle.std.specs.Prelude.{◌≡◌, ◌≢◌, ◌<◌, ◌≤◌, [], map, string_bytes};
-ghost use Rattle.disco_prog.specs.Faults.{IsStatusAmong};
-ghost use Rattle.disco_prog.specs.Options.{faults_of};
+ghost use Rattle.disco_options.specs.Faults.{IsStatusAmong};
+ghost use Rattle.disco_options.specs.Options.{faults_of};
 
 mod following;
 mod registering;
 mod rounds;
 mod showing;
 
-use crate::commands::read_words;
-use crate::faults::{refused, report};
 use crate::listening::listen;
-use crate::options::count;
-use crate::settings::settings_from;
-use crate::verb::Verb;
 use clap::ArgMatches;
 use disco_instance::Fault;
 use disco_message::Limits;
+use disco_options::{Verb, count, read_words, refused, report, settings_from};
 use disco_press::{Desk, Naming, Opening, Seat, open};
 use disco_server::{Open, SystemClock, start};
 use disco_world::Settings;

@@ -3,19 +3,12 @@
 //! and [`settings_of`] reads the options of a command.
 #![tactic(auto)]
 
-mod commands;
-mod faults;
 mod fleets;
 mod listening;
-mod options;
 mod replaying;
 mod serving;
-mod settings;
-mod verb;
 
-pub use faults::without_words;
+pub use disco_options::{Verb, settings_of, without_words};
 pub use fleets::fleet;
 pub use replaying::replay;
 pub use serving::serve;
-pub use settings::settings_of;
-pub use verb::Verb;

@@ -1,18 +1,16 @@
 //! The command `replay`.
 ghost use Rattle.std.specs.Prelude.{◌≡◌, ◌≢◌, ◌≤◌, ℕ, List, [], IfErr, OnOk, Some, map, string_bytes};
 ghost use Rattle.std.specs.Io.KnownBytes.{IsAtEnd};
-ghost use Rattle.disco_instance.specs.declared.fault.Fault.{Fault};
-ghost use Rattle.disco_instance.specs.declared.fault.Fault.TheVariants.{OutOfMemory, WriteFailed};
-ghost use Rattle.disco_prog.specs.Faults.{IsStatusAmong};
+ghost use Rattle.disco_values.specs.declared.fault.Fault.{Fault};
+ghost use Rattle.disco_values.specs.declared.fault.Fault.TheVariants.{OutOfMemory, WriteFailed};
+ghost use Rattle.disco_options.specs.Faults.{IsStatusAmong};
 ghost use Rattle.disco_lines.specs.Lines.{IsFirstBadLine};
-ghost use Rattle.disco_prog.specs.Options.{faults_of};
+ghost use Rattle.disco_options.specs.Options.{faults_of};
 ghost use Rattle.disco_prog.specs.Replay.{IsAnswered, IsFailed, IsReplayed, IsRunFault};
 
-use crate::faults::{refused, report};
-use crate::settings::read_settings;
-use crate::verb::Verb;
 use disco_instance::Fault;
 use disco_lines::{read_events, write_answers};
+use disco_options::{Verb, read_settings, refused, report};
 use disco_world::{Settings, run};
 use std::alloc::Global;
 use std::io::{Read, Write};

@@ -1,17 +1,13 @@
 //! The command `serve`.
 ghost use Rattle.std.specs.Prelude.{◌≡◌, ◌≢◌, ◌<◌, ◌≤◌, [], map, string_bytes};
-ghost use Rattle.disco_prog.specs.Faults.{IsStatusAmong};
-ghost use Rattle.disco_prog.specs.Options.{faults_of};
+ghost use Rattle.disco_options.specs.Faults.{IsStatusAmong};
+ghost use Rattle.disco_options.specs.Options.{faults_of};
 
-use crate::commands::read_words;
-use crate::faults::{refused, report};
 use crate::listening::listen;
-use crate::options::{count, number_given};
-use crate::settings::settings_from;
-use crate::verb::Verb;
 use clap::ArgMatches;
 use disco_instance::Fault;
 use disco_message::Limits;
+use disco_options::{Verb, count, number_given, read_words, refused, report, settings_from};
 use disco_press::{Desk, Naming, Opening, Seat, open};
 use disco_server::{Open, SystemClock, start, timers};
 use disco_world::Settings;

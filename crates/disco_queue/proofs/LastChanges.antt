@@ -12,8 +12,8 @@ use Rattle.std.specs.List.{All}
 use Rattle.std.specs.Map.{values_of}
 use Rattle.std.proofs.lemmas.List.Elements.{All-nil}
 use Rattle.std.proofs.lemmas.Map.Views.{All-values-insert_entry}
-use Rattle.disco_instance.specs.Key.{key_cmp, same_key}
-use Rattle.disco_instance.specs.declared.key.Key.{Key}
+use Rattle.disco_values.specs.Key.{key_cmp, same_key}
+use Rattle.disco_values.specs.declared.key.Key.{Key}
 use Rattle.disco_history.specs.Change.{Entry, is_proper, key_of, seen}
 use Rattle.disco_history.specs.Mentions.{delta}
 use Rattle.disco_history.specs.declared.change.Change.{Change}

@@ -1,6 +1,6 @@
 -- What is stored, as plain data.
 use Rattle.std.specs.Borrow.{Bor}
-use Rattle.disco_instance.specs.declared.key.Key.{Key}
+use Rattle.disco_values.specs.declared.key.Key.{Key}
 use Rattle.disco_history.specs.Change.{Entry, seen}
 use Rattle.disco_history.specs.declared.change.Change.{Change}
 use Rattle.disco_queue.specs.Timed.{Timed}

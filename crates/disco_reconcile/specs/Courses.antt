@@ -1,9 +1,9 @@
 -- Which fetches a refresh makes, and what it does with what they tell.
 use Rattle.std.specs.Prelude.{◌≡◌, Bool, true, false, List, [], ◌∷◌, Option, Some, None, Result, Ok, Err}
 use Rattle.disco_instance.specs.Instance.{Gives}
-use Rattle.disco_instance.specs.declared.fault.Fault.{Fault}
-use Rattle.disco_instance.specs.declared.fault.Fault.TheVariants.{NotFetched}
-use Rattle.disco_instance.specs.declared.form.Form.{Form}
+use Rattle.disco_values.specs.declared.fault.Fault.{Fault}
+use Rattle.disco_values.specs.declared.fault.Fault.TheVariants.{NotFetched}
+use Rattle.disco_values.specs.declared.form.Form.{Form}
 use Rattle.disco_history.specs.Mentions.{copied, overlay}
 use Rattle.disco_wire.specs.Meaning.{Meaning}
 use Rattle.disco_writer.specs.Documents.{is_delta}

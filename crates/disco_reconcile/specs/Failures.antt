@@ -1,7 +1,7 @@
 -- Failures of a fetcher, and their count.
 use Rattle.std.specs.Prelude.{◌≢◌, ℕ, ◌≤◌, Result, Ok, Err}
-use Rattle.disco_instance.specs.declared.fault.Fault.{Fault}
-use Rattle.disco_instance.specs.declared.fault.Fault.TheVariants.{OutOfMemory}
+use Rattle.disco_values.specs.declared.fault.Fault.{Fault}
+use Rattle.disco_values.specs.declared.fault.Fault.TheVariants.{OutOfMemory}
 use Rattle.disco_cache.specs.declared.key.DocKey.{DocKey}
 use Rattle.disco_http.specs.Causes.{Raises}
 use Rattle.disco_reconcile.specs.declared.fetch.Fetched.{Fetched}

@@ -2,10 +2,10 @@
 use Rattle.std.specs.Prelude.{Option, refl}
 use Rattle.std.specs.Coded.{Coded, code_by, coded×, coded_option}
 use Rattle.std.specs.FinMap.{FinMap}
-use Rattle.disco_instance.specs.Key.{key_cmp}
+use Rattle.disco_values.specs.Key.{key_cmp}
 use Rattle.disco_instance.specs.Row.{Row}
-use Rattle.disco_instance.specs.contracts.form.Form as form
-use Rattle.disco_instance.specs.declared.form.Form.{Form}
+use Rattle.disco_values.specs.contracts.form.Form as form
+use Rattle.disco_values.specs.declared.form.Form.{Form}
 use Rattle.disco_client.specs.contracts.copy.Copy as copy
 
 -- the records of a copy

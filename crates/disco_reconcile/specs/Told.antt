@@ -1,7 +1,7 @@
 -- What the answer to a fetch tells a client.
 use Rattle.std.specs.Prelude.{◌==◌, ◌&&◌, ◌||◌, ℕ, Bool, if◌then◌else◌, Option, Some, None, Result, Ok, Err}
-use Rattle.disco_instance.specs.declared.fault.Fault.{Fault}
-use Rattle.disco_instance.specs.declared.fault.Fault.TheVariants.{OutOfMemory, BadDocument, NotFetched}
+use Rattle.disco_values.specs.declared.fault.Fault.{Fault}
+use Rattle.disco_values.specs.declared.fault.Fault.TheVariants.{OutOfMemory, BadDocument, NotFetched}
 use Rattle.disco_wire.specs.Documents.{document_of}
 use Rattle.disco_wire.specs.Meaning.{Meaning}
 use Rattle.disco_wire.specs.declared.wire.Shape.{Shape}

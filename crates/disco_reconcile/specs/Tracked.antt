@@ -1,6 +1,6 @@
 -- Where a copy is known after a refresh, if the documents that were fetched are true.
 use Rattle.std.specs.Prelude.{◌≡◌, ◌≤◌, ℕ, Bool, true, false, List, [], ◌∷◌, length, Option, Some, None, Ok, Err}
-use Rattle.disco_instance.specs.declared.form.Form.{Form}
+use Rattle.disco_values.specs.declared.form.Form.{Form}
 use Rattle.disco_history.specs.Change.{Entry, front}
 use Rattle.disco_wire.specs.Meaning.{Meaning}
 use Rattle.disco_writer.specs.Documents.{IsTrueFor, is_delta}

@@ -1,6 +1,6 @@
 //! What a client fetches by.
 ghost use Rattle.std.specs.Prelude.{◌≡◌, ◌≤◌, ◌⊎◌, ℕ, Result};
-ghost use Rattle.disco_instance.specs.declared.fault.Fault.{Fault};
+ghost use Rattle.disco_values.specs.declared.fault.Fault.{Fault};
 ghost use Rattle.disco_writer.specs.declared.query.Query.TheVariants.{Apps, Delta};
 ghost use Rattle.disco_cache.specs.declared.key.DocKey.{DocKey};
 ghost use Rattle.disco_http.specs.Causes.{Raises};

@@ -7,17 +7,17 @@ use Rattle.disco_history.specs.Apps.{is_of_id}
 use Rattle.disco_history.specs.Held.{record_at}
 use Rattle.disco_history.specs.Query.{by_id}
 use Rattle.disco_instance.specs.Instance.{Gives}
-use Rattle.disco_instance.specs.Key.{key_cmp}
-use Rattle.disco_instance.specs.declared.fault.Fault.{Fault}
-use Rattle.disco_instance.specs.declared.key.Key.{Key}
+use Rattle.disco_values.specs.Key.{key_cmp}
+use Rattle.disco_values.specs.declared.fault.Fault.{Fault}
+use Rattle.disco_values.specs.declared.key.Key.{Key}
 use Rattle.disco_registry.specs.Accept.{Refuses, accept, accept_after, accepts, limits_of}
 use Rattle.disco_registry.specs.Op.{Ask}
 use Rattle.disco_registry.specs.declared.op.Applied.{Applied}
 use Rattle.disco_history.specs.Change.{Entry}
 use Rattle.disco_history.specs.Registry.{reg, said}
 use Rattle.disco_history.proofs.Sets.{get-said_reg, len-reg, said_gone, said_put, values-reg}
-use Rattle.disco_instance.specs.declared.action.Action.{Action}
-use Rattle.disco_instance.specs.declared.action.Action.TheVariants.{Added, Modified, Deleted}
+use Rattle.disco_values.specs.declared.action.Action.{Action}
+use Rattle.disco_values.specs.declared.action.Action.TheVariants.{Added, Modified, Deleted}
 use Rattle.disco_instance.specs.Row.{Row}
 use Rattle.disco_registry.specs.Commit.{Takes, done_by, appended, held_after}
 use Rattle.disco_registry.specs.State.{State, StandsFor, IsSameRegistry}

@@ -1,16 +1,16 @@
 -- What an operation does: the first cause against it, else its change or none (the rules of Eureka's REST operations).
 use Rattle.std.specs.Prelude.{◌≡◌, ◌≢◌, ℕ, ◌&&◌, not, List, length, Bool, true, false, nat_lt, if◌then◌else◌, Option, Some, None, Result, Ok, Err}
 use Rattle.std.specs.FinMap.{get, len}
-use Rattle.disco_instance.specs.Entries.{with_entries}
+use Rattle.disco_values.specs.Entries.{with_entries}
 use Rattle.disco_instance.specs.Moments.{cancelled_at, modified_at}
 use Rattle.disco_instance.specs.Row.{Row}
-use Rattle.disco_instance.specs.Status.{is_same, status_named}
-use Rattle.disco_instance.specs.declared.key.Key.{Key}
-use Rattle.disco_instance.specs.declared.status.Status.{Status}
-use Rattle.disco_instance.specs.declared.status.Status.TheVariants.{Unknown}
-use Rattle.disco_instance.specs.declared.action.Action.TheVariants.{Added, Modified, Deleted}
-use Rattle.disco_instance.specs.declared.fault.Fault.{Fault}
-use Rattle.disco_instance.specs.declared.fault.Fault.TheVariants.{OutOfMemory, BadStatus, NotFound, VersionsSpent, TooManyInstances}
+use Rattle.disco_values.specs.Status.{is_same, status_named}
+use Rattle.disco_values.specs.declared.key.Key.{Key}
+use Rattle.disco_values.specs.declared.status.Status.{Status}
+use Rattle.disco_values.specs.declared.status.Status.TheVariants.{Unknown}
+use Rattle.disco_values.specs.declared.action.Action.TheVariants.{Added, Modified, Deleted}
+use Rattle.disco_values.specs.declared.fault.Fault.{Fault}
+use Rattle.disco_values.specs.declared.fault.Fault.TheVariants.{OutOfMemory, BadStatus, NotFound, VersionsSpent, TooManyInstances}
 use Rattle.disco_history.specs.Change.{Entry}
 use Rattle.disco_history.specs.Registry.{reg}
 use Rattle.disco_history.specs.Held.{record_at}

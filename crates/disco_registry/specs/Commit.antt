@@ -1,10 +1,10 @@
 -- What commits a change.
 use Rattle.std.specs.Prelude.{◌≡◌, ℕ, ◌<◌, ◌+◌, List, [], ◌∷◌, ◌++◌, Option, Bool, true, Some, None, Result, Ok, Err}
 use Rattle.std.specs.FinMap.{FinMap, get, insert, remove}
-use Rattle.disco_instance.specs.Key.{key_cmp}
+use Rattle.disco_values.specs.Key.{key_cmp}
 use Rattle.disco_instance.specs.Row.{row}
-use Rattle.disco_instance.specs.declared.fault.Fault.{Fault}
-use Rattle.disco_instance.specs.declared.key.Key.{Key}
+use Rattle.disco_values.specs.declared.fault.Fault.{Fault}
+use Rattle.disco_values.specs.declared.key.Key.{Key}
 use Rattle.disco_history.specs.Change.{Entry, is_proper, key_of, seen}
 use Rattle.disco_history.specs.Registry.{put_of}
 use Rattle.disco_history.specs.declared.change.Change.{Change}

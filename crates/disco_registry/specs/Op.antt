@@ -1,7 +1,7 @@
 -- Operations as plain data.
 use Rattle.std.specs.Prelude.{ℕ, List, Option}
 use Rattle.disco_instance.specs.Row.{Row, row}
-use Rattle.disco_instance.specs.declared.key.Key.{Key}
+use Rattle.disco_values.specs.declared.key.Key.{Key}
 use Rattle.disco_registry.specs.declared.op.Op.{Op}
 use Rattle.disco_registry.specs.declared.op.Op.TheVariants.{Register, Cancel, Renew, SetStatus, DropStatus, Metadata}
 

@@ -2,9 +2,9 @@
 use Rattle.std.specs.Prelude.{ℕ, Bool, ◌||◌, nat_lt, if◌then◌else◌, Option, Some, None}
 use Rattle.disco_instance.specs.Moments.{registered_at}
 use Rattle.disco_instance.specs.Row.{Row}
-use Rattle.disco_instance.specs.Status.{is_same}
-use Rattle.disco_instance.specs.declared.status.Status.{Status}
-use Rattle.disco_instance.specs.declared.status.Status.TheVariants.{Up, OutOfService, Unknown}
+use Rattle.disco_values.specs.Status.{is_same}
+use Rattle.disco_values.specs.declared.status.Status.{Status}
+use Rattle.disco_values.specs.declared.status.Status.TheVariants.{Up, OutOfService, Unknown}
 
 -- the registrant: the posted record, or the held one where that is the later change
 abbrev pub registrant : Option Row → Row → Row

@@ -2,7 +2,7 @@
 ghost use Rattle.std.specs.Prelude.{◌≡◌, IfOk, IfErr, option_map};
 ghost use Rattle.std.specs.Option.{option_copied};
 ghost use Rattle.disco_instance.specs.Row.{row};
-ghost use Rattle.disco_instance.specs.declared.fault.Fault.TheVariants.{OutOfMemory};
+ghost use Rattle.disco_values.specs.declared.fault.Fault.TheVariants.{OutOfMemory};
 ghost use Rattle.disco_history.specs.Held.{seen_record};
 ghost use Rattle.disco_registry.specs.Settle.{held_or, held_up, is_open, known_or, override_of, registrant, settle, settled_status};
 

@@ -2,7 +2,7 @@
 use Rattle.std.specs.Prelude.{Bool, true, false}
 use Rattle.disco_http.specs.declared.serving.End.{End}
 use Rattle.disco_http.specs.declared.serving.End.TheVariants.{Closed, Fault}
-use Rattle.disco_instance.specs.declared.fault.Fault.TheVariants.{ReadFailed, WriteFailed}
+use Rattle.disco_values.specs.declared.fault.Fault.TheVariants.{ReadFailed, WriteFailed}
 
 -- the server ended it by a reply, and not the client or the host
 abbrev pub has_last_reply : End → Bool

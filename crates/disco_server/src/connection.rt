@@ -1,6 +1,6 @@
 //! One connection over a hub.
 ghost use Rattle.std.specs.Prelude.{◌≡◌, IfSome, IsFalse};
-ghost use Rattle.disco_instance.specs.declared.fault.Fault.TheVariants.{ReadFailed, WriteFailed};
+ghost use Rattle.disco_values.specs.declared.fault.Fault.TheVariants.{ReadFailed, WriteFailed};
 ghost use Rattle.disco_http.specs.Causes.{Raises};
 ghost use Rattle.disco_http.specs.Served.{AnswersAll};
 ghost use Rattle.disco_http.specs.Sinks.{sink_of};

@@ -28,7 +28,7 @@ pub use disco_answers::{Shared, answer, answer_hub, answer_on};
 pub use disco_routes::Routes;
 pub use draining::drain;
 pub use gate::{Gate, Open, Point};
-pub use publishing::{Step, publish_step};
+pub use publishing::{Step, publish_step, publish_step_locked};
 pub use service::HubService;
 pub use starting::start;
 pub use system_clock::SystemClock;

@@ -1,11 +1,11 @@
 //! The steps of a publisher.
 ghost use Rattle.std.specs.Prelude.{◌≡◌, ◌≢◌, [], IfErr, IfOk, IfSome, None, OnErr};
-ghost use Rattle.disco_instance.specs.declared.fault.Fault.TheVariants.{OutOfMemory};
+ghost use Rattle.disco_values.specs.declared.fault.Fault.TheVariants.{OutOfMemory};
 ghost use Rattle.disco_server.specs.Publishing.{Moves};
 
 use disco_instance::Fault;
 use disco_press::{Desk, Naming};
-use std::sync::Wait;
+use std::sync::{Mutex, MutexGuard, Wait};
 
 /// What a step of a publisher did.
 #[derive(Clone, Copy, Debug, PartialEq, Eq)]
@@ -60,4 +60,16 @@ pub fn publish_step<J: Naming, R: Wait>(rt: &R, desk: &mut Desk<J>) -> Result<St
         Err(Fault::NoRound) => begin(desk),
         Err(_) => Err(Fault::OutOfMemory),
     }
+}
+
+/// Takes the next step of a publisher under the lock, and gives the lock back. Refused only as
+/// `OutOfMemory`, and then the desk is as it was.
+pub fn publish_step_locked<J: Naming, R: Wait>(
+    rt: &R,
+    desk: &Mutex<Desk<J>>,
+) -> Result<Step, Fault> {
+    let mut guard = desk.lock(rt);
+    let step = publish_step(rt, &mut *guard);
+    MutexGuard::unlock(guard);
+    step
 }

@@ -1,9 +1,9 @@
 //! What is done again and again beside the requests.
 ghost use Rattle.std.specs.Prelude.{◌≡◌, IfErr};
-ghost use Rattle.disco_instance.specs.declared.fault.Fault.TheVariants.{ReadFailed};
+ghost use Rattle.disco_values.specs.declared.fault.Fault.TheVariants.{ReadFailed};
 
 use crate::clock::Clock;
-use crate::publishing::{Step, publish_step};
+use crate::publishing::{Step, publish_step_locked};
 use crate::timer::Timer;
 use disco_instance::Fault;
 use disco_press::{Desk, Naming};
@@ -70,14 +70,6 @@ impl<'a> Ends<'a> {
     fn have_come(&self) -> bool {
         self.stop.load(Ordering::SeqCst) || self.refused.load(Ordering::SeqCst)
     }
-}
-
-/// Takes one step of a publisher under the lock.
-fn publish_step_locked<J: Naming, R: Wait>(rt: &R, desk: &Mutex<Desk<J>>) -> Result<Step, Fault> {
-    let mut guard = desk.lock(rt);
-    let step = publish_step(rt, &mut *guard);
-    MutexGuard::unlock(guard);
-    step
 }
 
 /// Goes on with the open round, or begins one, up to its publication. Others may have the lock

@@ -1,6 +1,6 @@
 //! Refreshes over a script of answers, and fetches over connections that lie in memory.
 ghost use Rattle.std.specs.Prelude.{◌≡◌, ◌≤◌, IfErr};
-ghost use Rattle.disco_instance.specs.declared.fault.Fault.TheVariants.{NotFetched, OutOfMemory};
+ghost use Rattle.disco_values.specs.declared.fault.Fault.TheVariants.{NotFetched, OutOfMemory};
 ghost use Rattle.disco_http.specs.Causes.{Raises};
 
 use crate::program::{Full, Torn};

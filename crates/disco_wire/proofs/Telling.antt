@@ -4,7 +4,7 @@ use Rattle.serde_json.proofs.Views.{view-Array}
 use Rattle.serde_json.specs.Data.{Data}
 use Rattle.serde_json.specs.View.{view, items_view}
 use Rattle.serde_json.specs.declared.value.Value.{Value, Array}
-use Rattle.disco_instance.specs.declared.fault.Fault.{Fault}
+use Rattle.disco_values.specs.declared.fault.Fault.{Fault}
 use Rattle.disco_instance.specs.Mention.{Mention}
 use Rattle.disco_wire.specs.Meaning.{list_of, listed_in, all_told}
 use Rattle.disco_wire.specs.Steps.{told_on}

@@ -5,7 +5,7 @@ use Rattle.std.proofs.lemmas.Str.{IsUtf8-from_is_utf8, is_utf8-from_IsUtf8}
 use Rattle.serde_json.specs.Data.{Data}
 use Rattle.std.specs.Option.{ok_or}
 use Rattle.serde_json.specs.Read.{read}
-use Rattle.disco_instance.specs.declared.fault.Fault.TheVariants.{BadJson}
+use Rattle.disco_values.specs.declared.fault.Fault.TheVariants.{BadJson}
 use Rattle.disco_wire.specs.Tree.{json_of}
 
 pub tree_read : (bytes : List ℕ) (d : Data) → IsUtf8 bytes → read bytes ≡ Some d → json_of bytes ≡ Ok d

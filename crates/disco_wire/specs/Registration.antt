@@ -5,10 +5,10 @@ use Rattle.serde_json.specs.Data.{Data}
 use Rattle.disco_instance.specs.Instance.{if_ok, told_by}
 use Rattle.disco_instance.specs.Members.{inner_at, non_empty_at}
 use Rattle.disco_instance.specs.Row.{Row}
-use Rattle.disco_instance.specs.declared.fault.Fault.{Fault}
-use Rattle.disco_instance.specs.declared.fault.Fault.TheVariants.{BadJson, MissingField}
-use Rattle.disco_instance.specs.declared.fault.Field.{Field}
-use Rattle.disco_instance.specs.declared.fault.Field.TheVariants.{InstanceId, HostName, IpAddr, App, DataCenterInfo}
+use Rattle.disco_values.specs.declared.fault.Fault.{Fault}
+use Rattle.disco_values.specs.declared.fault.Fault.TheVariants.{BadJson, MissingField}
+use Rattle.disco_values.specs.declared.fault.Field.{Field}
+use Rattle.disco_values.specs.declared.fault.Field.TheVariants.{InstanceId, HostName, IpAddr, App, DataCenterInfo}
 use Rattle.disco_wire.specs.Tree.{json_of, object_at}
 
 -- the first required member of an instance that is absent or empty; the host's name may stand for the id

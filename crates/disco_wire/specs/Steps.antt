@@ -1,7 +1,7 @@
 -- What steps inside this crate say of mentions. Nothing here is to be believed: no public contract rests on it.
 use Rattle.std.specs.Prelude.{List, ◌++◌, Option, Some, None, Result, Ok, Err}
-use Rattle.disco_instance.specs.declared.fault.Fault.{Fault}
-use Rattle.disco_instance.specs.declared.fault.Fault.TheVariants.{BadDocument}
+use Rattle.disco_values.specs.declared.fault.Fault.{Fault}
+use Rattle.disco_values.specs.declared.fault.Fault.TheVariants.{BadDocument}
 use Rattle.disco_instance.specs.Mention.{Mention}
 
 -- the same after what was told before

@@ -5,7 +5,7 @@ ghost use Rattle.serde_json.specs.Data.{Data};
 ghost use Rattle.serde_json.specs.Find.{get};
 ghost use Rattle.serde_json.specs.View.{view};
 ghost use Rattle.disco_instance.specs.Instance.{Gives};
-ghost use Rattle.disco_instance.specs.declared.fault.Fault.TheVariants.{BadDocument};
+ghost use Rattle.disco_values.specs.declared.fault.Fault.TheVariants.{BadDocument};
 ghost use Rattle.disco_instance.specs.Members.{as_whole, text_at};
 ghost use Rattle.disco_wire.specs.Meaning.{all_told, app_meant, listed, listed_in, many_meant, meaning_of, one_meant, told_app, told_in, told_item};
 ghost use Rattle.disco_wire.specs.Steps.{told_on};

@@ -16,8 +16,8 @@ use Rattle.disco_world.specs.Answers.{AreAnswers, AreServed, IsAnswer, IsFirstBa
 use Rattle.disco_world.specs.Levels.{AreLevelsOf}
 use Rattle.disco_world.specs.declared.levels.Levels.{Levels}
 use Rattle.disco_world.proofs.Editions.{Sees, ShowsFresh, sees_at}
-use Rattle.disco_instance.specs.declared.fault.Fault.{Fault}
-use Rattle.disco_instance.specs.declared.fault.Fault.TheVariants.{BadEvent}
+use Rattle.disco_values.specs.declared.fault.Fault.{Fault}
+use Rattle.disco_values.specs.declared.fault.Fault.TheVariants.{BadEvent}
 use Rattle.disco_cache.specs.declared.key.DocKey.{DocKey}
 use Rattle.disco_world.specs.Events.{Deed, World, writes, loads, cleans, closes, expires, begins, copies, publishes, looks, takes, shows, bad, after, after_at, clients_after, deed, new_world, world}
 use Rattle.disco_world.specs.Steps.{AreHeld}

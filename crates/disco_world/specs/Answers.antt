@@ -3,8 +3,8 @@ use Rattle.std.specs.Prelude.{◌≡◌, ◌≢◌, ℕ, ◌+◌, ◌≤◌, Boo
 use Rattle.std.specs.FinMap.{len}
 use Rattle.std.specs.declared.alloc.Global.{Global}
 use Rattle.std.specs.declared.sync.Arc.{Arc}
-use Rattle.disco_instance.specs.declared.fault.Fault.{Fault}
-use Rattle.disco_instance.specs.declared.fault.Fault.TheVariants.{OutOfMemory, BadEvent, NotFetched, NoRound, RoundOpen}
+use Rattle.disco_values.specs.declared.fault.Fault.{Fault}
+use Rattle.disco_values.specs.declared.fault.Fault.TheVariants.{OutOfMemory, BadEvent, NotFetched, NoRound, RoundOpen}
 use Rattle.disco_history.specs.Change.{Entry}
 use Rattle.disco_hub.specs.Expiry.{IsExpired}
 use Rattle.disco_core.specs.Past.{cleaned, history, minute_closed, taken_in}

@@ -1,7 +1,7 @@
 -- Clients' copies, and the versions at which they are known.
 use Rattle.std.specs.Prelude.{◌≡◌, ℕ, ◌==◌, Bool, true, false, List, [], map, if◌then◌else◌, Option, Some, None, option_map, Result, Ok, Err}
 use Rattle.std.specs.FinMap.{values}
-use Rattle.disco_instance.specs.declared.fault.Fault.{Fault}
+use Rattle.disco_values.specs.declared.fault.Fault.{Fault}
 use Rattle.disco_history.specs.Change.{Entry}
 use Rattle.disco_history.specs.Mentions.{copied, overlay}
 use Rattle.disco_wire.specs.Documents.{document_of}

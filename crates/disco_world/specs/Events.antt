@@ -1,13 +1,13 @@
 -- What events are for, and what has happened after them.
 use Rattle.std.specs.Prelude.{ℕ, zero, suc, ◌+◌, ◌==◌, List, [], ◌∷◌, ◌++◌, drop, length, map, Bool, true, false, if◌then◌else◌, Option, Some, None, Result, Ok, Err, slice_get}
 use Rattle.std.specs.Str.{bytes_eq}
-use Rattle.disco_instance.specs.Fault.{fault_number}
+use Rattle.disco_values.specs.Fault.{fault_number}
 use Rattle.disco_instance.specs.Row.{Row}
-use Rattle.disco_instance.specs.Text.{in_upper_case}
-use Rattle.disco_instance.specs.declared.fault.Fault.{Fault}
-use Rattle.disco_instance.specs.declared.fault.Fault.TheVariants.{MismatchedApp, NotFound}
-use Rattle.disco_instance.specs.declared.form.Form.{Form}
-use Rattle.disco_instance.specs.declared.key.Key.{Key}
+use Rattle.disco_values.specs.Text.{in_upper_case}
+use Rattle.disco_values.specs.declared.fault.Fault.{Fault}
+use Rattle.disco_values.specs.declared.fault.Fault.TheVariants.{MismatchedApp, NotFound}
+use Rattle.disco_values.specs.declared.form.Form.{Form}
+use Rattle.disco_values.specs.declared.key.Key.{Key}
 use Rattle.disco_history.specs.Change.{Entry}
 use Rattle.disco_history.specs.Query.{by_id}
 use Rattle.disco_history.specs.Registry.{reg}

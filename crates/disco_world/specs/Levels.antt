@@ -1,7 +1,7 @@
 -- What private contracts say of the two levels of documents. Nothing here is to be believed: the clauses of `run` don't cite it.
 use Rattle.std.specs.Prelude.{◌≡◌, ◌≢◌, [], length, Some, None, IfSome, option_map, slice_get}
 use Rattle.std.specs.FinMap.{get}
-use Rattle.disco_instance.specs.declared.fault.Fault.TheVariants.{OutOfMemory}
+use Rattle.disco_values.specs.declared.fault.Fault.TheVariants.{OutOfMemory}
 use Rattle.disco_cache.specs.declared.key.DocKey.{DocKey}
 use Rattle.disco_core.specs.Past.{Past}
 use Rattle.disco_hub.specs.Levels.{AreLevels, put_copy}

@@ -3,8 +3,8 @@ use Rattle.std.specs.Prelude.{◌≡◌, ◌≢◌, ℕ, Bool, List, Option, Som
 use Rattle.std.specs.declared.alloc.Global.{Global}
 use Rattle.std.specs.declared.sync.Arc.{Arc}
 use Rattle.disco_instance.specs.Row.{Row}
-use Rattle.disco_instance.specs.declared.fault.Fault.{Fault}
-use Rattle.disco_instance.specs.declared.fault.Fault.TheVariants.{NotFetched, OutOfMemory}
+use Rattle.disco_values.specs.declared.fault.Fault.{Fault}
+use Rattle.disco_values.specs.declared.fault.Fault.TheVariants.{NotFetched, OutOfMemory}
 use Rattle.disco_registry.specs.declared.op.Applied.{Applied}
 use Rattle.disco_registry.specs.declared.op.Applied.TheVariants as applied
 use Rattle.disco_wire.specs.Documents.{document_of}

@@ -3,7 +3,7 @@ ghost use Rattle.std.specs.Prelude.{◌≡◌, IfErr, IfOk, false, map, option_m
 ghost use Rattle.std.specs.BTreeMap as tree;
 ghost use Rattle.std.specs.Ordering.{nat_cmp};
 ghost use Rattle.disco_instance.specs.Row.{row};
-ghost use Rattle.disco_instance.specs.declared.fault.Fault.TheVariants.{OutOfMemory};
+ghost use Rattle.disco_values.specs.declared.fault.Fault.TheVariants.{OutOfMemory};
 ghost use Rattle.disco_client.specs.Copies.{hash_equal};
 ghost use Rattle.disco_client.specs.Tracks.{moved, same_form};
 ghost use Rattle.disco_wire.specs.Wire.{wire_meaning};

@@ -1,6 +1,6 @@
 //! Documents that are served.
 ghost use Rattle.std.specs.Prelude.{◌≡◌, IfOk, IfErr};
-ghost use Rattle.disco_instance.specs.declared.fault.Fault.TheVariants.{OutOfMemory};
+ghost use Rattle.disco_values.specs.declared.fault.Fault.TheVariants.{OutOfMemory};
 ghost use Rattle.disco_world.specs.Events.{deed, query_asked};
 ghost use Rattle.disco_world.specs.Steps.{Does, reply_of};
 ghost use Rattle.disco_world.specs.declared.event.Event.TheVariants as event;

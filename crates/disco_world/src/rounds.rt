@@ -1,6 +1,6 @@
 //! Rounds of a publisher, and looks of readers.
 ghost use Rattle.std.specs.Prelude.{◌≡◌, ◌≢◌, IfErr, IfNone, IfOk, IfSome, None, OnErr, OnOk};
-ghost use Rattle.disco_instance.specs.declared.fault.Fault.TheVariants.{NoRound, OutOfMemory};
+ghost use Rattle.disco_values.specs.declared.fault.Fault.TheVariants.{NoRound, OutOfMemory};
 ghost use Rattle.disco_hub.specs.Levels.{put_copy};
 ghost use Rattle.disco_hub.specs.State.{rules_of};
 ghost use Rattle.disco_world.specs.Events.{begins, copies, publishes};

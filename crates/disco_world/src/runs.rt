@@ -3,8 +3,8 @@ ghost use Rattle.std.specs.Prelude.{◌≡◌, ◌≢◌, length, IfOk, IfErr, I
 ghost use Rattle.std.specs.BTreeMap as tree;
 ghost use Rattle.std.specs.Ordering.{nat_cmp};
 ghost use Rattle.disco_instance.specs.Instance.{Gives};
-ghost use Rattle.disco_instance.specs.declared.fault.Fault.{Fault};
-ghost use Rattle.disco_instance.specs.declared.fault.Fault.TheVariants.{OutOfMemory};
+ghost use Rattle.disco_values.specs.declared.fault.Fault.{Fault};
+ghost use Rattle.disco_values.specs.declared.fault.Fault.TheVariants.{OutOfMemory};
 ghost use Rattle.disco_registry.specs.Op.{Ask, ask_of};
 ghost use Rattle.disco_core.specs.State.{rules};
 ghost use Rattle.disco_hub.specs.State.{rules_of};

@@ -8,7 +8,7 @@ use Rattle.serde_json.specs.Written.{outline, members_outline, compact_text}
 use Rattle.std.proofs.lemmas.List.{drop_all, drop_more}
 use Rattle.json.specs.Print.{print}
 use Rattle.serde_json.proofs.Texts.{print-outline}
-use Rattle.disco_instance.specs.declared.form.Form.TheVariants.{Full, Compact}
+use Rattle.disco_values.specs.declared.form.Form.TheVariants.{Full, Compact}
 use Rattle.disco_history.specs.Change.{Entry}
 use Rattle.disco_writer.specs.Fields.{entry_fields, from_moments, to_hosts, to_metadata, to_moments, to_urls, to_vips}
 use Rattle.disco_writer.specs.Tokens.{Adds, member_tokens}

@@ -7,14 +7,14 @@ use Rattle.std.specs.Str.Parse.{digits_value}
 use Rattle.std.proofs.lemmas.Fmt.{decimal_nonempty, digits_decimal, digits_value-decimal}
 use Rattle.std.proofs.lemmas.Str.Parse.{IsNumeralModel, numerals_by_value, tells_all_ascii_digits}
 use Rattle.std.proofs.lemmas.Bool.Decides.{nat_tests}
-use Rattle.disco_instance.specs.declared.status.Status.{Status}
-use Rattle.disco_instance.specs.declared.status.Status.TheVariants.{Up, Down, Starting, OutOfService, Unknown}
-use Rattle.disco_instance.specs.declared.action.Action.{Action}
-use Rattle.disco_instance.specs.declared.action.Action.TheVariants.{Added, Modified, Deleted}
-use Rattle.disco_instance.specs.Status.{status_name, status_named}
-use Rattle.disco_instance.specs.Action.{action_name, action_named}
-use Rattle.disco_instance.specs.Entries.{is_before, is_by_name}
-use Rattle.disco_instance.specs.Text.{in_upper_case}
+use Rattle.disco_values.specs.declared.status.Status.{Status}
+use Rattle.disco_values.specs.declared.status.Status.TheVariants.{Up, Down, Starting, OutOfService, Unknown}
+use Rattle.disco_values.specs.declared.action.Action.{Action}
+use Rattle.disco_values.specs.declared.action.Action.TheVariants.{Added, Modified, Deleted}
+use Rattle.disco_values.specs.Status.{status_name, status_named}
+use Rattle.disco_values.specs.Action.{action_name, action_named}
+use Rattle.disco_values.specs.Entries.{is_before, is_by_name}
+use Rattle.disco_values.specs.Text.{in_upper_case}
 use Rattle.disco_instance.specs.Members.{digits_number, flag_named, not_empty}
 use Rattle.disco_instance.specs.Metadata.{kept_entries}
 use Rattle.disco_writer.specs.Trees.{in_order}

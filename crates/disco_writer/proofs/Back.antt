@@ -3,16 +3,16 @@ use Rattle.std.proofs.Common.{◌≡◌, ℕ, ◌<◌, ◌^◌, Bool, true, fals
 use Rattle.std.specs.Option.{option_or}
 use Rattle.disco_instance.specs.declared.lease.Lease.{Lease}
 use Rattle.disco_instance.specs.declared.port.Port.{Port}
-use Rattle.disco_instance.specs.declared.status.Status.{Status}
-use Rattle.disco_instance.specs.declared.status.Status.TheVariants.{Unknown, Up}
-use Rattle.disco_instance.specs.Status.{status_name, status_named}
+use Rattle.disco_values.specs.declared.status.Status.{Status}
+use Rattle.disco_values.specs.declared.status.Status.TheVariants.{Unknown, Up}
+use Rattle.disco_values.specs.Status.{status_name, status_named}
 use Rattle.disco_instance.specs.Row.{Row, IsWellFormed}
-use Rattle.disco_instance.specs.Text.{in_upper_case}
+use Rattle.disco_values.specs.Text.{in_upper_case}
 use Rattle.disco_instance.specs.Instance.{key_at, key_by, row_at, action_at, lease_at}
 use Rattle.disco_instance.specs.Members.{not_empty, digits_number, port_at}
 use Rattle.disco_wire.specs.Meaning.{told_in}
-use Rattle.disco_instance.specs.declared.form.Form.{Form}
-use Rattle.disco_instance.specs.declared.form.Form.TheVariants.{Full, Compact}
+use Rattle.disco_values.specs.declared.form.Form.{Form}
+use Rattle.disco_values.specs.declared.form.Form.TheVariants.{Full, Compact}
 use Rattle.disco_history.specs.Change.{Entry}
 use Rattle.disco_history.specs.Forms.{default_lease, formed}
 use Rattle.disco_writer.specs.Trees.{instance_tree, port_tree, lease_tree}

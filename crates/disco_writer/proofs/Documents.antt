@@ -6,8 +6,8 @@ use Rattle.serde_json.specs.Data.{Data}
 use Rattle.serde_json.specs.View.{items_of}
 use Rattle.disco_wire.specs.Meaning.{told_in, told_item, all_told, meaning_of, meant, list_of}
 use Rattle.disco_wire.specs.declared.wire.Shape.TheVariants.{App, One}
-use Rattle.disco_instance.specs.declared.form.Form.{Form}
-use Rattle.disco_instance.specs.declared.form.Form.TheVariants.{Full, Compact}
+use Rattle.disco_values.specs.declared.form.Form.{Form}
+use Rattle.disco_values.specs.declared.form.Form.TheVariants.{Full, Compact}
 use Rattle.disco_history.specs.Change.{Entry}
 use Rattle.disco_history.specs.Forms.{mention_in}
 use Rattle.disco_instance.specs.Row.{IsWellFormed}

@@ -9,7 +9,7 @@ use Rattle.std.proofs.lemmas.Slice.Eq.{bytes_eq-Decides}
 use Rattle.json.specs.Print.{quoted, escape_byte}
 use Rattle.serde_json.specs.Written.{compact_text, items_text}
 use Rattle.serde_json.specs.View.{items_of}
-use Rattle.disco_instance.specs.declared.form.Form.{Form}
+use Rattle.disco_values.specs.declared.form.Form.{Form}
 use Rattle.disco_history.specs.Change.{Entry}
 use Rattle.disco_writer.specs.Joined.{text_in, shown, Shown, AreTextsOf, IsTextOf, in_apps, in_commas, before_next, app_open, app_close, many_open, many_close, many_joined, app_joined, one_joined}
 use Rattle.disco_wire.specs.Documents.{document_of}

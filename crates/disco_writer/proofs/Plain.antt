@@ -4,12 +4,12 @@ use Rattle.std.specs.Str.{IsUtf8}
 use Rattle.serde_json.specs.Data.{Data, depth, items_depth, members_depth}
 use Rattle.serde_json.specs.Read.{max_depth, read}
 use Rattle.serde_json.specs.View.{items_of}
-use Rattle.disco_instance.specs.declared.form.Form.{Form}
-use Rattle.disco_instance.specs.declared.form.Form.TheVariants.{Full, Compact}
+use Rattle.disco_values.specs.declared.form.Form.{Form}
+use Rattle.disco_values.specs.declared.form.Form.TheVariants.{Full, Compact}
 use Rattle.disco_history.specs.Change.{Entry}
 use Rattle.std.specs.Option.{ok_or}
 use Rattle.disco_instance.specs.Instance.{if_ok}
-use Rattle.disco_instance.specs.declared.fault.Fault.TheVariants.{BadDocument}
+use Rattle.disco_values.specs.declared.fault.Fault.TheVariants.{BadDocument}
 use Rattle.disco_wire.specs.Documents.{document_of}
 use Rattle.disco_wire.specs.Meaning.{Meaning, meaning_of}
 use Rattle.disco_wire.proofs.Trees.{tree_read}

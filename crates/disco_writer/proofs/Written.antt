@@ -3,7 +3,7 @@ use Rattle.std.proofs.Common.{◌≡◌, ℕ, ◌<◌, ◌==◌, ◌&&◌, not, 
 use Rattle.std.proofs.lemmas.Bool.Decides.{nat_tests}
 use Rattle.std.specs.FinMap.{len, values}
 use Rattle.serde_json.specs.Written.{compact_text}
-use Rattle.disco_instance.specs.declared.form.Form.{Form}
+use Rattle.disco_values.specs.declared.form.Form.{Form}
 use Rattle.disco_history.specs.Change.{Entry}
 use Rattle.disco_history.specs.Hash.{hash}
 use Rattle.disco_history.specs.Mentions.{delta}

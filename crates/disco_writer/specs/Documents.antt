@@ -2,7 +2,7 @@
 use Rattle.std.specs.Prelude.{◌≡◌, ◌≤◌, ℕ, Bool, true, false, List, if◌then◌else◌, length, Option, Some, None, Ok}
 use Rattle.std.specs.FinMap.{values}
 use Rattle.serde_json.specs.Written.{compact_text}
-use Rattle.disco_instance.specs.declared.form.Form.{Form}
+use Rattle.disco_values.specs.declared.form.Form.{Form}
 use Rattle.disco_history.specs.Change.{Entry, front}
 use Rattle.disco_history.specs.Hash.{hash}
 use Rattle.disco_history.specs.Mentions.{delta}

@@ -1,9 +1,9 @@
 -- The members of an instance in the groups in which they are written. Nothing here need be believed.
 use Rattle.std.specs.Prelude.{ℕ, List, [], ◌∷◌, ◌++◌, map, codes}
 use Rattle.serde_json.specs.Data.{Data, string}
-use Rattle.disco_instance.specs.Action.{action_name}
+use Rattle.disco_values.specs.Action.{action_name}
 use Rattle.disco_instance.specs.Row.{Row}
-use Rattle.disco_instance.specs.Status.{status_name}
+use Rattle.disco_values.specs.Status.{status_name}
 use Rattle.disco_instance.specs.declared.data_center.DataCenter.{DataCenter}
 use Rattle.disco_instance.specs.declared.lease.Lease.{Lease}
 use Rattle.disco_instance.specs.declared.port.Port.{Port}

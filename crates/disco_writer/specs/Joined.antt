@@ -4,7 +4,7 @@ use Rattle.std.specs.Str.{IsUtf8, bytes_eq}
 use Rattle.json.specs.Print.{quoted}
 use Rattle.serde_json.specs.Written.{compact_text}
 use Rattle.disco_instance.specs.Row.{IsWellFormed}
-use Rattle.disco_instance.specs.declared.form.Form.{Form}
+use Rattle.disco_values.specs.declared.form.Form.{Form}
 use Rattle.disco_history.specs.Change.{Entry}
 use Rattle.disco_writer.specs.Trees.{instance_tree}
 

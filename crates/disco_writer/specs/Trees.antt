@@ -3,11 +3,11 @@ use Rattle.std.specs.Prelude.{ℕ, List, [], ◌∷◌, map, filter, codes, Bool
 use Rattle.std.specs.Str.{bytes_eq}
 use Rattle.serde_json.specs.Data.{Data, number, string, array, object, Members, no_members, member, unsigned}
 use Rattle.serde_json.specs.View.{items_of}
-use Rattle.disco_instance.specs.Action.{action_name}
-use Rattle.disco_instance.specs.Status.{status_name}
+use Rattle.disco_values.specs.Action.{action_name}
+use Rattle.disco_values.specs.Status.{status_name}
 use Rattle.disco_instance.specs.declared.data_center.DataCenter.{DataCenter}
-use Rattle.disco_instance.specs.declared.form.Form.{Form}
-use Rattle.disco_instance.specs.declared.form.Form.TheVariants.{Full, Compact}
+use Rattle.disco_values.specs.declared.form.Form.{Form}
+use Rattle.disco_values.specs.declared.form.Form.TheVariants.{Full, Compact}
 use Rattle.disco_instance.specs.declared.lease.Lease.{Lease}
 use Rattle.disco_instance.specs.declared.port.Port.{Port}
 use Rattle.disco_history.specs.Change.{Entry}

@@ -1,6 +1,6 @@
 //! The document of recent changes.
 ghost use Rattle.std.specs.Prelude.{◌≡◌, List, IfOk, IfErr, Some, map};
-ghost use Rattle.disco_instance.specs.declared.fault.Fault.TheVariants.{OutOfMemory};
+ghost use Rattle.disco_values.specs.declared.fault.Fault.TheVariants.{OutOfMemory};
 ghost use Rattle.disco_history.specs.Change.{seen};
 ghost use Rattle.disco_index.specs.Tally.{tally_in};
 ghost use Rattle.disco_queue.specs.Queue.{Keeps};

@@ -1,8 +1,8 @@
 //! The document that a query asks for.
 ghost use Rattle.std.specs.Prelude.{◌≡◌, ◌<◌, List, IfOk, IfErr, MatchOption, Ok, Some, true, false, length, option_map};
 ghost use Rattle.serde_json.specs.Written.{compact_text};
-ghost use Rattle.disco_instance.specs.declared.fault.Fault.TheVariants.{OutOfMemory};
-ghost use Rattle.disco_instance.specs.declared.form.Form.TheVariants.{Full};
+ghost use Rattle.disco_values.specs.declared.fault.Fault.TheVariants.{OutOfMemory};
+ghost use Rattle.disco_values.specs.declared.form.Form.TheVariants.{Full};
 ghost use Rattle.disco_history.specs.Change.{Entry};
 ghost use Rattle.disco_history.specs.Hash.{hash};
 ghost use Rattle.disco_index.specs.Tally.{tally_in};

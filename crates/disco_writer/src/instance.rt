@@ -3,7 +3,7 @@ ghost use Rattle.std.specs.Prelude.{IfOk, OnOk};
 ghost use Rattle.json.specs.Tree.{json_tokens};
 ghost use Rattle.serde_json.specs.Written.{outline};
 ghost use Rattle.disco_instance.specs.Row.{row};
-ghost use Rattle.disco_instance.specs.declared.form.Form.TheVariants.{Full, Compact};
+ghost use Rattle.disco_values.specs.declared.form.Form.TheVariants.{Full, Compact};
 ghost use Rattle.disco_writer.specs.Fields.{first_fields, from_moments, host_fields, moment_fields, state_fields, to_hosts, to_metadata, to_moments, to_urls, to_vips};
 ghost use Rattle.disco_writer.specs.Joined.{IsTextOf};
 ghost use Rattle.disco_writer.specs.Tokens.{Adds, Writes};

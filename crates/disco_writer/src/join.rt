@@ -2,7 +2,7 @@
 ghost use Rattle.std.specs.Prelude.{◌≡◌, ◌++◌, ◌∷◌, [], List, IfOk, OnOk, None, Some, Ok, option_map, codes, decimal, false};
 ghost use Rattle.json.specs.Print.{quoted};
 ghost use Rattle.serde_json.specs.Written.{compact_text};
-ghost use Rattle.disco_instance.specs.declared.form.Form.{Form};
+ghost use Rattle.disco_values.specs.declared.form.Form.{Form};
 ghost use Rattle.disco_history.specs.Change.{Entry};
 ghost use Rattle.disco_history.specs.Held.{entry_of};
 ghost use Rattle.disco_wire.specs.Documents.{document_of};

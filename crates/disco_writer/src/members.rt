@@ -2,8 +2,8 @@
 ghost use Rattle.std.specs.Prelude.{◌≡◌, ◌∷◌, [], OnOk, codes};
 ghost use Rattle.json.specs.Token.{begin_object, end_object, key};
 ghost use Rattle.serde_json.specs.Data.{string};
-ghost use Rattle.disco_instance.specs.Action.{action_name};
-ghost use Rattle.disco_instance.specs.Status.{status_name};
+ghost use Rattle.disco_values.specs.Action.{action_name};
+ghost use Rattle.disco_values.specs.Status.{status_name};
 ghost use Rattle.disco_writer.specs.Fields.{entry_fields, lease_fields};
 ghost use Rattle.disco_writer.specs.Tokens.{Adds, Writes};
 ghost use Rattle.disco_writer.specs.Trees.{data_center_tree, digits_text, lease_tree, metadata_tree, port_tree, truth, whole};

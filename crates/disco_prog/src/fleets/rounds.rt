@@ -1,16 +1,8 @@
 //! A publisher.
 use disco_instance::Fault;
 use disco_press::{Desk, Naming};
-use disco_server::{Step, publish_step};
-use std::sync::{Mutex, MutexGuard, Wait};
-
-/// Takes the next step of a publisher, under the lock.
-fn step<J: Naming, R: Wait>(rt: &R, desk: &Mutex<Desk<J>>) -> Result<Step, Fault> {
-    let mut guard = desk.lock(rt);
-    let step = publish_step(rt, &mut *guard);
-    MutexGuard::unlock(guard);
-    step
-}
+use disco_server::{Step, publish_step_locked};
+use std::sync::{Mutex, Wait};
 
 /// Publishes one round. Others get the lock between its steps.
 pub(super) fn publish_round<J: Naming, R: Wait>(
@@ -18,7 +10,7 @@ pub(super) fn publish_round<J: Naming, R: Wait>(
     desk: &Mutex<Desk<J>>,
 ) -> Result<(), Fault> {
     for _ in rt.forever() {
-        if step(rt, desk)? == Step::Published {
+        if publish_step_locked(rt, desk)? == Step::Published {
             return Ok(());
         }
     }

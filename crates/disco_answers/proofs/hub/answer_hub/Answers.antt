@@ -1,5 +1,5 @@
 use Rattle.std.proofs.Common.{[], Result, subst, sym}
-use Rattle.disco_instance.specs.declared.fault.Fault.{Fault}
+use Rattle.disco_values.specs.declared.fault.Fault.{Fault}
 use Rattle.disco_calls.specs.Calls.{Asks, call}
 use Rattle.disco_message.specs.ReplyText.{answer_of}
 use Rattle.disco_answers.specs.Replies.{IsAnswered, text_in}

@@ -1,6 +1,6 @@
 use Rattle.std.proofs.Common.{◌≡◌, map, ◌++◌}
 use Rattle.std.specs.Vec.Iter.{into_iter_items}
-use Rattle.disco_instance.specs.declared.action.Action.TheVariants.{Added}
+use Rattle.disco_values.specs.declared.action.Action.TheVariants.{Added}
 use Rattle.disco_history.specs.Held.{entry_of}
 use Rattle.disco_instance.specs.Mention.{Mention}
 use Rattle.disco_wire.specs.Wire.{tell_all}

@@ -1,6 +1,6 @@
 use Rattle.std.proofs.Common.{IfSome, Option, None, Some, Bor, option_map, refl, subst, ap, ◌≡◌, ◌∙◌}
 use Rattle.std.specs.FinMap.{get}
-use Rattle.disco_instance.specs.declared.key.Key.{Key}
+use Rattle.disco_values.specs.declared.key.Key.{Key}
 use Rattle.disco_history.specs.Change.{Entry, key_of, seen}
 use Rattle.disco_history.specs.Held.{entry_of}
 use Rattle.disco_history.specs.declared.held.Held.{Held}

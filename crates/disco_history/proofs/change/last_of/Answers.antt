@@ -1,6 +1,6 @@
 use Rattle.std.proofs.Common.{◌+◌, subst, ap, ◌∙◌, ◌&&◌, sym}
 use Rattle.std.specs.Str.{bytes_eq}
-use Rattle.disco_instance.specs.declared.key.Key.{Key}
+use Rattle.disco_values.specs.declared.key.Key.{Key}
 use Rattle.disco_history.proofs.LastOf.{IsLastOf, found, passed}
 use Rattle.disco_history.proofs.change.last_of.Goals as goal
 use Rattle.disco_history.proofs.change.last_of.Goals.{then-eq, else-eq}

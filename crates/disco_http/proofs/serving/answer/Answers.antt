@@ -1,5 +1,5 @@
 use Rattle.std.proofs.Common.{◌≡◌, None, Option, inr, refl, rules, subst, sym}
-use Rattle.disco_instance.specs.declared.fault.Fault.TheVariants.{WriteFailed}
+use Rattle.disco_values.specs.declared.fault.Fault.TheVariants.{WriteFailed}
 use Rattle.disco_http.specs.declared.serving.End.{End}
 use Rattle.disco_http.specs.declared.serving.End.TheVariants.{Fault}
 use Rattle.disco_http.specs.Exchanges.{Closing}

@@ -1,6 +1,6 @@
 use Rattle.std.proofs.Common.{◌≡◌, ℕ, ◌<◌, List, length, get_or, slice_get, refl, ap, sym, subst, ◌∙◌, ◌+◌, Some}
 use Rattle.std.proofs.lemmas.Option.{slice_get-get_or}
-use Rattle.disco_instance.specs.declared.key.Key.{Key}
+use Rattle.disco_values.specs.declared.key.Key.{Key}
 use Rattle.disco_hub.specs.Expiry.{Expires}
 use Rattle.disco_hub.proofs.Cancels.{did_more, did_nothing, stopped_at}
 use Rattle.disco_hub.proofs.expiry.cancel_all.Goals as goal

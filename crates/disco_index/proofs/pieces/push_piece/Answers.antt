@@ -1,5 +1,5 @@
 use Rattle.std.proofs.Common.{length, ap, arith}
-use Rattle.disco_instance.specs.Status.{status_name}
+use Rattle.disco_values.specs.Status.{status_name}
 use Rattle.disco_index.proofs.Texts.{length-digits-le, pushed, not_pushed}
 use Rattle.disco_index.proofs.pieces.push_piece.Goals as goal
 

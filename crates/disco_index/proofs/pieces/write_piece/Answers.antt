@@ -1,5 +1,5 @@
 use Rattle.std.proofs.Common.{string_bytes, arith}
-use Rattle.disco_instance.specs.Status.{status_name}
+use Rattle.disco_values.specs.Status.{status_name}
 use Rattle.disco_index.proofs.Texts.{written, not_pushed}
 use Rattle.disco_index.proofs.pieces.write_piece.Goals as goal
 

@@ -1,5 +1,5 @@
 use Rattle.std.proofs.Common.{◌≡◌, ◌++◌, Bool, filter, map}
-use Rattle.disco_instance.specs.declared.key.Key.{Key}
+use Rattle.disco_values.specs.declared.key.Key.{Key}
 use Rattle.disco_index.proofs.places.keys_with_true.Given as goal
 
 abbrev pub invariant-loop-key : goal.invariant-loop-key

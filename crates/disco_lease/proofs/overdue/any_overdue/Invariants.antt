@@ -1,6 +1,6 @@
 use Rattle.std.proofs.Common.{◌≡◌, Option}
 use Rattle.std.specs.List.{list_any}
-use Rattle.disco_instance.specs.declared.key.Key.{Key}
+use Rattle.disco_values.specs.declared.key.Key.{Key}
 use Rattle.disco_lease.specs.Seen.{has_run_out}
 use Rattle.disco_lease.specs.declared.lease.Lease.{Lease}
 use Rattle.disco_lease.proofs.overdue.any_overdue.Given as goal

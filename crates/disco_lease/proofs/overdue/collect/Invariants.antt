@@ -1,7 +1,7 @@
 use Rattle.std.proofs.Common.{◌≡◌, ℕ}
 use Rattle.std.specs.FinMap.{find, get}
 use Rattle.std.specs.Option.{option_or}
-use Rattle.disco_instance.specs.declared.key.Key.{Key}
+use Rattle.disco_values.specs.declared.key.Key.{Key}
 use Rattle.disco_lease.specs.Due.{due_cmp}
 use Rattle.disco_lease.specs.Seen.{pairs, seen_due}
 use Rattle.disco_lease.proofs.overdue.collect.Given as goal

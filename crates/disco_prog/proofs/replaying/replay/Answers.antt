@@ -1,5 +1,5 @@
 use Rattle.std.proofs.Common.{inl, inr, refl}
-use Rattle.disco_instance.specs.declared.fault.Fault.TheVariants.{OutOfMemory}
+use Rattle.disco_values.specs.declared.fault.Fault.TheVariants.{OutOfMemory}
 use Rattle.disco_prog.proofs.Whole.{none_bad}
 use Rattle.disco_prog.proofs.replaying.replay.Goals as goal
 

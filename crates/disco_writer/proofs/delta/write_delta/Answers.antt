@@ -1,7 +1,7 @@
 use Rattle.std.proofs.Common.{◌≡◌, map, ap, sym, ◌∙◌}
 use Rattle.std.specs.Borrow.{Bor}
 use Rattle.std.specs.FinMap.{FinMap, values}
-use Rattle.disco_instance.specs.Key.{key_cmp}
+use Rattle.disco_values.specs.Key.{key_cmp}
 use Rattle.disco_history.specs.Change.{Entry, seen}
 use Rattle.disco_history.specs.declared.change.Change.{Change}
 use Rattle.disco_history.specs.Hash.{hash}

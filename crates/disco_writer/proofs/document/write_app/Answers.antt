@@ -2,7 +2,7 @@ use Rattle.std.proofs.Common.{length, filter, refl, ap, sym, ◌≡◌, ◌<◌,
 use Rattle.std.proofs.lemmas.Bool.Decides.{nat_tests}
 use Rattle.std.proofs.lemmas.List.{length-map}
 use Rattle.std.specs.FinMap.{FinMap, values}
-use Rattle.disco_instance.specs.Key.{key_cmp}
+use Rattle.disco_values.specs.Key.{key_cmp}
 use Rattle.disco_history.specs.Change.{Entry}
 use Rattle.disco_history.specs.Query.{of_app}
 use Rattle.disco_history.proofs.Restrictions.{values-said_restrict}

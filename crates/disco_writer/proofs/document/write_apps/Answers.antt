@@ -1,6 +1,6 @@
 use Rattle.std.proofs.Common.{length, ◌≡◌, List, ap, sym, ◌∙◌}
 use Rattle.std.specs.FinMap.{FinMap, values}
-use Rattle.disco_instance.specs.Key.{key_cmp}
+use Rattle.disco_values.specs.Key.{key_cmp}
 use Rattle.disco_history.specs.Change.{Entry}
 use Rattle.disco_history.specs.Hash.{hash}
 use Rattle.disco_history.specs.Query.{all}

@@ -1,6 +1,6 @@
 use Rattle.std.proofs.Common.{List, [], ◌∷◌, length, refl, ap, sym, ◌≡◌, ◌∙◌, arith}
 use Rattle.std.specs.FinMap.{FinMap, get}
-use Rattle.disco_instance.specs.Key.{key_cmp}
+use Rattle.disco_values.specs.Key.{key_cmp}
 use Rattle.disco_history.specs.Change.{Entry}
 use Rattle.disco_history.specs.Query.{of_key}
 use Rattle.disco_history.proofs.Restrictions.{listed, values-said_key}

@@ -1,7 +1,7 @@
 use Rattle.std.proofs.Common.{length, ◌≡◌, refl, ap, sym, ◌∙◌, filter}
 use Rattle.std.specs.FinMap.{FinMap, values}
 use Rattle.std.proofs.lemmas.List.{length-map}
-use Rattle.disco_instance.specs.Key.{key_cmp}
+use Rattle.disco_values.specs.Key.{key_cmp}
 use Rattle.disco_history.specs.Change.{Entry}
 use Rattle.disco_history.specs.Query.{asks_for, of_secure_vip}
 use Rattle.disco_history.proofs.Restrictions.{values-said_restrict}

@@ -1,6 +1,6 @@
 use Rattle.std.proofs.Common.{◌≡◌, ◌∙◌, ◌<◌, ◌-◌, rules, sym, inl, inr}
 use Rattle.std.proofs.lemmas.Result.{err_from_is_err_and}
-use Rattle.disco_instance.specs.declared.fault.Fault.TheVariants.{HeadTooLarge}
+use Rattle.disco_values.specs.declared.fault.Fault.TheVariants.{HeadTooLarge}
 use Rattle.disco_http.specs.Parts.{HasNo}
 use Rattle.disco_http.specs.Streams.{unread, ahead}
 use Rattle.disco_http.proofs.Known.{Keeps-then}

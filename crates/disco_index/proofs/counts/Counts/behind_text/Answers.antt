@@ -1,6 +1,6 @@
 use Rattle.std.proofs.Common.{sym, ap, ◌∙◌}
 use Rattle.std.specs.Option.{option_copied}
-use Rattle.disco_instance.specs.declared.status.Status.TheVariants.{OutOfService, Starting, Unknown, Up}
+use Rattle.disco_values.specs.declared.status.Status.TheVariants.{OutOfService, Starting, Unknown, Up}
 use Rattle.disco_history.specs.Hash.{hash_by}
 use Rattle.disco_index.specs.Behind.{behind}
 use Rattle.disco_index.specs.Tally.{count_in}

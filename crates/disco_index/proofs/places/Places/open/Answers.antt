@@ -1,5 +1,5 @@
 use Rattle.std.proofs.Common.{Some, false, sym, subst, ◌∙◌}
-use Rattle.disco_instance.specs.declared.key.Key.{Key}
+use Rattle.disco_values.specs.declared.key.Key.{Key}
 use Rattle.disco_index.specs.Places.{opened}
 use Rattle.disco_index.proofs.PlaceSteps.{Updated, altered, unaltered, at_key, opened-none, opened-some}
 use Rattle.disco_index.proofs.places.Places.open.Goals as goal

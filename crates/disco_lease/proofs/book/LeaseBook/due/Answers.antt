@@ -1,6 +1,6 @@
 use Rattle.std.proofs.Common.{◌≡◌, ℕ, true, cond, List, [], map, take, sym, ap, ◌∙◌, Bor}
 use Rattle.std.specs.FinMap.{keys}
-use Rattle.disco_instance.specs.declared.key.Key.{Key}
+use Rattle.disco_values.specs.declared.key.Key.{Key}
 use Rattle.disco_lease.specs.Due.{due_at, lets_expire, most_taken, overdue, taken}
 use Rattle.disco_lease.specs.Leases.{Leases}
 use Rattle.std.proofs.lemmas.List.{take-map}

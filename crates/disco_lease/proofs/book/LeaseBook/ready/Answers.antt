@@ -1,6 +1,6 @@
 use Rattle.std.proofs.Common.{None, refl, sym, ap, ◌∙◌}
 use Rattle.std.specs.FinMap.{insert}
-use Rattle.disco_instance.specs.declared.key.Key.{Key}
+use Rattle.disco_values.specs.declared.key.Key.{Key}
 use Rattle.disco_lease.proofs.Steps.{lease-open, others-put, place-open, place-put}
 use Rattle.disco_lease.proofs.book.LeaseBook.ready.Goals as goal
 

@@ -1,8 +1,8 @@
 use Rattle.std.proofs.Common.{◌<◌, refl, sym, ap, subst, ◌∙◌, Some, Option, Ok, arith}
 use Rattle.std.specs.FinMap.{len}
-use Rattle.disco_instance.specs.Entries.{with_entries}
+use Rattle.disco_values.specs.Entries.{with_entries}
 use Rattle.disco_instance.specs.Row.{Row, row}
-use Rattle.disco_instance.specs.declared.action.Action.TheVariants.{Added}
+use Rattle.disco_values.specs.declared.action.Action.TheVariants.{Added}
 use Rattle.disco_history.specs.Change.{Entry}
 use Rattle.disco_registry.specs.Accept.{asked, limits_of}
 use Rattle.disco_history.specs.Held.{record_at}

@@ -2,7 +2,7 @@ use Rattle.std.proofs.Common.{◌≡◌, ◌<◌, ◌&&◌, not, nat_lt, sym, ap
 use Rattle.std.specs.FinMap as map
 use Rattle.disco_history.specs.Change.{Entry}
 use Rattle.disco_instance.specs.Row.{Row, row}
-use Rattle.disco_instance.specs.declared.action.Action.TheVariants.{Added}
+use Rattle.disco_values.specs.declared.action.Action.TheVariants.{Added}
 use Rattle.disco_registry.specs.Accept.{is_new}
 use Rattle.disco_history.specs.Held.{record_at, seen_record}
 use Rattle.disco_registry.specs.Settle.{settle}

@@ -1,0 +1,16 @@
+use Rattle.std.proofs.Common.{rules, ap, ap₂, codes, ◌≡◌, ◌∙◌}
+use Rattle.std.proofs.lemmas.Result.{IfOk-weaker}
+use Rattle.clap.specs.Words.{app_of, new_app, rule_of, with_rule}
+use Rattle.clap.specs.Simple.{app_of_fields}
+use Rattle.disco_options.specs.Options.{needed, number_rule}
+use Rattle.disco_options.proofs.commands.fleet_command.Goals as goal
+
+pub returns : goal.returns
+returns c =
+    let app0 : app_of c.about.result ≡ new_app (codes "fleet") = ap app_of_fields c.about.ensures ∙ c.new.ensures.app in
+    let rule1 : rule_of c.number.result ≡ number_rule (codes "writers") 1 64 = search rules in
+    let app1 = c.in_ok-arg.ensures.shape (c.needed.ensures.local ∙ c.number.ensures.local) ∙ ap₂ with_rule app0 (c.needed.ensures.rule ∙ ap needed rule1) in
+    let rule2 : rule_of c.number-2.result ≡ number_rule (codes "clients") 1 64 = search rules in
+    let app2 = c.in_ok-arg-2.ensures.shape (c.needed-2.ensures.local ∙ c.number-2.ensures.local) ∙ ap₂ with_rule app1 (c.needed-2.ensures.rule ∙ ap needed rule2) in
+    let rule3 : rule_of c.number-3.result ≡ number_rule (codes "instances") 1 65536 = search rules in
+    IfOk-weaker c.arg-3.result _ _ (λ r added. added.shape (c.needed-3.ensures.local ∙ c.number-3.ensures.local) ∙ ap₂ with_rule app2 (c.needed-3.ensures.rule ∙ ap needed rule3)) c.arg-3.ensures

@@ -1,0 +1,136 @@
+-- The command line, as commands of clap, and what it says.
+use Rattle.std.specs.Prelude.{◌≡◌, ◌&&◌, ℕ, Bool, List, [], ◌∷◌, Option, Some, None, true, false, not, codes, if◌then◌else◌, nat_le, nat_lt, option_and_then, unwrap_or}
+use Rattle.std.specs.Option.{option_map_or}
+use Rattle.std.specs.Str.{bytes_eq}
+use Rattle.std.specs.Str.Parse.{without_leading_plus}
+use Rattle.clap.specs.Words.{App, Kinds, Row, Rule, Text, fault_of, matches_of, new_app, new_rule, one_of, with_rule, with_subcommand}
+use Rattle.clap.specs.Kinds.{or_else}
+use Rattle.clap.specs.Simple.{on_top}
+use Rattle.clap.specs.declared.builder.ArgAction.TheVariants.{Set, SetTrue}
+use Rattle.clap.specs.declared.builder.value_parser.ValueParser.TheVariants.{Unsigned}
+use Rattle.clap.specs.declared.error.kind.ErrorKind.TheVariants.{MissingSubcommand}
+use Rattle.disco_instance.specs.Members.{digits_number}
+use Rattle.disco_core.specs.declared.settings.Settings.{Settings}
+use Rattle.disco_options.specs.declared.verb.Verb.{Verb}
+use Rattle.disco_options.specs.declared.verb.Verb.TheVariants.{Replay, Serve, Fleet}
+
+-- `--NAME N`, of a whole number in these bounds
+abbrev pub number_rule : Text → ℕ → ℕ → Rule
+number_rule name least most = record (new_rule name) {
+  long = Some name;
+  action = Some Set;
+  value_names = 1;
+  parser = Some (Unsigned least most);
+}
+
+-- `--NAME`
+abbrev pub flag_rule : Text → Rule
+flag_rule name = record (new_rule name) { long = Some name; action = Some SetTrue }
+
+-- an option that has to be given
+abbrev pub needed : Rule → Rule
+needed rule = record rule { required = true }
+
+-- the options that settings have
+abbrev pub with_settings : App → App
+with_settings app =
+    with_rule (with_rule (with_rule (with_rule (with_rule (with_rule app
+    (number_rule (codes "versions") 1 18446744073709551615))
+    (number_rule (codes "instances") 1 65536))
+    (number_rule (codes "queue") 1 65536))
+    (number_rule (codes "entries") 1 4096))
+    (number_rule (codes "retention") 0 18446744073709551615))
+    (flag_rule (codes "no-delta"))
+
+abbrev pub replay_app : App
+replay_app = with_settings (new_app (codes "replay"))
+
+abbrev pub serve_app : App
+serve_app =
+    with_rule (with_rule (with_rule (with_settings (new_app (codes "serve")))
+    (needed (number_rule (codes "port") 1 65535)))
+    (number_rule (codes "workers") 1 64))
+    (number_rule (codes "connections") 0 18446744073709551615)
+
+abbrev pub fleet_app : App
+fleet_app =
+    with_rule (with_rule (with_rule (new_app (codes "fleet"))
+    (needed (number_rule (codes "writers") 1 64)))
+    (needed (number_rule (codes "clients") 1 64)))
+    (needed (number_rule (codes "instances") 1 65536))
+
+abbrev pub app_for : Verb → App
+app_for Replay = replay_app
+app_for Serve = serve_app
+app_for Fleet = fleet_app
+
+abbrev pub name_of : Verb → Text
+name_of Replay = codes "replay"
+name_of Serve = codes "serve"
+name_of Fleet = codes "fleet"
+
+-- the same, where no word stands for the program
+abbrev pub options_app : Verb → App
+options_app verb = on_top (λ s. record s { no_binary_name = true }) (app_for verb)
+
+-- what is wrong with the words behind a command's word; a request for help counts too
+abbrev pub faults_of_options : Verb → List Text → Kinds
+faults_of_options verb words = fault_of (options_app verb) words
+
+-- what the words behind a command's word give
+abbrev pub matches_for : Verb → List Text → List Row
+matches_for verb words = matches_of (options_app verb) words
+
+-- the program's own words: a command has to stand among them
+abbrev pub program_app : App
+program_app =
+    with_subcommand (with_subcommand (with_subcommand
+    (on_top (λ s. record s { no_binary_name = true; subcommand_required = true }) (new_app (codes "discovery")))
+    replay_app.top) serve_app.top) fleet_app.top
+
+-- the words behind a command's word, where that stands first
+abbrev pub options_of : Verb → List Text → Option (List Text)
+options_of verb [] = None
+options_of verb (word ∷ words) = if bytes_eq word (name_of verb) then Some words else None
+
+-- the command that the words name first, and `replay` where they name none
+abbrev pub verb_of : List Text → Verb
+verb_of [] = Replay
+verb_of (word ∷ words) = if bytes_eq word (codes "serve") then Serve else (if bytes_eq word (codes "fleet") then Fleet else Replay)
+
+-- what is wrong with words that do not begin with a command's word: no such command is among them at least
+abbrev pub faults_of_others : List Text → Kinds
+faults_of_others words = or_else (fault_of program_app words) (MissingSubcommand ∷ [])
+
+-- what is wrong with the words behind the program's name, for a command
+abbrev pub faults_of : Verb → List Text → Kinds
+faults_of verb words = option_map_or (faults_of_options verb) (options_of verb words) (faults_of_others words)
+
+-- the number that is given for a name; a plus may stand first
+abbrev pub number_given : Text → List Row → Option ℕ
+number_given name rows = option_and_then (λ text. digits_number (without_leading_plus text)) (one_of name rows)
+
+-- the number given from 1 to `most`, and else the other one
+abbrev pub within : ℕ → ℕ → Option ℕ → ℕ
+within most otherwise None = otherwise
+within most otherwise (Some given) = if nat_lt 0 given && nat_le given most then given else otherwise
+
+abbrev pub flag_given : Text → List Row → Bool
+flag_given name rows = option_map_or (λ text. bytes_eq text (codes "true")) (one_of name rows) false
+
+-- the settings are those given, with defaults for the others
+pub record AreGiven (rows : List Row) (s : Settings) : Type 0 where
+  pub versions : s.versions ≡ within 18446744073709551615 18446744073709551615 (number_given (codes "versions") rows)
+  pub instances : s.instances ≡ within 65536 65536 (number_given (codes "instances") rows)
+  pub queue : s.queue ≡ within 65536 65536 (number_given (codes "queue") rows)
+  pub entries : s.entries ≡ within 4096 4096 (number_given (codes "entries") rows)
+  pub retention : s.retention ≡ unwrap_or (number_given (codes "retention") rows) 180000
+  pub delta : s.delta ≡ not (flag_given (codes "no-delta") rows)
+
+-- the words are a command's word and options, which give these rows
+abbrev pub AreMatches : Verb → List Text → List Row → Type 0
+AreMatches verb words rows = (options : List Text) × (options_of verb words ≡ Some options) × (rows ≡ matches_for verb options)
+
+-- the words are a command's word and options that name the settings
+abbrev pub NamedBy : Verb → List Text → Settings → Type 0
+NamedBy verb words s = (rows : List Row) × AreMatches verb words rows × AreGiven rows s

@@ -1,0 +1,119 @@
+//! The command line.
+ghost use Rattle.std.specs.Prelude.{◌≡◌, IfOk, map, string_bytes};
+ghost use Rattle.clap.specs.Words.{FailsBy, HasKind, app_of, found_of, rows_of};
+ghost use Rattle.disco_options.specs.Options.{AreMatches, app_for, faults_of, faults_of_options, faults_of_others, matches_for, program_app, fleet_app, replay_app, serve_app};
+
+use crate::options::{MOST_INSTANCES, needed, number, with_settings};
+use crate::verb::Verb;
+use clap::error::ErrorKind;
+use clap::{ArgMatches, Command, Error};
+use std::alloc::{AllocError, Global};
+
+fn replay_command<'a>(alloc: Global) -> Result<Command<'a>, AllocError>
+    ensures { IfOk result (λ c. app_of c ≡ replay_app) }
+{
+    let command = Command::new(alloc, "replay").about(
+        "Answers the events of standard input, one a line",
+    );
+    with_settings(alloc, command)
+}
+
+fn serve_command<'a>(alloc: Global) -> Result<Command<'a>, AllocError>
+    ensures { IfOk result (λ c. app_of c ≡ serve_app) }
+{
+    let port = "The port of 127.0.0.1 to listen on, 1 to 65535";
+    let workers =
+        "How many connections are served at once, 1 to 64; a silent one is closed after 30 seconds [default: 4]";
+    let connections = "After how many connections the server ends; 0 is no end [default: 0]";
+    let command = Command::new(alloc, "serve").about(
+        "Serves Eureka's REST operations at /eureka/v2",
+    );
+    with_settings(alloc, command)?
+        .arg(needed(number(alloc, "port", "P", 1, 65_535, port)))?
+        .arg(number(alloc, "workers", "N", 1, 64, workers))?
+        .arg(number(alloc, "connections", "N", 0, u64::MAX, connections))
+}
+
+fn fleet_command<'a>(alloc: Global) -> Result<Command<'a>, AllocError>
+    ensures { IfOk result (λ c. app_of c ≡ fleet_app) }
+{
+    let writers = "How many threads register, 1 to 64";
+    let clients = "How many clients keep a copy, 1 to 64";
+    let instances = "How many instances are registered, 1 to 65536";
+    Command::new(alloc, "fleet")
+        .about("Shows writers, a server and clients at work in one process")
+        .arg(needed(number(alloc, "writers", "W", 1, 64, writers)))?
+        .arg(needed(number(alloc, "clients", "C", 1, 64, clients)))?
+        .arg(needed(number(alloc, "instances", "N", 1, MOST_INSTANCES, instances)))
+}
+
+fn command_of<'a>(alloc: Global, verb: Verb) -> Result<Command<'a>, AllocError>
+    ensures { IfOk result (λ c. app_of c ≡ app_for verb) }
+{
+    match verb {
+        Verb::Replay => replay_command(alloc),
+        Verb::Serve => serve_command(alloc),
+        Verb::Fleet => fleet_command(alloc),
+    }
+}
+
+fn program_command<'a>(alloc: Global) -> Result<Command<'a>, AllocError>
+    ensures { IfOk result (λ c. app_of c ≡ program_app) }
+{
+    Command::new(alloc, "discovery")
+        .bin_name("discovery")?
+        .about("A registry of instances, after Netflix Eureka")
+        .no_binary_name(true)
+        .subcommand_required(true)
+        .subcommand(replay_command(alloc)?)?
+        .subcommand(serve_command(alloc)?)?
+        .subcommand(fleet_command(alloc)?)
+}
+
+/// The name that help shows for a command.
+fn shown(verb: Verb) -> &'static str {
+    match verb {
+        Verb::Replay => "discovery replay",
+        Verb::Serve => "discovery serve",
+        Verb::Fleet => "discovery fleet",
+    }
+}
+
+/// What the words behind a command's word give.
+fn read_options<'a>(alloc: Global, verb: Verb, words: &'a [String]) -> Result<ArgMatches<'a>, Error>
+    ensures matches { IfOk result (λ m. rows_of (found_of m) ≡ matches_for verb (map string_bytes words.entry.now)) }
+    ensures faults { FailsBy (faults_of_options verb (map string_bytes words.entry.now)) result }
+{
+    let command = command_of(alloc, verb)?
+        .bin_name(shown(verb))?
+        .no_binary_name(true);
+    command.try_get_matches_from(words)
+}
+
+/// What words that don't begin with the command's word are answered with: help, or what is wrong
+/// with them.
+fn refusal<'a>(alloc: Global, words: &'a [String]) -> Result<Error, AllocError>
+    ensures { IfOk result (HasKind (faults_of_others (map string_bytes words.entry.now))) }
+{
+    let mut command = program_command(alloc)?;
+    match command.try_get_matches_from_mut(words) {
+        Ok(_) => command.error(ErrorKind::MissingSubcommand, "a command is missing"),
+        Err(error) => Ok(error),
+    }
+}
+
+/// What the words behind the program's name give a command, whose word has to stand first. Other
+/// words are refused, or ask for help.
+pub fn read_words<'a>(
+    alloc: Global,
+    verb: Verb,
+    words: &'a [String],
+) -> Result<ArgMatches<'a>, Error>
+    ensures matches { IfOk result (λ m. AreMatches verb (map string_bytes words.entry.now) (rows_of (found_of m))) }
+    ensures faults { FailsBy (faults_of verb (map string_bytes words.entry.now)) result }
+{
+    match verb.options(words) {
+        Some(options) => read_options(alloc, verb, options),
+        None => Err(refusal(alloc, words)?),
+    }
+}

@@ -1,0 +1,106 @@
+//! Options of commands.
+ghost use Rattle.std.specs.Prelude.{◌≡◌, ◌<◌, ◌≤◌, IfOk, codes, false, true};
+ghost use Rattle.clap.specs.Words.{app_of, found_of, rows_of, rule_of};
+ghost use Rattle.disco_options.specs.Options.{flag_given, flag_rule, number_given, number_rule, within, with_settings};
+
+use clap::builder::ValueParser;
+use clap::{Arg, ArgAction, ArgMatches, Command};
+use std::alloc::{AllocError, Global};
+
+pub(crate) const MOST_VERSIONS: u64 = u64::MAX;
+
+pub(crate) const MOST_INSTANCES: u64 = 65_536;
+
+pub(crate) const MOST_QUEUE: u64 = 65_536;
+
+pub(crate) const MOST_ENTRIES: u64 = 4_096;
+
+/// An option that is a number.
+pub(crate) fn number<'a>(
+    alloc: Global,
+    name: &'a str,
+    unit: &'a str,
+    least: u64,
+    most: u64,
+    help: &'a str,
+) -> Arg<'a>
+    ensures rule { rule_of result ≡ number_rule name.entry.now least most }
+    ensures local { result.global ≡ false }
+{
+    Arg::new(alloc, name)
+        .long(name)
+        .value_name(unit)
+        .action(ArgAction::Set)
+        .value_parser(ValueParser::unsigned(least, most))
+        .help(help)
+}
+
+/// An option that has to be given.
+pub(crate) fn needed<'a>(arg: Arg<'a>) -> Arg<'a>
+    ensures rule { rule_of result ≡ record (rule_of arg.entry) { required = true } }
+    ensures local { result.global ≡ arg.entry.global }
+{
+    arg.required(true)
+}
+
+fn no_delta<'a>(alloc: Global) -> Arg<'a>
+    ensures rule { rule_of result ≡ flag_rule (codes "no-delta") }
+    ensures local { result.global ≡ false }
+{
+    Arg::new(alloc, "no-delta")
+        .long("no-delta")
+        .action(ArgAction::SetTrue)
+        .help("Serves no deltas")
+}
+
+/// A command with the options that settings have.
+pub(crate) fn with_settings<'a>(
+    alloc: Global,
+    command: Command<'a>,
+) -> Result<Command<'a>, AllocError>
+    ensures { IfOk result (λ c. app_of c ≡ with_settings (app_of command.entry)) }
+{
+    let versions =
+        "How many versions there are at most, 1 to 18446744073709551615 [default: 18446744073709551615]";
+    let instances = "How many instances are held at most, 1 to 65536 [default: 65536]";
+    let queue = "How many recent changes are kept at most, 1 to 65536 [default: 65536]";
+    let entries =
+        "How many documents the cache keeps, and keys a round has, at most, 1 to 4096 [default: 4096]";
+    let retention = "How long a recent change is kept, in milliseconds [default: 180000]";
+    command
+        .arg(number(alloc, "versions", "N", 1, MOST_VERSIONS, versions))?
+        .arg(number(alloc, "instances", "N", 1, MOST_INSTANCES, instances))?
+        .arg(number(alloc, "queue", "N", 1, MOST_QUEUE, queue))?
+        .arg(number(alloc, "entries", "N", 1, MOST_ENTRIES, entries))?
+        .arg(number(alloc, "retention", "MS", 0, u64::MAX, retention))?
+        .arg(no_delta(alloc))
+}
+
+/// The number given for a name.
+pub fn number_given(matches: &ArgMatches<'_>, name: &str) -> Option<u64>
+    ensures { result ≡ number_given name.now (rows_of (found_of matches.now)) }
+{
+    matches.get_one::<u64>(name)
+}
+
+/// Whether a flag is given.
+pub(crate) fn flag_given(matches: &ArgMatches<'_>, name: &str) -> bool
+    ensures { result ≡ flag_given name.now (rows_of (found_of matches.now)) }
+{
+    matches.get_one::<bool>(name).unwrap_or(false)
+}
+
+/// The number given for a name, from 1 to `most`; `otherwise` where none is. Words with a number out
+/// of range were refused before.
+pub fn count(matches: &ArgMatches<'_>, name: &str, most: u64, otherwise: u64) -> u64
+    requires least { 0 < otherwise }
+    requires most { otherwise ≤ most }
+    ensures value { result ≡ within most otherwise (number_given name.now (rows_of (found_of matches.now))) }
+    ensures above { 0 < result }
+    ensures limit { result ≤ most }
+{
+    match number_given(matches, name) {
+        Some(given) if 0 < given && given <= most => given,
+        _ => otherwise,
+    }
+}

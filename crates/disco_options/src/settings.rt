@@ -1,0 +1,60 @@
+//! What the words of a command line name.
+ghost use Rattle.std.specs.Prelude.{◌≡◌, ◌≤◌, [], IfErr, IfOk, OnOk, map, string_bytes};
+ghost use Rattle.clap.specs.Words.{FailsBy, found_of, rows_of};
+ghost use Rattle.disco_options.specs.Faults.{IsStatusAmong};
+ghost use Rattle.disco_options.specs.Options.{AreGiven, NamedBy, faults_of, verb_of};
+
+use crate::commands::read_words;
+use crate::faults::status_of;
+use crate::options::{
+    MOST_ENTRIES, MOST_INSTANCES, MOST_QUEUE, MOST_VERSIONS, count, flag_given, number_given,
+};
+use crate::verb::Verb;
+use clap::{ArgMatches, Error};
+use disco_core::Settings;
+use std::alloc::Global;
+
+/// In milliseconds.
+const RETENTION: u64 = 180_000;
+
+/// The settings that are given, with the default of each that isn't.
+pub fn settings_from(matches: &ArgMatches<'_>) -> Settings
+    ensures { AreGiven (rows_of (found_of matches.now)) result }
+{
+    Settings {
+        versions: count(matches, "versions", MOST_VERSIONS, MOST_VERSIONS),
+        instances: count(matches, "instances", MOST_INSTANCES, MOST_INSTANCES),
+        queue: count(matches, "queue", MOST_QUEUE, MOST_QUEUE),
+        entries: count(matches, "entries", MOST_ENTRIES, MOST_ENTRIES),
+        retention: number_given(matches, "retention").unwrap_or(RETENTION),
+        delta: !flag_given(matches, "no-delta"),
+    }
+}
+
+/// The settings that words which begin with a command's word are for.
+pub fn read_settings<'a>(alloc: Global, verb: Verb, words: &'a [String]) -> Result<Settings, Error>
+    ensures settings { IfOk result (NamedBy verb (map string_bytes words.entry.now)) }
+    ensures faults { FailsBy (faults_of verb (map string_bytes words.entry.now)) result }
+{
+    let matches = read_words(alloc, verb, words)?;
+    Ok(settings_from(&matches))
+}
+
+/// The settings that the words behind the program's name are for: `replay` or `serve`, and then
+/// `--versions N`, `--instances N`, `--queue N`, `--entries N`, `--retention MS`, `--no-delta`, or
+/// `fleet` and its `--instances N`. An option that isn't given has its default.
+///
+/// An error is the program's exit status: 0 where help was asked for, 1 for want of memory, 2 for
+/// words that are refused.
+pub fn settings_of<'a>(alloc: Global, words: &'a [String]) -> Result<Settings, u8>
+    ensures settings { IfOk result (NamedBy (verb_of (map string_bytes words.entry.now)) (map string_bytes words.entry.now)) }
+    ensures ok_only_without_fault { OnOk result (faults_of (verb_of (map string_bytes words.entry.now))
+        (map string_bytes words.entry.now) ≡ []) }
+    ensures status { IfErr result (λ status. status ≤ 2) }
+    ensures kind { IfErr result (IsStatusAmong (faults_of (verb_of (map string_bytes words.entry.now)) (map string_bytes words.entry.now))) }
+{
+    match read_settings(alloc, Verb::of(words), words) {
+        Ok(settings) => Ok(settings),
+        Err(error) => Err(status_of(&error)),
+    }
+}

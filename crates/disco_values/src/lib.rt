@@ -1,0 +1,21 @@
+//! The values that a registry is made of: texts, names, keys, entries, statuses, actions, forms, and
+//! the faults that all of it is refused by. Every refusal of the library is a [`Fault`].
+#![tactic(auto)]
+
+mod action;
+mod bytes;
+mod entries;
+mod fault;
+mod form;
+mod key;
+mod status;
+mod text;
+
+pub use action::{Action, action_of};
+pub use bytes::Bytes;
+pub use entries::Entries;
+pub use fault::{Fault, Field};
+pub use form::Form;
+pub use key::Key;
+pub use status::{Status, status_of};
+pub use text::{Text, upper, upper_text};
