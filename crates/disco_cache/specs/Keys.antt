@@ -20,12 +20,11 @@ kind_of (query.Instance key) = 5
 
 -- the names in it
 abbrev pub names_in : Query → List (List ℕ)
-names_in query.Apps = []
-names_in query.Delta = []
 names_in (query.App name) = name ∷ []
 names_in (query.Vip vip) = vip ∷ []
 names_in (query.Svip vip) = vip ∷ []
 names_in (query.Instance key) = key.app ∷ key.id ∷ []
+names_in _ = []
 
 abbrev pub place_of : Form → ℕ
 place_of Full = 0

@@ -1,8 +1,9 @@
 -- What has happened to a core. Moments and durations are in milliseconds.
-use Rattle.std.specs.Prelude.{ℕ, ◌+◌, ◌*◌, List, [], ◌∷◌, ◌++◌, length, Option, Some, None, option_map}
+use Rattle.std.specs.Prelude.{ℕ, ◌+◌, ◌*◌, List, [], ◌∷◌, ◌++◌, length, Option, Some, None, option_map, Result, Ok, Err}
 use Rattle.std.specs.FinMap.{FinMap, empty, get, insert, keys, len, remove}
 use Rattle.std.specs.Option.{option_map_or}
 use Rattle.disco_values.specs.Key.{key_cmp}
+use Rattle.disco_values.specs.declared.fault.Fault.{Fault}
 use Rattle.disco_values.specs.declared.key.Key.{Key}
 use Rattle.disco_history.specs.Change.{Entry}
 use Rattle.disco_history.specs.Registry.{reg}
@@ -55,6 +56,11 @@ renewals_after n _ = n
 -- what has happened after an accepted operation at a moment, which made a change or none
 abbrev pub with_done : ℕ → Past → ℕ → Ask → Option Entry → Past
 with_done most p now ask c = record (with_change most p now c) { marks = marks_after p now ask; renewals = renewals_after p.renewals ask }
+
+-- what has happened after an operation that was accepted, with its change if it made one, or that was refused
+abbrev pub after_ask : ℕ → Past → ℕ → Ask → Result (Option Entry) Fault → Past
+after_ask most p now ask (Ok change) = with_done most p now ask change
+after_ask most p now ask (Err e) = p
 
 -- the queue is cleaned of changes older than the retention
 abbrev pub cleaned : ℕ → Past → ℕ → Past

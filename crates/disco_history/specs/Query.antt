@@ -45,10 +45,7 @@ restrict s q = chosen (λ k. option_and_then (λ r. if asks_for q r then Some r 
 -- a query that has an answer where it asks for no record: that of all
 abbrev pub may_be_empty : Asked → Bool
 may_be_empty all = true
-may_be_empty (of_app name) = false
-may_be_empty (of_vip vip) = false
-may_be_empty (of_secure_vip vip) = false
-may_be_empty (of_key k) = false
+may_be_empty _ = false
 
 -- absent: no record is asked for, and the query wants one
 abbrev pub is_absent : FinMap key_cmp Row → Asked → Bool

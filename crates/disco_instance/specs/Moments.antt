@@ -9,14 +9,18 @@ use Rattle.disco_values.specs.declared.status.Status.{Status}
 abbrev pub put_lease : Lease → ℕ → ℕ → ℕ → Lease
 put_lease l registration service_up now = record l { last_renewal = now; eviction = 0; registration = registration; service_up = service_up }
 
--- the record that a registration at a moment puts, with the status and the override that were settled
-abbrev pub registered_at : Row → Status → Status → ℕ → ℕ → Row
-registered_at r status overridden held_up now = record r {
+-- the record that is put at a moment with a status and an override, registered at a moment, and up since the held moment where there is one
+abbrev pub put_at : Row → Status → Status → ℕ → ℕ → ℕ → Row
+put_at r status overridden registration held_up now = record r {
   status = status;
   overridden_status = overridden;
   last_updated = now;
-  lease = put_lease r.lease now (since held_up status now) now;
+  lease = put_lease r.lease registration (since held_up status now) now;
 }
+
+-- the record that a registration at a moment puts, with the status and the override that were settled
+abbrev pub registered_at : Row → Status → Status → ℕ → ℕ → Row
+registered_at r status overridden held_up now = put_at r status overridden now held_up now
 
 -- the last record of an instance that is cancelled at a moment
 abbrev pub cancelled_at : Row → ℕ → Row
@@ -24,9 +28,4 @@ cancelled_at r now = record r { last_updated = now; lease = record r.lease { evi
 
 -- the record that a change of its status or its override puts
 abbrev pub modified_at : Row → Status → Status → ℕ → Row
-modified_at r status overridden now = record r {
-  status = status;
-  overridden_status = overridden;
-  last_updated = now;
-  lease = put_lease r.lease r.lease.registration (since r.lease.service_up status now) now;
-}
+modified_at r status overridden now = put_at r status overridden r.lease.registration r.lease.service_up now

@@ -1,5 +1,5 @@
 -- The names of actions, as Eureka writes them.
-use Rattle.std.specs.Prelude.{ℕ, List, codes, if◌then◌else◌, Option, Some, None}
+use Rattle.std.specs.Prelude.{ℕ, List, [], ◌∷◌, codes, find, Option}
 use Rattle.std.specs.Str.{bytes_eq}
 use Rattle.disco_values.specs.declared.action.Action.{Action}
 use Rattle.disco_values.specs.declared.action.Action.TheVariants.{Added, Modified, Deleted}
@@ -12,7 +12,4 @@ action_name Deleted = codes "DELETED"
 
 -- the action of that name
 abbrev pub action_named : List ℕ → Option Action
-action_named text =
-    if bytes_eq text (codes "ADDED") then Some Added else (
-    if bytes_eq text (codes "MODIFIED") then Some Modified else (
-    if bytes_eq text (codes "DELETED") then Some Deleted else None))
+action_named text = find (λ a. bytes_eq text (action_name a)) (Added ∷ Modified ∷ Deleted ∷ [])

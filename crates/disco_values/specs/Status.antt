@@ -1,5 +1,5 @@
 -- The names of statuses, as Eureka writes them.
-use Rattle.std.specs.Prelude.{ℕ, Bool, List, codes, if◌then◌else◌, Option, Some, None}
+use Rattle.std.specs.Prelude.{ℕ, Bool, List, [], ◌∷◌, codes, find, Option}
 use Rattle.std.specs.Str.{bytes_eq}
 use Rattle.disco_values.specs.declared.status.Status.{Status}
 use Rattle.disco_values.specs.declared.status.Status.TheVariants.{Up, Down, Starting, OutOfService, Unknown}
@@ -14,12 +14,7 @@ status_name Unknown = codes "UNKNOWN"
 
 -- the status of that name
 abbrev pub status_named : List ℕ → Option Status
-status_named text =
-    if bytes_eq text (codes "UP") then Some Up else (
-    if bytes_eq text (codes "DOWN") then Some Down else (
-    if bytes_eq text (codes "STARTING") then Some Starting else (
-    if bytes_eq text (codes "OUT_OF_SERVICE") then Some OutOfService else (
-    if bytes_eq text (codes "UNKNOWN") then Some Unknown else None))))
+status_named text = find (λ s. bytes_eq text (status_name s)) (Up ∷ Down ∷ Starting ∷ OutOfService ∷ Unknown ∷ [])
 
 -- whether two statuses are one
 abbrev pub is_same : Status → Status → Bool

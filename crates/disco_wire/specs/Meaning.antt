@@ -4,7 +4,7 @@ use Rattle.std.specs.Result.{result_ok}
 use Rattle.serde_json.specs.Data.{Data, null, array, object, Items, no_items, item}
 use Rattle.serde_json.specs.Find.{get}
 use Rattle.disco_instance.specs.Instance.{told_by, action_at}
-use Rattle.disco_instance.specs.Members.{text_at, as_whole}
+use Rattle.disco_instance.specs.Members.{inner_at, text_at, as_whole}
 use Rattle.disco_instance.specs.Mention.{Mention}
 use Rattle.disco_wire.specs.Tree.{as_tree, object_at}
 use Rattle.disco_wire.specs.declared.wire.Shape.{Shape}
@@ -21,16 +21,12 @@ abbrev pub list_of : Items → List Data
 list_of no_items = []
 list_of (item d ds) = d ∷ list_of ds
 
--- an array, one object, or null: what stands there
+-- an array, one object, or null, as where nothing stands: what stands there
 abbrev pub listed_in : Data → Option (List Data)
 listed_in null = Some []
 listed_in (array ds) = Some (list_of ds)
 listed_in (object ms) = Some (object ms ∷ [])
 listed_in _ = None
-
-abbrev pub listed : Option Data → Option (List Data)
-listed None = Some []
-listed (Some d) = listed_in d
 
 -- what all of them tell, in order; nothing where one tells nothing
 abbrev pub all_told : (Data → Option (List Mention)) → List Data → Option (List Mention)
@@ -43,14 +39,14 @@ told_in app d = option_map (λ r. (r, action_at d) ∷ []) (result_ok (told_by a
 
 -- an application
 abbrev pub told_app : Data → Option (List Mention)
-told_app d = option_and_then (all_told (told_in (text_at (codes "name") d))) (listed (get (codes "instance") d))
+told_app d = option_and_then (all_told (told_in (text_at (codes "name") d))) (listed_in (inner_at (codes "instance") d))
 
 -- an application in an array
 abbrev pub told_item : Data → Option (List Mention)
 told_item d = option_and_then told_app (as_tree d)
 
 abbrev pub told_apps : Data → Option (List Mention)
-told_apps d = option_and_then (all_told told_item) (listed (get (codes "application") d))
+told_apps d = option_and_then (all_told told_item) (listed_in (inner_at (codes "application") d))
 
 abbrev pub meant : Shape → Option (List ℕ) → Option ℕ → List Mention → Meaning
 meant shape hash version ms = record { shape = shape; mentions = ms; hash = hash; version = version }

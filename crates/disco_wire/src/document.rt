@@ -1,13 +1,13 @@
 //! Reading a document.
-ghost use Rattle.std.specs.Prelude.{◌≡◌, codes, map, option_map, option_and_then, IfOk, Err, Some};
+ghost use Rattle.std.specs.Prelude.{◌≡◌, codes, map, option_map, option_and_then, unwrap_or, IfOk, Err, Some};
 ghost use Rattle.std.specs.Option.{ok_or, option_copied};
-ghost use Rattle.serde_json.specs.Data.{Data};
+ghost use Rattle.serde_json.specs.Data.{Data, null};
 ghost use Rattle.serde_json.specs.Find.{get};
 ghost use Rattle.serde_json.specs.View.{view};
 ghost use Rattle.disco_instance.specs.Instance.{Gives};
 ghost use Rattle.disco_values.specs.declared.fault.Fault.TheVariants.{BadDocument};
 ghost use Rattle.disco_instance.specs.Members.{as_whole, text_at};
-ghost use Rattle.disco_wire.specs.Meaning.{all_told, app_meant, listed, listed_in, many_meant, meaning_of, one_meant, told_app, told_in, told_item};
+ghost use Rattle.disco_wire.specs.Meaning.{all_told, app_meant, listed_in, many_meant, meaning_of, one_meant, told_app, told_in, told_item};
 ghost use Rattle.disco_wire.specs.Steps.{told_on};
 ghost use Rattle.disco_wire.specs.Documents.{document_of};
 ghost use Rattle.disco_wire.specs.Wire.{wire_meaning, tell_all};
@@ -98,7 +98,7 @@ fn text_of_member(alloc: Global, value: &Value, name: &str) -> Result<Option<Tex
 
 /// The items of an array, one object, or nothing.
 fn items_of(place: Option<&Value>) -> Option<&[Value]>
-    ensures { option_map (λ s. map view s.now) result ≡ listed (option_map (λ v. view v.now) place.entry) }
+    ensures { option_map (λ s. map view s.now) result ≡ listed_in (unwrap_or (option_map (λ v. view v.now) place.entry) null) }
 {
     match place {
         None => Some(&[]),
