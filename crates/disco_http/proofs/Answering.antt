@@ -5,14 +5,14 @@ use Rattle.std.proofs.lemmas.Bool.Decides.{nat_tests}
 use Rattle.disco_message.specs.declared.limits.Limits.{Limits}
 use Rattle.disco_message.specs.Asked as message
 use Rattle.disco_message.specs.ReplyText.{Answer, reply_text}
+use Rattle.disco_reader.specs.Requests.{Takes}
 use Rattle.disco_http.specs.declared.serving.End.{End}
 use Rattle.disco_http.specs.declared.serving.End.TheVariants.{Closed, Limit, Fault}
 use Rattle.disco_http.specs.declared.serving.Step.TheVariants.{Goes, Last, Stops}
-use Rattle.disco_http.specs.Requests.{Takes}
 use Rattle.disco_http.specs.Served.{Chain, is_last, texts, end_text, end_behind, Requests, Ends, Written, AnswersAll}
 use Rattle.disco_http.specs.Exchanges.{open_texts, Closing, SoFar, Exchanged}
-use Rattle.disco_http.proofs.Known.{Appends-then, Appends-none, front_then}
-use Rattle.disco_http.proofs.Chunking.{known_is}
+use Rattle.disco_reader.proofs.Chunking.{known_is}
+use Rattle.disco_http.proofs.Appended.{Appends-then, Appends-none, front_then}
 
 chain-then : {S : Type 0} (answers : S → message.Asked → Answer → S → Type 0) (old mid new : S) (asks more : List message.Asked) (replies rs : List Answer) → Chain answers old asks replies mid → Chain answers mid more rs new → Chain answers old (asks ++ more) (replies ++ rs) new
 chain-then answers old mid new [] more [] rs h k = rw (sym h) k

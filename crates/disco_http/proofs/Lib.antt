@@ -1,11 +1,3 @@
 pub mod Answering
-pub mod Chunking
-pub mod Heads
-pub mod Known
-pub mod Receiving
-pub mod Refusals
-pub mod ReplyHeads
-pub mod Requesting
-pub mod Slices
+pub mod Appended
 pub mod Stopping
-pub mod Taken

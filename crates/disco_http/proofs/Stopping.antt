@@ -5,13 +5,13 @@ use Rattle.disco_values.specs.declared.fault.Fault as fault
 use Rattle.disco_message.specs.declared.limits.Limits.{Limits}
 use Rattle.disco_message.specs.Asked as message
 use Rattle.disco_message.specs.ReplyText.{Answer}
+use Rattle.disco_reader.specs.Requests.{Refused}
 use Rattle.disco_http.specs.declared.serving.End.TheVariants.{Fault}
 use Rattle.disco_http.specs.declared.serving.Step.{Step}
 use Rattle.disco_http.specs.declared.serving.Step.TheVariants.{Goes, Last, Stops}
 use Rattle.disco_http.specs.Exchanges.{Exchanged, Stopped}
-use Rattle.disco_http.specs.Requests.{Refused}
 use Rattle.disco_http.specs.Served.{Ends}
-use Rattle.disco_http.proofs.Known.{Appends-none}
+use Rattle.disco_http.proofs.Appended.{Appends-none}
 
 ends_refused : (limits : Limits) (stream : List ℕ) (f : fault.Fault) → Refused limits f stream → Ends limits stream (Fault f)
 ends_refused limits stream ReadFailed h = tt

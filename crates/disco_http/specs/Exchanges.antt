@@ -6,11 +6,11 @@ use Rattle.disco_values.specs.declared.fault.Fault as fault
 use Rattle.disco_message.specs.declared.limits.Limits.{Limits}
 use Rattle.disco_message.specs.Asked as message
 use Rattle.disco_message.specs.ReplyText.{Answer, reply_text}
+use Rattle.disco_reader.specs.Requests.{Takes}
 use Rattle.disco_http.specs.declared.serving.End.{End}
 use Rattle.disco_http.specs.declared.serving.End.TheVariants.{Fault}
 use Rattle.disco_http.specs.declared.serving.Step.{Step}
 use Rattle.disco_http.specs.declared.serving.Step.TheVariants.{Goes, Last, Stops}
-use Rattle.disco_http.specs.Requests.{Takes}
 use Rattle.disco_http.specs.Served.{end_behind, is_last, end_text, Ends, Requests, Chain, Written}
 
 -- the step ends the connection by this fault

@@ -1,11 +1,3 @@
-pub mod Bodies
-pub mod Causes
-pub mod Chunks
 pub mod Exchanges
-pub mod Found
-pub mod Parts
-pub mod Replies
-pub mod Requests
 pub mod Served
 pub mod Sinks
-pub mod Streams

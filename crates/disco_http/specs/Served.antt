@@ -7,10 +7,10 @@ use Rattle.disco_message.specs.declared.limits.Limits.{Limits}
 use Rattle.disco_message.specs.Asked as message
 use Rattle.disco_message.specs.ReplyText.{Answer, reply_text}
 use Rattle.disco_message.specs.StatusLine.{refusal}
+use Rattle.disco_reader.specs.Requests.{Takes, Refused}
 use Rattle.disco_http.specs.declared.serving.End.{End}
 use Rattle.disco_http.specs.declared.serving.End.TheVariants.{Closed, Asked, Limit, Fault}
 use Rattle.disco_http.specs.declared.serving.Served.{Served}
-use Rattle.disco_http.specs.Requests.{Takes, Refused}
 use Rattle.disco_http.specs.Sinks.{AppendsFront}
 
 -- how a connection ends behind a request, if it does

@@ -1,24 +1,14 @@
-//! HTTP/1.x on one connection: requests are read, a service answers them, and the replies are
-//! written.
+//! HTTP/1.x on one connection: a service answers the requests that are read, and the replies are
+//! written. The reading is that of `disco_reader`.
 #![tactic(auto)]
 
-mod chunks;
-mod fill;
-mod looking;
-mod reader;
-mod reading;
-mod replies;
 mod replying;
 mod service;
 mod serving;
-mod source;
-mod taking;
 mod writer;
 
-pub use reader::Reader;
-pub use replies::ReceivedReply;
+pub use disco_reader::{Counted, Failed, Reader, ReceivedReply, Sink, Source};
 pub use replying::write_reply;
 pub use service::Service;
 pub use serving::{End, Served, serve};
-pub use source::{Counted, Failed, Sink, Source};
 pub use writer::Writer;

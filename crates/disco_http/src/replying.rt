@@ -3,13 +3,13 @@ ghost use Rattle.std.specs.Prelude.{◌≡◌, IfErr, OnOk, OnErr, length, optio
 ghost use Rattle.std.specs.Io.KnownBytes.{Appends};
 ghost use Rattle.disco_values.specs.declared.fault.Fault.TheVariants.{WriteFailed};
 ghost use Rattle.disco_message.specs.ReplyText.{answer_of, reply_text, reply_body};
-ghost use Rattle.disco_http.specs.Causes.{Raises};
+ghost use Rattle.disco_reader.specs.Causes.{Raises};
 ghost use Rattle.disco_http.specs.Sinks.{AppendsFront, sink_of};
 
-use crate::source::{Failed, Sink};
 use crate::writer::{SMALL_BODY, Writer};
 use disco_instance::Fault;
 use disco_message::{Document, Reply, StatusLine};
+use disco_reader::{Failed, Sink};
 
 /// Writes all of these bytes.
 pub(crate) fn write_all<W: Sink>(sink: &mut W, bytes: &[u8]) -> Result<(), Failed>

@@ -1,19 +1,18 @@
 //! One connection, from its first request to its end.
 ghost use Rattle.std.specs.Prelude.{◌≡◌, ◌≢◌, IfSome, IsFalse};
 ghost use Rattle.disco_values.specs.declared.fault.Fault.TheVariants.{ReadFailed, WriteFailed};
-ghost use Rattle.disco_http.specs.Causes.{Raises};
+ghost use Rattle.disco_reader.specs.Causes.{Raises};
+ghost use Rattle.disco_reader.specs.Streams.{ahead, is_spent, limits_of, source_of};
 ghost use Rattle.disco_http.specs.Exchanges.{AnswersOne, Stopped, Exchanged, Fails};
 ghost use Rattle.disco_http.specs.Served.{end_behind, AnswersAll};
 ghost use Rattle.disco_http.specs.Sinks.{sink_of};
-ghost use Rattle.disco_http.specs.Streams.{ahead, is_spent, limits_of, source_of};
 
-use crate::reader::Reader;
 use crate::replying::write_reply;
 use crate::service::Service;
-use crate::source::{Sink, Source};
 use crate::writer::Writer;
 use disco_instance::Fault;
 use disco_message::{Document, Reply, Request, refusal};
+use disco_reader::{Reader, Sink, Source};
 use std::alloc::Global;
 
 /// Why a connection ended.

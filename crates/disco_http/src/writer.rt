@@ -4,9 +4,9 @@ ghost use Rattle.std.specs.Vec.{vec_capacity};
 ghost use Rattle.disco_values.specs.declared.fault.Fault.TheVariants.{WriteFailed};
 
 use crate::replying::write_all;
-use crate::source::{Failed, Sink};
 use disco_instance::Fault;
 use disco_message::{Allow, HEAD_ROOM, StatusLine, push_bytes, push_head};
+use disco_reader::{Failed, Sink};
 use std::alloc::{AllocError, Global};
 
 /// Bodies up to this size are written together with their head, in bytes.
@@ -52,7 +52,7 @@ impl<W: Sink> Writer<W> {
     ghost use Rattle.std.specs.Prelude.{◌≡◌, ◌++◌, length, IfErr, OnOk, OnErr};
     ghost use Rattle.std.specs.Io.KnownBytes.{Appends};
     ghost use Rattle.disco_message.specs.ReplyText.{reply_head};
-    ghost use Rattle.disco_http.specs.Causes.{Raises};
+    ghost use Rattle.disco_reader.specs.Causes.{Raises};
     ghost use Rattle.disco_http.specs.Sinks.{AppendsFront, sink_of};
 
     /// Puts the head of a reply into the room.

@@ -10,8 +10,8 @@ use Rattle.disco_registry.specs.Commit.{done_by}
 use Rattle.disco_registry.specs.Op.{cancel}
 use Rattle.disco_registry.specs.declared.op.Applied.{Applied}
 use Rattle.disco_registry.proofs.Histories.{accepts_after}
-use Rattle.disco_hub.specs.Expiry.{Expires, IsExpired, after_cancel, after_next, cancel_of, cancelled}
-use Rattle.disco_core.specs.Past.{Past, history, with_done}
+use Rattle.disco_hub.specs.Expiry.{Expires, IsExpired, after_next, cancel_of, cancelled}
+use Rattle.disco_core.specs.Past.{Past, after_ask, history, with_done}
 use Rattle.disco_core.specs.State.{Rules}
 use Rattle.disco_hub.specs.State.{State, StandsFor, rules_of}
 use Rattle.disco_hub.specs.Steps.{Cancels, Declines}
@@ -62,10 +62,10 @@ module _ (old mid new : State) (now : ℕ) (ks : List Key) (i : ℕ) (k : Key) (
   pub says : (p : Past) (r : Result (Option Entry) Fault) → cancel_of (rules_of mid) (so_far p) now k ≡ r → cancel_of (rules_of old) (so_far p) now k ≡ r
   says p r is = ap (λ l. cancel_of l (so_far p) now k) (sym did.rules) ∙ is
 
-  pub left : (p : Past) (c : Option Entry) → cancel_of (rules_of old) (so_far p) now k ≡ Ok c → after_cancel (rules_of mid).queue (so_far p) now k (Ok c) ≡ cancelled (rules_of old) p now ks (i + 1)
+  pub left : (p : Past) (c : Option Entry) → cancel_of (rules_of old) (so_far p) now k ≡ Ok c → after_ask (rules_of mid).queue (so_far p) now (cancel k) (Ok c) ≡ cancelled (rules_of old) p now ks (i + 1)
   left p c is =
-      ap (λ (l : Rules). after_cancel l.queue (so_far p) now k (Ok c)) did.rules
-      ∙ ap (after_cancel (rules_of old).queue (so_far p) now k) (sym is)
+      ap (λ (l : Rules). after_ask l.queue (so_far p) now (cancel k) (Ok c)) did.rules
+      ∙ ap (after_ask (rules_of old).queue (so_far p) now (cancel k)) (sym is)
       ∙ ap (after_next (rules_of old) (so_far p) now) (sym there)
       ∙ sym (one_more (rules_of old) p now ks i)
 

@@ -11,9 +11,9 @@ use Rattle.disco_cache.specs.declared.key.DocKey.{DocKey}
 use Rattle.disco_cache.specs.declared.payload.Payload.{Payload}
 use Rattle.disco_cache.proofs.Orders.{docs_total, exact_docs}
 use Rattle.disco_hub.specs.Press.{Edition, IsInStep, IsPublishable, Note, begin, change, copied_in, doc, edit, edit_anew, edition_of, gone, step}
-use Rattle.disco_hub.specs.Rounds.{KeySet, Round, kept_keys}
+use Rattle.disco_rounds.specs.Rounds.{KeySet, Round, kept_keys}
 use Rattle.disco_hub.specs.Laws.{BegunLaw, CopiedLaw, PublishableLaw, ShownLaw}
-use Rattle.disco_hub.proofs.KeySets.{copied_more, kept_more, keys_of, round_has, same_len}
+use Rattle.disco_rounds.proofs.KeySets.{copied_more, kept_more, keys_of, round_has, same_len}
 
 -- ---- at one key
 

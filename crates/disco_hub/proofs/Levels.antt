@@ -11,7 +11,7 @@ use Rattle.disco_core.specs.Past.{Past, history, nothing}
 use Rattle.disco_core.specs.State as core
 use Rattle.disco_hub.specs.Levels.{AreLevels, put_copy}
 use Rattle.disco_hub.specs.Press.{Edition, Fits, IsInStep, IsLegal, IsPressed, IsPublishable, Note, begin, change, changes_in, copied_in, doc, edition_of, gone, note_of, step}
-use Rattle.disco_hub.specs.Rounds.{Advances, Begins, Ends, KeySet, Round, Rounds, kept_keys, new_round, round_keys}
+use Rattle.disco_rounds.specs.Rounds.{Advances, Begins, Ends, KeySet, Round, Rounds, kept_keys, new_round, round_keys}
 use Rattle.disco_hub.specs.State.{AreKept, IsCopied, State, StandsFor, is_doc}
 use Rattle.disco_hub.specs.declared.copied.Copied.{Copied}
 use Rattle.disco_hub.specs.declared.copied.Copied.TheVariants as copied

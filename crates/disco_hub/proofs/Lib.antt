@@ -1,8 +1,6 @@
 pub mod Cancels
 mod Documents
 pub mod InStep
-pub mod KeySets
 pub mod Levels
-mod NewKeys
 pub mod Notes
 pub mod Shown

@@ -6,7 +6,7 @@ use Rattle.disco_values.specs.declared.key.Key.{Key}
 use Rattle.disco_history.specs.Change.{Entry}
 use Rattle.disco_registry.specs.Accept.{accept_after}
 use Rattle.disco_registry.specs.Op.{cancel}
-use Rattle.disco_core.specs.Past.{Past, history, with_done}
+use Rattle.disco_core.specs.Past.{Past, after_ask, history}
 use Rattle.disco_core.specs.State.{Rules}
 use Rattle.disco_hub.specs.State.{State, StandsFor, rules_of}
 
@@ -14,15 +14,10 @@ use Rattle.disco_hub.specs.State.{State, StandsFor, rules_of}
 abbrev pub cancel_of : Rules → Past → ℕ → Key → Result (Option Entry) Fault
 cancel_of rules p now k = accept_after rules.limits (history p) (cancel k) now
 
--- what has happened after a cancel that is accepted with its change, or refused
-abbrev pub after_cancel : ℕ → Past → ℕ → Key → Result (Option Entry) Fault → Past
-after_cancel most p now k (Ok change) = with_done most p now (cancel k) change
-after_cancel most p now k (Err e) = p
-
 -- what has happened after the next cancel, if there is one
 abbrev pub after_next : Rules → Past → ℕ → Option Key → Past
 after_next rules p now None = p
-after_next rules p now (Some k) = after_cancel rules.queue p now k (cancel_of rules p now k)
+after_next rules p now (Some k) = after_ask rules.queue p now (cancel k) (cancel_of rules p now k)
 
 -- what has happened after the first i of these keys were cancelled at a moment, one after the other
 unfoldable pub cancelled : Rules → Past → ℕ → List Key → ℕ → Past

@@ -4,7 +4,7 @@ use Rattle.disco_history.specs.Change.{Entry}
 use Rattle.disco_cache.specs.Docs.{Docs}
 use Rattle.disco_cache.specs.declared.key.DocKey.{DocKey}
 use Rattle.disco_hub.specs.Press.{IsInStep, IsPublishable, Note, begin, change, step}
-use Rattle.disco_hub.specs.Rounds.{KeySet, Round, kept_keys, round_keys}
+use Rattle.disco_rounds.specs.Rounds.{KeySet, Round, kept_keys, round_keys}
 
 -- a change leaves all in step
 abbrev pub ChangedLaw : Type 0

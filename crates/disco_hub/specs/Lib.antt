@@ -3,8 +3,6 @@ pub mod Kept
 pub mod Laws
 pub mod Levels
 pub mod Press
-pub mod Rounds
 pub mod Shown
 pub mod State
 pub mod Steps
-pub mod Stored

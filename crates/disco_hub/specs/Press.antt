@@ -10,7 +10,7 @@ use Rattle.disco_cache.specs.Keys.{doc_cmp, same_doc}
 use Rattle.disco_cache.specs.Payloads.{IsTrue}
 use Rattle.disco_cache.specs.declared.key.DocKey.{DocKey}
 use Rattle.disco_cache.specs.declared.payload.Payload.{Payload}
-use Rattle.disco_hub.specs.Rounds.{KeySet, Round}
+use Rattle.disco_rounds.specs.Rounds.{KeySet, Round}
 use Rattle.disco_hub.specs.declared.copied.Copied.{Copied}
 use Rattle.disco_hub.specs.declared.copied.Copied.TheVariants as copied
 

@@ -13,7 +13,7 @@ use Rattle.disco_cache.specs.declared.key.DocKey.{DocKey}
 use Rattle.disco_cache.specs.declared.payload.Payload.{Payload}
 use Rattle.disco_core.specs.Past.{Past, history}
 use Rattle.disco_core.specs.State as core
-use Rattle.disco_hub.specs.Rounds.{Rounds}
+use Rattle.disco_rounds.specs.Rounds.{Rounds}
 use Rattle.disco_hub.specs.declared.copied.Copied.{Copied}
 use Rattle.disco_hub.specs.declared.copied.Copied.TheVariants.{Doc, Drop}
 

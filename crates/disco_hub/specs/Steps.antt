@@ -7,7 +7,7 @@ use Rattle.disco_history.specs.Change.{Entry}
 use Rattle.disco_registry.specs.Op.{cancel}
 use Rattle.disco_hub.specs.Expiry.{cancel_of}
 use Rattle.disco_core.specs.Past.{Past, with_done}
-use Rattle.disco_hub.specs.Rounds.{Rounds}
+use Rattle.disco_rounds.specs.Rounds.{Rounds}
 use Rattle.disco_hub.specs.State.{State, StandsFor, rules_of}
 
 -- one cancel is accepted, and the hub then stands for what has happened with it

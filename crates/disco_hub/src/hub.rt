@@ -13,17 +13,17 @@ ghost use Rattle.disco_core.specs.Past.{Past, cleaned, history, minute_closed, n
 ghost use Rattle.disco_core.specs.Refusals.{doc_of_id, doc_of_key, refusal_of, refusal_of_id};
 ghost use Rattle.disco_core.specs.State.{AddsNoPlaces, IsFor, IsReady, IsSweptAfter, change_in, moment_in, rules};
 ghost use Rattle.disco_hub.specs.Expiry.{Expires};
-ghost use Rattle.disco_hub.specs.Rounds.{Advances, Begins, Ends, StaysOpen, round_keys};
+ghost use Rattle.disco_rounds.specs.Rounds.{Advances, Begins, Ends, StaysOpen, round_keys};
 ghost use Rattle.disco_hub.specs.State.{IsCopied, IsSameHub, MayServe, StandsFor, is_doc, rules_of};
 
 use crate::copied::Copied;
 use crate::expiry::{Expired, expire, taken};
 use crate::keeping::{forget, keep};
-use crate::rounds::Rounds;
 use disco_cache::{DocCache, DocKey, Payload};
 use disco_core::{Core, Minute, Ready, Settings};
 use disco_instance::{Fault, Form, Key};
 use disco_registry::{Applied, Op};
+use disco_rounds::Rounds;
 use std::alloc::Global;
 use std::marker::Model;
 use std::sync::Arc;

@@ -5,10 +5,7 @@ mod copied;
 mod expiry;
 mod hub;
 mod keeping;
-mod keys;
 pub mod laws;
-mod round;
-mod rounds;
 
 pub use copied::Copied;
 pub use disco_core::{Minute, Ready, Settings};

@@ -138,7 +138,7 @@ fn write_answer<W: Write>(reply: &Reply, out: &mut W) -> io::Result<()>
 const ENOUGH: usize = 65_536;
 
 /// How many bytes can be gathered without more memory: less than enough, and one short line more.
-const ROOM: usize = 2 * ENOUGH + 64;
+pub(crate) const ROOM: usize = 2 * ENOUGH + 64;
 
 /// Writes what is gathered, and takes it out.
 fn write_gathered<W: Write>(gathered: &mut Vec<u8>, out: &mut W) -> io::Result<()>
@@ -152,7 +152,11 @@ fn write_gathered<W: Write>(gathered: &mut Vec<u8>, out: &mut W) -> io::Result<(
 
 /// Gathers an answer line, and writes what is gathered where that is enough. A document that is
 /// enough by itself is written as it lies, behind what is gathered.
-fn gather_answer<W: Write>(reply: &Reply, gathered: &mut Vec<u8>, out: &mut W) -> io::Result<()>
+pub(crate) fn gather_answer<W: Write>(
+    reply: &Reply,
+    gathered: &mut Vec<u8>,
+    out: &mut W,
+) -> io::Result<()>
     ensures { OnOk result (Appends (append_known (W.contents out.old) gathered.old.items)
         (append_known (W.contents out.new) gathered.new.items) (answer_line reply.now)) }
 {
@@ -167,6 +171,14 @@ fn gather_answer<W: Write>(reply: &Reply, gathered: &mut Vec<u8>, out: &mut W) -
     write_gathered(gathered, out)
 }
 
+/// Writes what is gathered last, and lets the writer pass on all that it has.
+pub(crate) fn write_last<W: Write>(gathered: &mut Vec<u8>, out: &mut W) -> io::Result<()>
+    ensures { OnOk result (Appends (W.contents out.old) (W.contents out.new) gathered.old.items) }
+{
+    write_gathered(gathered, out)?;
+    out.flush()
+}
+
 fn write_buffered<W: Write>(alloc: Global, replies: &[Reply], out: &mut W) -> io::Result<()>
     ensures { OnOk result (Appends (W.contents out.old) (W.contents out.new) (answer_lines replies.now)) }
 {
@@ -174,12 +186,11 @@ fn write_buffered<W: Write>(alloc: Global, replies: &[Reply], out: &mut W) -> io
     for reply in replies {
         gather_answer(reply, &mut gathered, out)?;
     }
-    write_gathered(&mut gathered, out)?;
-    out.flush()
+    write_last(&mut gathered, out)
 }
 
 /// What a write that fails is refused as.
-fn write_fault(error: &io::Error) -> Fault
+pub(crate) fn write_fault(error: &io::Error) -> Fault
     ensures { result ≡ write_fault (error_kind error.now) }
 {
     match error.kind() {

@@ -1,5 +1,6 @@
 //! Event lines and answer lines: [`read_events`] reads the events of an input, one a line, and
-//! [`write_answers`] writes a line for each reply.
+//! [`write_answers`] writes a line for each reply; [`answer_events`] runs events and writes each
+//! line as its reply comes.
 #![tactic(auto)]
 
 mod answers;
@@ -7,7 +8,9 @@ mod line;
 mod lines;
 mod load;
 mod query;
+mod telling;
 mod words;
 
 pub use answers::write_answers;
 pub use lines::read_events;
+pub use telling::answer_events;

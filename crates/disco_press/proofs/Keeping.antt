@@ -9,7 +9,7 @@ use Rattle.disco_queue.specs.Timed.{Timed}
 use Rattle.disco_core.specs.Past.{Past, history, nothing, with_done}
 use Rattle.disco_hub.specs.Levels.{AreLevels, put_copy}
 use Rattle.disco_hub.specs.Press.{Edition, IsLegal, IsPublishable, Note, begin, change, edition_of, note_of}
-use Rattle.disco_hub.specs.Rounds.{Advances, Begins, Ends, Rounds, round_keys}
+use Rattle.disco_rounds.specs.Rounds.{Advances, Begins, Ends, Rounds, round_keys}
 use Rattle.disco_hub.specs.Shown.{WasTrue}
 use Rattle.disco_hub.specs.State.{IsCopied, State, StandsFor, is_doc}
 use Rattle.disco_hub.specs.declared.copied.Copied.{Copied}

@@ -6,7 +6,7 @@ ghost use Rattle.disco_core.specs.Past.{Past};
 ghost use Rattle.disco_hub.specs.Levels.{put_copy};
 ghost use Rattle.disco_hub.specs.Press as press;
 ghost use Rattle.disco_hub.specs.Press.{edition_of, note_of};
-ghost use Rattle.disco_hub.specs.Rounds.{Advances, Begins, Ends, StaysOpen, round_keys};
+ghost use Rattle.disco_rounds.specs.Rounds.{Advances, Begins, Ends, StaysOpen, round_keys};
 ghost use Rattle.disco_hub.specs.State.{IsCopied, StandsFor, is_doc};
 ghost use Rattle.disco_press.specs.Desks.{Notes, notes_of};
 

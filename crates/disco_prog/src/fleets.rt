@@ -10,12 +10,12 @@ mod showing;
 
 use crate::listening::listen;
 use clap::ArgMatches;
+use disco_core::Settings;
 use disco_instance::Fault;
 use disco_message::Limits;
 use disco_options::{Verb, count, read_words, refused, report, settings_from};
 use disco_press::{Desk, Naming, Opening, Seat, open};
 use disco_server::{Open, SystemClock, start};
-use disco_world::Settings;
 use following::{Follower, connect_all, refresh_all};
 use registering::register_all;
 use rounds::{publish_round, publish_rounds};

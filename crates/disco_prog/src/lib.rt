@@ -5,10 +5,9 @@
 
 mod fleets;
 mod listening;
-mod replaying;
 mod serving;
 
 pub use disco_options::{Verb, settings_of, without_words};
+pub use disco_replay::replay;
 pub use fleets::fleet;
-pub use replaying::replay;
 pub use serving::serve;

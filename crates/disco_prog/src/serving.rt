@@ -5,12 +5,12 @@ ghost use Rattle.disco_options.specs.Options.{faults_of};
 
 use crate::listening::listen;
 use clap::ArgMatches;
+use disco_core::Settings;
 use disco_instance::Fault;
 use disco_message::Limits;
 use disco_options::{Verb, count, number_given, read_words, refused, report, settings_from};
 use disco_press::{Desk, Naming, Opening, Seat, open};
 use disco_server::{Open, SystemClock, start, timers};
-use disco_world::Settings;
 use std::alloc::Global;
 use std::io;
 use std::io::Write;

@@ -11,7 +11,7 @@ use Rattle.disco_writer.specs.declared.query.Query.{Query}
 use Rattle.disco_writer.specs.declared.query.Query.TheVariants as query
 use Rattle.disco_cache.specs.declared.key.DocKey.{DocKey}
 use Rattle.disco_client.specs.declared.known.Known.{Known}
-use Rattle.disco_http.specs.Causes.{Raises}
+use Rattle.disco_reader.specs.Causes.{Raises}
 use Rattle.disco_reconcile.proofs.Exactness.{delta_means, full_means}
 use Rattle.disco_reconcile.proofs.Steps.{IsTold, told_is}
 use Rattle.disco_reconcile.specs.Courses.{AreFetched, Exchange, Follows, IsCourse, IsFull, IsRest, Outcome, exchange, full_by, outcome, plain_delta, plain_full}

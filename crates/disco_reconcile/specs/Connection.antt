@@ -9,11 +9,11 @@ use Rattle.disco_message.specs.Received.{Received}
 use Rattle.disco_message.specs.declared.limits.Limits.{Limits}
 use Rattle.disco_writer.specs.Documents.{is_delta}
 use Rattle.disco_cache.specs.declared.key.DocKey.{DocKey}
-use Rattle.disco_http.specs.Causes.{Raises}
-use Rattle.disco_http.specs.Replies.{ReplyRefused, TakesReply}
+use Rattle.disco_reader.specs.Causes.{Raises}
+use Rattle.disco_reader.specs.Replies.{ReplyRefused, TakesReply}
+use Rattle.disco_reader.specs.Streams as stream
+use Rattle.disco_reader.specs.declared.reader.Reader.{Reader}
 use Rattle.disco_http.specs.Sinks.{sink_of}
-use Rattle.disco_http.specs.Streams as stream
-use Rattle.disco_http.specs.declared.reader.Reader.{Reader}
 use Rattle.disco_http.specs.declared.writer.Writer.{Writer}
 use Rattle.disco_reconcile.specs.declared.fetch.Fetched.{Fetched}
 use Rattle.disco_reconcile.specs.declared.http_fetch.HttpFetch.{HttpFetch}

@@ -3,7 +3,7 @@ ghost use Rattle.std.specs.Prelude.{◌≡◌, ◌≤◌, ◌⊎◌, ℕ, Result
 ghost use Rattle.disco_values.specs.declared.fault.Fault.{Fault};
 ghost use Rattle.disco_writer.specs.declared.query.Query.TheVariants.{Apps, Delta};
 ghost use Rattle.disco_cache.specs.declared.key.DocKey.{DocKey};
-ghost use Rattle.disco_http.specs.Causes.{Raises};
+ghost use Rattle.disco_reader.specs.Causes.{Raises};
 ghost use Rattle.disco_reconcile.specs.Failures.{IsFailure};
 ghost use Rattle.disco_reconcile.specs.declared.fetch.Fetched.{Fetched};
 

@@ -3,10 +3,10 @@ ghost use Rattle.std.specs.Prelude.{◌≡◌, ◌≢◌, ◌≤◌, ℕ, List, 
 ghost use Rattle.std.specs.Io.KnownBytes.{Appends};
 ghost use Rattle.disco_values.specs.declared.fault.Fault.TheVariants.{OutOfMemory};
 ghost use Rattle.disco_writer.specs.Documents.{is_delta};
-ghost use Rattle.disco_http.specs.Causes.{Raises};
-ghost use Rattle.disco_http.specs.Replies.{TakesReply};
+ghost use Rattle.disco_reader.specs.Causes.{Raises};
+ghost use Rattle.disco_reader.specs.Replies.{TakesReply};
+ghost use Rattle.disco_reader.specs.Streams.{ahead, limits_of};
 ghost use Rattle.disco_http.specs.Sinks.{sink_of};
-ghost use Rattle.disco_http.specs.Streams.{ahead, limits_of};
 ghost use Rattle.disco_reconcile.specs.Connection.{CountsReads, Fails, FetchesBy, failures_of, is_spent, reader_of, request_text, writer_of};
 
 use crate::fetch::{Fetch, Fetched};

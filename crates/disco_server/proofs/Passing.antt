@@ -1,6 +1,6 @@
 -- What is gone past, read by read.
 use Rattle.std.proofs.Common.{arith, length-append, rules, ℕ, ◌+◌, ◌≤◌, List, [], ◌++◌, Option}
-use Rattle.disco_http.proofs.Known.{Consumes-none, Consumes-then}
+use Rattle.disco_reader.proofs.Known.{Consumes-none, Consumes-then}
 use Rattle.disco_server.specs.Draining.{GoesPast}
 
 -- nothing is gone past yet

@@ -1,7 +1,7 @@
 -- What a publisher does to a desk.
 use Rattle.std.specs.Prelude.{◌≡◌, [], ◌∷◌, ◌++◌, None}
 use Rattle.disco_hub.specs.Press.{begin, note_of}
-use Rattle.disco_hub.specs.Rounds.{Advances}
+use Rattle.disco_rounds.specs.Rounds.{Advances}
 use Rattle.disco_hub.specs.State.{is_doc}
 use Rattle.disco_hub.specs.declared.copied.Copied.{Copied}
 use Rattle.disco_press.specs.Desks.{DeskState, Notes}

@@ -1,6 +1,6 @@
 //! One connection of a socket, from its first request to its end.
 ghost use Rattle.std.specs.Prelude.{IsFalse};
-ghost use Rattle.disco_http.specs.Streams.{is_spent};
+ghost use Rattle.disco_reader.specs.Streams.{is_spent};
 
 use crate::ending::end_connection;
 use disco_http::{Counted, End, Reader, Service, Writer, serve};

@@ -1,10 +1,10 @@
 //! One connection over a hub.
 ghost use Rattle.std.specs.Prelude.{◌≡◌, IfSome, IsFalse};
 ghost use Rattle.disco_values.specs.declared.fault.Fault.TheVariants.{ReadFailed, WriteFailed};
-ghost use Rattle.disco_http.specs.Causes.{Raises};
+ghost use Rattle.disco_reader.specs.Causes.{Raises};
+ghost use Rattle.disco_reader.specs.Streams.{ahead, is_spent, limits_of, source_of};
 ghost use Rattle.disco_http.specs.Served.{AnswersAll};
 ghost use Rattle.disco_http.specs.Sinks.{sink_of};
-ghost use Rattle.disco_http.specs.Streams.{ahead, is_spent, limits_of, source_of};
 ghost use Rattle.disco_http.specs.declared.serving.End.TheVariants as end;
 ghost use Rattle.disco_server.specs.Serving.{Serves};
 

@@ -1,7 +1,7 @@
 //! What is read on behind the last reply.
 ghost use Rattle.std.specs.Prelude.{◌≡◌, ◌⊎◌, IsFalse, IsTrue};
 ghost use Rattle.std.specs.Io.KnownBytes.{IsAtEnd};
-ghost use Rattle.disco_http.specs.Causes.{Raises};
+ghost use Rattle.disco_reader.specs.Causes.{Raises};
 ghost use Rattle.disco_server.specs.Draining.{GoesPast};
 
 use disco_http::{Failed, Source};

@@ -1,7 +1,7 @@
 //! Refreshes over a script of answers, and fetches over connections that lie in memory.
 ghost use Rattle.std.specs.Prelude.{◌≡◌, ◌≤◌, IfErr};
 ghost use Rattle.disco_values.specs.declared.fault.Fault.TheVariants.{NotFetched, OutOfMemory};
-ghost use Rattle.disco_http.specs.Causes.{Raises};
+ghost use Rattle.disco_reader.specs.Causes.{Raises};
 
 use crate::program::{Full, Torn};
 use disco_cache::DocKey;

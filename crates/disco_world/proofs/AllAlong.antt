@@ -13,12 +13,12 @@ use Rattle.disco_writer.specs.Documents.{is_delta}
 use Rattle.disco_cache.specs.declared.key.DocKey.{DocKey}
 use Rattle.disco_cache.specs.declared.payload.Payload.{Payload}
 use Rattle.disco_hub.specs.Press.{edition_of}
-use Rattle.disco_hub.specs.Expiry.{after_cancel, after_next, cancel_of, cancelled}
-use Rattle.disco_core.specs.Past.{Past, history, taken_in, with_done}
+use Rattle.disco_hub.specs.Expiry.{after_next, cancel_of, cancelled}
+use Rattle.disco_core.specs.Past.{Past, after_ask, history, taken_in}
 use Rattle.disco_core.specs.State.{Rules}
 use Rattle.disco_world.specs.Answers.{AreAnswers, AreKnown, IsAnswer}
 use Rattle.disco_world.specs.Clients.{MeansVersion, taken}
-use Rattle.disco_world.specs.Events.{Deed, World, writes, loads, cleans, closes, expires, begins, copies, publishes, looks, takes, shows, bad, after, after_run, after_at, after_write, clients_done, deed, doc_in, doc_of_event, done, for_clients, past_after, past_done, ran_out, takes_any, world}
+use Rattle.disco_world.specs.Events.{Deed, World, writes, loads, cleans, closes, expires, begins, copies, publishes, looks, takes, shows, bad, after, after_run, after_at, clients_done, deed, doc_in, doc_of_event, done, for_clients, past_after, past_done, ran_out, takes_any, world}
 use Rattle.disco_world.specs.Steps.{AreReadable}
 use Rattle.disco_world.specs.declared.clients.Client.{Client}
 use Rattle.disco_world.specs.declared.event.Event.{Event}
@@ -35,23 +35,14 @@ map_more : (ts : List Timed) (t : Timed) → changes (ts ++ t ∷ []) ≡ change
 map_more [] t = refl
 map_more (s ∷ ts) t = ap (λ cs. s.0 ∷ cs) (map_more ts t)
 
-write_extends : (most : ℕ) (p : Past) (now : ℕ) (asked : Result Ask Fault) (result : Result (Option Entry) Fault) → Extends (history p) (history (after_write most p now asked result))
-write_extends most p now (Ok ask) (Ok (Some c)) = subst (Extends (history p)) (sym (map_more p.timed (c, now))) (extends_more (history p) c)
-write_extends most p now (Ok ask) (Ok None) = extends_same (history p)
-write_extends most p now (Ok ask) (Err e) = extends_same (history p)
-write_extends most p now (Err e) result = extends_same (history p)
-
-done_by : (most : ℕ) (p : Past) (now : ℕ) (ask : Ask) (o : Option Entry) → Extends (history p) (history (with_done most p now ask o))
-done_by most p now ask (Some c) = subst (Extends (history p)) (sym (map_more p.timed (c, now))) (extends_more (history p) c)
-done_by most p now ask None = extends_same (history p)
-
-cancel_extends : (most : ℕ) (p : Past) (now : ℕ) (k : Key) (r : Result (Option Entry) Fault) → Extends (history p) (history (after_cancel most p now k r))
-cancel_extends most p now k (Ok o) = done_by most p now (cancel k) o
-cancel_extends most p now k (Err e) = extends_same (history p)
+ask_extends : (most : ℕ) (p : Past) (now : ℕ) (ask : Ask) (result : Result (Option Entry) Fault) → Extends (history p) (history (after_ask most p now ask result))
+ask_extends most p now ask (Ok (Some c)) = subst (Extends (history p)) (sym (map_more p.timed (c, now))) (extends_more (history p) c)
+ask_extends most p now ask (Ok None) = extends_same (history p)
+ask_extends most p now ask (Err e) = extends_same (history p)
 
 next_extends : (rules : Rules) (p : Past) (now : ℕ) (o : Option Key) → Extends (history p) (history (after_next rules p now o))
 next_extends rules p now None = extends_same (history p)
-next_extends rules p now (Some k) = cancel_extends rules.queue p now k (cancel_of rules p now k)
+next_extends rules p now (Some k) = ask_extends rules.queue p now (cancel k) (cancel_of rules p now k)
 
 -- so it does by each of several cancels
 cancels_extend : (rules : Rules) (p : Past) (now : ℕ) (ks : List Key) (i : ℕ) → Extends (history p) (history (cancelled rules p now ks i))
@@ -78,7 +69,8 @@ run_extends rules p now (Refused e) = extends_same (history p)
 done_extends : (rules : Rules) (p : Past) (what : Deed) (r : Reply) → Extends (history p) (history (past_done rules p what r))
 done_extends rules p closes r = extends_same (history p)
 done_extends rules p (expires now) r = run_extends rules p now r
-done_extends rules p (writes now asked) r = write_extends rules.queue p now asked (done rules p now asked)
+done_extends rules p (writes now (Ok ask)) r = ask_extends rules.queue p now ask (done rules p now (Ok ask))
+done_extends rules p (writes now (Err e)) r = extends_same (history p)
 done_extends rules p (loads k) r = extends_same (history p)
 done_extends rules p (cleans now) r = extends_same (history p)
 done_extends rules p begins r = extends_same (history p)

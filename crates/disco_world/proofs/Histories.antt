@@ -7,19 +7,19 @@ use Rattle.disco_cache.specs.declared.payload.Payload.{Payload}
 use Rattle.disco_core.specs.State.{Rules}
 use Rattle.disco_core.specs.Past.{history, nothing}
 use Rattle.disco_hub.specs.Press.{IsPublishable}
-use Rattle.disco_hub.specs.Rounds.{KeySet, Round, Rounds}
+use Rattle.disco_rounds.specs.Rounds.{KeySet, Round, Rounds}
 use Rattle.disco_hub.specs.State.{MayServe, StandsFor, rules_of}
 use Rattle.disco_hub.proofs.Levels.{first_levels, first_pressed}
 use Rattle.disco_world.specs.Rounds.{new_press}
 use Rattle.std.specs.FinMap.{empty}
 use Rattle.disco_world.specs.Answers.{AreAnswers, AreServed, IsAnswer, IsFirstBadEvent, IsPressed, IsServed, key_asked}
-use Rattle.disco_world.specs.Levels.{AreLevelsOf}
+use Rattle.disco_world.specs.Levels.{AreLevelsOf, Goes}
 use Rattle.disco_world.specs.declared.levels.Levels.{Levels}
 use Rattle.disco_world.proofs.Editions.{Sees, ShowsFresh, sees_at}
 use Rattle.disco_values.specs.declared.fault.Fault.{Fault}
 use Rattle.disco_values.specs.declared.fault.Fault.TheVariants.{BadEvent}
 use Rattle.disco_cache.specs.declared.key.DocKey.{DocKey}
-use Rattle.disco_world.specs.Events.{Deed, World, writes, loads, cleans, closes, expires, begins, copies, publishes, looks, takes, shows, bad, after, after_at, clients_after, deed, new_world, world}
+use Rattle.disco_world.specs.Events.{Deed, World, writes, loads, cleans, closes, expires, begins, copies, publishes, looks, takes, shows, bad, after, after_at, deed, new_world, world}
 use Rattle.disco_world.specs.Steps.{AreHeld}
 use Rattle.disco_world.specs.declared.clients.Client.{Client}
 use Rattle.disco_world.specs.declared.event.Event.{Event}
@@ -93,10 +93,6 @@ pub record IsRun (rules : Rules) (es : List Event) (rs : List Reply) (i : ℕ) (
   pub replies : (world rules es rs i).replies ≡ rs
   pub rules_are : rules_of s.hub ≡ rules
   pub answers : AreAnswers rules es rs
-
--- what one event more answers and leaves
-abbrev pub Goes : Rules → World → Event → Reply → Levels → (ℕ → Option Client) → Type 0
-Goes rules w e r new clients = let what = deed rules w e in IsAnswer rules w what r × AreLevelsOf new (after rules w what r) × AreHeld clients (record w { clients = clients_after w.clients what r })
 
 module _ (rules : Rules) (es : List Event) (rs : List Reply) (i : ℕ) (e : Event) (r : Reply) (count : length rs ≡ i) (event : slice_get es i ≡ Some e) where
   last_reply : slice_get (rs ++ r ∷ []) i ≡ Some r

@@ -5,5 +5,6 @@ mod Known
 mod Shown
 mod Taken
 mod Taking
+mod Tellings
 mod Turning
 mod Writes

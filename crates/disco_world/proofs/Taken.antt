@@ -1,7 +1,6 @@
 -- What is answered to a client, and the clients after it.
-use Rattle.std.proofs.Common.{◌≡◌, ℕ, ◌==◌, Bool, true, false, cond, eqb, List, Option, Some, None, Result, Ok, Err, IfOk, IfErr, refl, sym, ap, subst, ◌∙◌}
+use Rattle.std.proofs.Common.{◌≡◌, ℕ, Bool, true, false, cond, eqb, List, Option, Some, None, Result, Ok, Err, IfOk, IfErr, refl, sym, ap, subst, ◌∙◌}
 use Rattle.std.proofs.lemmas.Bool.{eqb-true}
-use Rattle.disco_values.specs.Fault.{fault_number}
 use Rattle.disco_values.specs.declared.fault.Fault.{Fault}
 use Rattle.disco_values.specs.declared.fault.Fault.TheVariants.{OutOfMemory}
 use Rattle.disco_wire.specs.Documents.{document_of}
@@ -11,10 +10,11 @@ use Rattle.disco_cache.specs.declared.payload.Payload.{Payload}
 use Rattle.disco_core.specs.State.{Rules}
 use Rattle.disco_world.specs.Answers.{IsAnswer}
 use Rattle.disco_world.specs.Clients.{IsTold, clients_with, shown, taken, taken_by, taken_from}
-use Rattle.disco_world.specs.Events.{World, clients_after, shows, takes}
+use Rattle.disco_world.specs.Events.{World, clients_after, ran_out, shows, takes}
 use Rattle.disco_world.specs.Steps.{AreHeld, ClientTakes, reply_to_show, reply_to_take}
 use Rattle.disco_world.specs.declared.clients.Client.{Client}
 use Rattle.disco_world.specs.declared.holding.Holding.{Holding}
+use Rattle.disco_world.specs.declared.event.Reply.TheVariants.{Refused}
 
 -- what a look at a copy answers
 pub showed : (rules : Rules) (w : World) (held : ℕ → Option Client) (client : ℕ) (r : Result (List Holding) Fault) → AreHeld held w → IfOk r (λ h. h ≡ shown (held client)) → IfErr r (λ e. e ≡ OutOfMemory)
@@ -47,12 +47,12 @@ took rules w old new client d (Ok told) are is = (
 )
 took rules w old new client d (Err e) are is = (
   λ other. let why = is.0 other in (why.0, ap (taken d) (sym (are client)) ∙ why.1),
-  λ q. is.1 q ∙ are q ∙ sym (by_memory q (fault_number e == 1) refl),
+  λ q. is.1 q ∙ are q ∙ sym (by_memory q (ran_out (Refused e)) refl),
 )
   where
-    by_memory : (q : ℕ) (b : Bool) → (fault_number e == 1) ≡ b → cond b w.clients (clients_with w.clients client d) q ≡ w.clients q
+    by_memory : (q : ℕ) (b : Bool) → (ran_out (Refused e)) ≡ b → cond b w.clients (clients_with w.clients client d) q ≡ w.clients q
     by_memory q true memory = refl
     by_memory q false memory =
-        let why = is.0 (λ same. let bad = sym memory ∙ ap (λ x. fault_number x == 1) same in cc) in
+        let why = is.0 (λ same. let bad = sym memory ∙ ap (λ x. ran_out (Refused x)) same in cc) in
         let none : taken d (w.clients client) ≡ None = ap (taken d) (sym (are client)) ∙ why.1 in
         one_client (eqb q client) (taken d (w.clients client)) (w.clients q) (w.clients client) (w.clients q) (is_client q client w.clients) none (no_copy_from d (document_of d.text) (w.clients client) none) refl

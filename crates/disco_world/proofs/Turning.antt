@@ -15,11 +15,11 @@ use Rattle.disco_core.specs.Past.{Past, history}
 use Rattle.disco_core.specs.State.{Rules}
 use Rattle.disco_hub.specs.Levels.{AreLevels}
 use Rattle.disco_hub.specs.Press.{Edition, change, edition_of, steps_to}
-use Rattle.disco_hub.specs.Rounds.{Begins, Ends, KeySet, Round, Rounds, StaysOpen, add_within, round_keys}
+use Rattle.disco_rounds.specs.Rounds.{Begins, Ends, KeySet, Round, Rounds, StaysOpen, add_within, round_keys}
 use Rattle.disco_hub.specs.State.{IsCopied, StandsFor, is_doc, key_of_copy, rules_of}
 use Rattle.disco_hub.specs.declared.copied.Copied.{Copied}
 use Rattle.disco_hub.specs.declared.copied.Copied.TheVariants as copied
-use Rattle.disco_hub.proofs.KeySets.{same_len}
+use Rattle.disco_rounds.proofs.KeySets.{same_len}
 use Rattle.disco_hub.proofs.Levels.{begun_levels, copied_is, copied_levels, ended_edition, ended_levels, plain_levels}
 use Rattle.disco_world.specs.Answers.{IsAnswer}
 use Rattle.disco_world.specs.Events.{Deed, World, begins, copies, publishes, looks, after, changes_since, past_after, past_done, ran_out}

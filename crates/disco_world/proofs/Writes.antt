@@ -1,12 +1,11 @@
 -- What a hub answers to a write, and what it stands for then.
-use Rattle.std.proofs.Common.{◌≡◌, ◌≢◌, ℕ, ◌+◌, ◌==◌, Bool, true, false, cond, [], ◌∷◌, ◌++◌, length, map, Option, Some, None, Result, Ok, Err, IfOk, IfErr, OnErr, refl, sym, ap, subst, ◌∙◌}
+use Rattle.std.proofs.Common.{◌≡◌, ◌≢◌, ℕ, ◌+◌, Bool, true, false, cond, [], ◌∷◌, ◌++◌, length, map, Option, Some, None, Result, Ok, Err, IfOk, IfErr, OnErr, refl, sym, ap, subst, ◌∙◌}
 use Rattle.std.proofs.lemmas.List.{length-append, length-map}
-use Rattle.disco_values.specs.Fault.{fault_number}
 use Rattle.disco_instance.specs.Instance.{Gives}
 use Rattle.disco_values.specs.declared.fault.Fault.{Fault}
 use Rattle.disco_values.specs.declared.fault.Fault.TheVariants.{OutOfMemory}
 use Rattle.disco_history.specs.Change.{Entry}
-use Rattle.disco_core.specs.Past.{Past, history, with_done}
+use Rattle.disco_core.specs.Past.{Past, after_ask, history, with_done}
 use Rattle.disco_core.specs.State.{Rules}
 use Rattle.disco_hub.specs.Press.{change}
 use Rattle.disco_hub.specs.State.{MayServe, State, StandsFor, rules_of}
@@ -23,7 +22,7 @@ use Rattle.disco_registry.specs.declared.op.Applied.TheVariants as applied
 use Rattle.disco_registry.proofs.Histories.{accepts_after}
 use Rattle.disco_queue.specs.Timed.{Timed}
 use Rattle.disco_world.specs.Answers.{IsAnswer}
-use Rattle.disco_world.specs.Events.{Deed, World, after, changes_since, clients_after, clients_done, past_after, past_done, loaded, loads, ran_out, unless, writes, after_write, done}
+use Rattle.disco_world.specs.Events.{Deed, World, after, changes_since, clients_after, clients_done, past_after, past_done, loaded, loads, ran_out, unless, writes, done}
 use Rattle.disco_world.specs.declared.clients.Client.{Client}
 use Rattle.disco_world.specs.declared.event.Reply.{Reply}
 use Rattle.disco_world.specs.Levels.{AreLevelsOf}
@@ -59,15 +58,15 @@ stands_after old new ask now (Err e) after stays p stands = stays p stands
 
 -- a refused operation leaves what has happened
 stays : (rules : Rules) (p : Past) (now : ℕ) (asked : Result Ask Fault) (f : Fault) → (f ≢ OutOfMemory → done rules p now asked ≡ Err f) → past_after rules p (writes now asked) (Refused f) ≡ p
-stays rules p now asked f refused = one (fault_number f == 1) refl
+stays rules p now asked f refused = one (ran_out (Refused f)) refl
   where
-    same : (asked : Result Ask Fault) (result : Result (Option Entry) Fault) → result ≡ Err f → after_write rules.queue p now asked result ≡ p
-    same (Ok ask) result e = ap (after_write rules.queue p now (Ok ask)) e
-    same (Err g) result e = refl
+    same : (asked : Result Ask Fault) → done rules p now asked ≡ Err f → past_done rules p (writes now asked) (Refused f) ≡ p
+    same (Ok ask) e = ap (after_ask rules.queue p now ask) e
+    same (Err g) e = refl
 
-    one : (b : Bool) → (fault_number f == 1) ≡ b → cond b p (past_done rules p (writes now asked) (Refused f)) ≡ p
+    one : (b : Bool) → (ran_out (Refused f)) ≡ b → cond b p (past_done rules p (writes now asked) (Refused f)) ≡ p
     one true memory = refl
-    one false memory = same asked (done rules p now asked) (refused (λ same. let bad = sym memory ∙ ap (λ x. fault_number x == 1) same in cc))
+    one false memory = same asked (refused (λ same. let bad = sym memory ∙ ap (λ x. ran_out (Refused x)) same in cc))
 
 module _ (old new : State) (w : World) (now : ℕ) (ask : Ask) where
   answer_by : (r : Result Applied Fault) → Gives done_by r (done (rules_of old) w.past now (Ok ask)) → StandsFor new (with_result (rules_of old).queue w.past now ask r) → IsAnswer (rules_of old) w (writes now (Ok ask)) (reply_to r new.core.registry.version)
@@ -76,8 +75,8 @@ module _ (old new : State) (w : World) (now : ℕ) (ask : Ask) where
   answer_by (Err f) gives stands = gives
 
   after_is : (r : Result Applied Fault) (v : ℕ) → Gives done_by r (done (rules_of old) w.past now (Ok ask)) → past_after (rules_of old) w.past (writes now (Ok ask)) (reply_to r v) ≡ with_result (rules_of old).queue w.past now ask r
-  after_is (Ok (applied.Changed c)) v gives = ap (after_write (rules_of old).queue w.past now (Ok ask)) gives
-  after_is (Ok applied.Same) v gives = ap (after_write (rules_of old).queue w.past now (Ok ask)) gives
+  after_is (Ok (applied.Changed c)) v gives = ap (after_ask (rules_of old).queue w.past now ask) gives
+  after_is (Ok applied.Same) v gives = ap (after_ask (rules_of old).queue w.past now ask) gives
   after_is (Err f) v gives = stays (rules_of old) w.past now (Ok ask) f gives
 
 pub does : (old new : State) (ask : Ask) (asked : Result Ask Fault) (now : ℕ) (r : Result Applied Fault) → asked ≡ Ok ask → IfOk r (λ a. accepts old.core.registry ask now ≡ Ok (done_by a)) → IfErr r (Refuses old.core.registry ask now)

@@ -11,7 +11,7 @@ use Rattle.disco_core.specs.Past.{cleaned, history, minute_closed, taken_in}
 use Rattle.disco_core.specs.State.{Rules}
 use Rattle.disco_hub.specs.Press as press
 use Rattle.disco_hub.specs.Press.{edition_of}
-use Rattle.disco_hub.specs.Rounds.{KeySet, Round}
+use Rattle.disco_rounds.specs.Rounds.{KeySet, Round}
 use Rattle.disco_hub.specs.State.{IsCopied, MayServe, key_of_copy}
 use Rattle.disco_cache.specs.declared.key.DocKey.{DocKey}
 use Rattle.disco_cache.specs.declared.payload.Payload.{Payload}

@@ -1,11 +1,10 @@
 -- What events are for, and what has happened after them.
-use Rattle.std.specs.Prelude.{ℕ, zero, suc, ◌+◌, ◌==◌, List, [], ◌∷◌, ◌++◌, drop, length, map, Bool, true, false, if◌then◌else◌, Option, Some, None, Result, Ok, Err, slice_get}
+use Rattle.std.specs.Prelude.{ℕ, zero, suc, ◌+◌, List, [], ◌∷◌, ◌++◌, drop, length, map, Bool, true, false, if◌then◌else◌, Option, Some, None, Result, Ok, Err, slice_get}
 use Rattle.std.specs.Str.{bytes_eq}
-use Rattle.disco_values.specs.Fault.{fault_number}
 use Rattle.disco_instance.specs.Row.{Row}
 use Rattle.disco_values.specs.Text.{in_upper_case}
 use Rattle.disco_values.specs.declared.fault.Fault.{Fault}
-use Rattle.disco_values.specs.declared.fault.Fault.TheVariants.{MismatchedApp, NotFound}
+use Rattle.disco_values.specs.declared.fault.Fault.TheVariants.{OutOfMemory, MismatchedApp, NotFound}
 use Rattle.disco_values.specs.declared.form.Form.{Form}
 use Rattle.disco_values.specs.declared.key.Key.{Key}
 use Rattle.disco_history.specs.Change.{Entry}
@@ -18,7 +17,7 @@ use Rattle.disco_cache.specs.declared.key.DocKey.{DocKey}
 use Rattle.disco_hub.specs.Expiry.{cancelled}
 use Rattle.disco_hub.specs.Press as press
 use Rattle.disco_hub.specs.Press.{note_of}
-use Rattle.disco_core.specs.Past.{Past, cleaned, history, minute_closed, nothing, taken_in, with_done}
+use Rattle.disco_core.specs.Past.{Past, after_ask, cleaned, history, minute_closed, nothing, taken_in}
 use Rattle.disco_core.specs.Refusals.{doc_of_key, refusal_of}
 use Rattle.disco_core.specs.State.{Rules}
 use Rattle.disco_writer.specs.declared.query.Query.{Query}
@@ -133,12 +132,6 @@ abbrev pub done : Rules → Past → ℕ → Result Ask Fault → Result (Option
 done rules p now (Err e) = Err e
 done rules p now (Ok ask) = accept_after rules.limits (history p) ask now
 
--- what has happened after an operation that was accepted, with its change if it made one, or that was refused
-abbrev pub after_write : ℕ → Past → ℕ → Result Ask Fault → Result (Option Entry) Fault → Past
-after_write most p now (Ok ask) (Ok change) = with_done most p now ask change
-after_write most p now (Ok ask) (Err e) = p
-after_write most p now (Err e) result = p
-
 -- what has happened after a run that says how many instances are gone: their cancels, in the order in which a run takes them
 abbrev pub after_run : Rules → Past → ℕ → Reply → Past
 after_run rules p now (Expired run) = cancelled rules p now (taken_in p now) run.gone
@@ -146,7 +139,7 @@ after_run rules p now _ = p
 
 -- what has happened to the registry after a deed with that answer that found memory
 abbrev pub past_done : Rules → Past → Deed → Reply → Past
-past_done rules p (writes now ask) reply = after_write rules.queue p now ask (done rules p now ask)
+past_done rules p (writes now (Ok ask)) reply = after_ask rules.queue p now ask (accept_after rules.limits (history p) ask now)
 past_done rules p (cleans now) reply = cleaned rules.retention p now
 past_done rules p closes reply = minute_closed p
 past_done rules p (expires now) reply = after_run rules p now reply
@@ -170,7 +163,7 @@ press_done s cs i _ _ = record s { pending = s.pending ++ map press.change cs }
 
 -- the event found no memory
 abbrev pub ran_out : Reply → Bool
-ran_out (Refused e) = fault_number e == 1
+ran_out (Refused OutOfMemory) = true
 ran_out _ = false
 
 abbrev pub past_after : Rules → Past → Deed → Reply → Past

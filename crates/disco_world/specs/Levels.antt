@@ -1,17 +1,21 @@
 -- What private contracts say of the two levels of documents. Nothing here is to be believed: the clauses of `run` don't cite it.
-use Rattle.std.specs.Prelude.{◌≡◌, ◌≢◌, [], length, Some, None, IfSome, option_map, slice_get}
+use Rattle.std.specs.Prelude.{◌≡◌, ◌≢◌, ℕ, [], length, Option, Some, None, IfSome, option_map, slice_get}
 use Rattle.std.specs.FinMap.{get}
 use Rattle.disco_values.specs.declared.fault.Fault.TheVariants.{OutOfMemory}
 use Rattle.disco_cache.specs.declared.key.DocKey.{DocKey}
 use Rattle.disco_core.specs.Past.{Past}
+use Rattle.disco_core.specs.State.{Rules}
 use Rattle.disco_hub.specs.Levels.{AreLevels, put_copy}
 use Rattle.disco_hub.specs.Press.{Edition, edition_of}
-use Rattle.disco_hub.specs.Rounds.{Advances}
+use Rattle.disco_rounds.specs.Rounds.{Advances}
 use Rattle.disco_hub.specs.State.{IsCopied, StandsFor, is_doc, rules_of}
 use Rattle.disco_hub.specs.declared.copied.Copied.{Copied}
 use Rattle.disco_world.specs.Answers.{IsAnswer}
-use Rattle.disco_world.specs.Events.{Deed, World, after, query_asked}
+use Rattle.disco_world.specs.Events.{Deed, World, after, clients_after, deed, query_asked}
 use Rattle.disco_world.specs.Rounds.{left_in}
+use Rattle.disco_world.specs.Steps.{AreHeld}
+use Rattle.disco_world.specs.declared.clients.Client.{Client}
+use Rattle.disco_world.specs.declared.event.Event.{Event}
 use Rattle.disco_world.specs.declared.event.Reply.{Reply}
 use Rattle.disco_world.specs.declared.event.Reply.TheVariants.{Doc, Missed, Refused}
 use Rattle.disco_world.specs.declared.levels.Levels.{Levels}
@@ -25,6 +29,10 @@ pub record AreLevelsOf (s : Levels) (w : World) : Type 0 where
 -- they answer a deed, and are then those of what has happened with it
 abbrev pub Turns : Levels → Levels → (World → Deed) → Reply → Type 0
 Turns old new what reply = (w : World) → AreLevelsOf old w → IsAnswer (rules_of old.hub) w (what w) reply × AreLevelsOf new (after (rules_of old.hub) w (what w) reply)
+
+-- they and the clients answer an event, and are then those of what has happened with it
+abbrev pub Goes : Rules → World → Event → Reply → Levels → (ℕ → Option Client) → Type 0
+Goes rules w e r new clients = let what = deed rules w e in IsAnswer rules w what r × AreLevelsOf new (after rules w what r) × AreHeld clients (record w { clients = clients_after w.clients what r })
 
 -- the first key that was left was copied so, and put in or taken out
 pub record Copies (old new : Levels) (c : Copied) : Type 0 where

@@ -4,3 +4,4 @@ pub mod Events
 pub mod Levels
 pub mod Rounds
 pub mod Steps
+pub mod Telling

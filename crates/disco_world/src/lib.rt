@@ -2,7 +2,8 @@
 //!
 //! [`run`] is the library's main theorem for a list of events: every served document is the
 //! registry at one version, restricted to what was asked for. For a load it is that of the moment,
-//! for a look one since the last published round began.
+//! for a look one since the last published round began. [`run_to`] says the same of replies that are
+//! told as they come.
 #![tactic(auto)]
 
 mod asks;
@@ -13,6 +14,7 @@ mod levels;
 mod loads;
 mod rounds;
 mod runs;
+mod telling;
 
 pub use disco_cache::{DocKey, Payload};
 pub use disco_hub::{Copied, Expired, Minute, Settings};
@@ -20,3 +22,4 @@ pub use disco_writer::Query;
 pub use event::{Event, Reply};
 pub use holding::{Holding, Holdings};
 pub use runs::run;
+pub use telling::{Tell, has_takes, run_to};

@@ -1,5 +1,5 @@
 //! Runs of events.
-ghost use Rattle.std.specs.Prelude.{◌≡◌, ◌≢◌, length, IfOk, IfErr, IfSome, IfNone, None, Result, Some, option_map};
+ghost use Rattle.std.specs.Prelude.{◌≡◌, ◌≢◌, false, length, IfOk, IfErr, IfSome, IfNone, None, Result, Some, option_map};
 ghost use Rattle.std.specs.BTreeMap as tree;
 ghost use Rattle.std.specs.Ordering.{nat_cmp};
 ghost use Rattle.disco_instance.specs.Instance.{Gives};
@@ -8,9 +8,10 @@ ghost use Rattle.disco_values.specs.declared.fault.Fault.TheVariants.{OutOfMemor
 ghost use Rattle.disco_registry.specs.Op.{Ask, ask_of};
 ghost use Rattle.disco_core.specs.State.{rules};
 ghost use Rattle.disco_hub.specs.State.{rules_of};
-ghost use Rattle.disco_world.specs.Answers.{AreAnswers, AreKnown, ArePressed, AreServed, IsAnswer, IsFirstBadEvent};
-ghost use Rattle.disco_world.specs.Events.{World, after, bad, clients_after, closes, deed, doc_in, doc_of_event, expires, for_clients, writes};
-ghost use Rattle.disco_world.specs.Levels.{AreLevelsOf};
+ghost use Rattle.disco_world.specs.Answers.{AreAnswers, AreKnown, ArePressed, AreServed, IsFirstBadEvent};
+ghost use Rattle.disco_world.specs.Events.{World, bad, closes, deed, doc_in, doc_of_event, expires, for_clients, writes};
+ghost use Rattle.disco_world.specs.Levels.{AreLevelsOf, Goes};
+ghost use Rattle.disco_world.specs.Telling.{is_take};
 ghost use Rattle.disco_world.specs.Steps.{AreHeld, AreReadable, Does, reply_to, reply_to_show, reply_to_take};
 
 use crate::asks::{add_metadata, cancel, drop_status, register, renew, set_status};
@@ -65,55 +66,68 @@ fn answer(
     requires readable { AreReadable replies.now }
     ensures is_bad { IfNone result ((w : World) → w.replies ≡ replies.now → deed (rules_of levels.old.hub) w event.now ≡ bad) }
     ensures does { IfSome result (λ r. (w : World) → w.replies ≡ replies.now → AreHeld (tree.get nat_cmp clients.old) w → AreLevelsOf levels.old w
-        → let what = deed (rules_of levels.old.hub) w event.now in IsAnswer (rules_of levels.old.hub) w what r × AreLevelsOf levels.new (after (rules_of levels.old.hub) w what r)
-        × AreHeld (tree.get nat_cmp clients.new) (record w { clients = clients_after w.clients what r })) }
+        → Goes (rules_of levels.old.hub) w event.now r levels.new (tree.get nat_cmp clients.new)) }
     ensures rules { rules_of levels.new.hub ≡ rules_of levels.old.hub }
 {
     match event {
-        Event::Register { now, app, json } => Some(write(
+        Event::Take { client, event } => match document(replies, *event) {
+            Some(payload) => Some(took(take(alloc, clients, *client, payload))),
+            None => None,
+        },
+        _ => Some(answer_alone(alloc, levels, clients, event)),
+    }
+}
+
+/// Answers one event that looks at no earlier reply.
+pub(crate) fn answer_alone(
+    alloc: Global,
+    levels: &mut Levels,
+    clients: &Clients,
+    event: &Event,
+) -> Reply
+    requires alone { is_take event.now ≡ false }
+    ensures does { (w : World) → AreHeld (tree.get nat_cmp clients.now) w → AreLevelsOf levels.old w
+        → Goes (rules_of levels.old.hub) w event.now result levels.new (tree.get nat_cmp clients.now) }
+    ensures rules { rules_of levels.new.hub ≡ rules_of levels.old.hub }
+{
+    match event {
+        Event::Register { now, app, json } => write(
             &mut levels.hub,
             *now,
             register(alloc, app, json),
-        )),
-        Event::Cancel { now, app, id } => Some(write(
-            &mut levels.hub,
-            *now,
-            cancel(alloc, app, id),
-        )),
-        Event::Renew { now, app, id } => Some(write(&mut levels.hub, *now, renew(alloc, app, id))),
+        ),
+        Event::Cancel { now, app, id } => write(&mut levels.hub, *now, cancel(alloc, app, id)),
+        Event::Renew { now, app, id } => write(&mut levels.hub, *now, renew(alloc, app, id)),
         Event::SetStatus {
             now,
             app,
             id,
             status,
-        } => Some(write(&mut levels.hub, *now, set_status(alloc, app, id, status))),
+        } => write(&mut levels.hub, *now, set_status(alloc, app, id, status)),
         Event::DropStatus {
             now,
             app,
             id,
             status,
-        } => Some(write(&mut levels.hub, *now, drop_status(alloc, app, id, status))),
+        } => write(&mut levels.hub, *now, drop_status(alloc, app, id, status)),
         Event::Metadata {
             now,
             app,
             id,
             entries,
-        } => Some(write(&mut levels.hub, *now, add_metadata(alloc, app, id, entries))),
-        Event::Load { key } => Some(load(alloc, &mut levels.hub, key)),
-        Event::LoadById { id, form } => Some(load_by_id(&levels.hub, id, *form)),
-        Event::Clean { now } => Some(Reply::Cleaned(levels.hub.clean(*now))),
-        Event::Minute => Some(close(&mut levels.hub)),
-        Event::Expire { now } => Some(expire(&mut levels.hub, *now)),
-        Event::Begin => Some(begin(alloc, levels)),
-        Event::Copy => Some(copy(levels)),
-        Event::Publish => Some(publish(alloc, levels)),
-        Event::Look { key } => Some(look(alloc, &levels.published, key)),
-        Event::LookById { .. } => Some(Reply::Missed),
-        Event::Take { client, event } => match document(replies, *event) {
-            Some(payload) => Some(took(take(alloc, clients, *client, payload))),
-            None => None,
-        },
-        Event::Show { client } => Some(showed(show(alloc, clients, *client))),
+        } => write(&mut levels.hub, *now, add_metadata(alloc, app, id, entries)),
+        Event::Load { key } => load(alloc, &mut levels.hub, key),
+        Event::LoadById { id, form } => load_by_id(&levels.hub, id, *form),
+        Event::Clean { now } => Reply::Cleaned(levels.hub.clean(*now)),
+        Event::Minute => close(&mut levels.hub),
+        Event::Expire { now } => expire(&mut levels.hub, *now),
+        Event::Begin => begin(alloc, levels),
+        Event::Copy => copy(levels),
+        Event::Publish => publish(alloc, levels),
+        Event::Look { key } => look(alloc, &levels.published, key),
+        Event::LookById { .. } => Reply::Missed,
+        Event::Take { .. } => Reply::Missed,
+        Event::Show { client } => showed(show(alloc, clients, *client)),
     }
 }
 

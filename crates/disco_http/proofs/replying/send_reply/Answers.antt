@@ -3,7 +3,7 @@ use Rattle.std.specs.Io.KnownBytes.{Appends}
 use Rattle.std.proofs.lemmas.Result.{err_from_is_err_and}
 use Rattle.disco_message.specs.ReplyText.{reply_head, reply_body}
 use Rattle.disco_http.specs.Sinks.{AppendsFront, sink_of}
-use Rattle.disco_http.proofs.Known.{front_more, front_then}
+use Rattle.disco_http.proofs.Appended.{front_more, front_then}
 use Rattle.disco_http.proofs.replying.send_reply.Goals as goal
 
 pub returns-in_err-send-2-clause-front : goal.returns-in_err-send-2-clause-front

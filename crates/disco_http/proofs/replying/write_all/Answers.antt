@@ -1,7 +1,7 @@
 use Rattle.std.proofs.Common.{rules, refl, sym, take, drop}
 use Rattle.std.proofs.lemmas.List.{take-append-drop}
 use Rattle.std.proofs.lemmas.Result.{err_from_is_err_and}
-use Rattle.disco_http.proofs.Known.{write_part, Appends-keeps}
+use Rattle.disco_http.proofs.Appended.{write_part, Appends-keeps}
 use Rattle.disco_http.proofs.replying.write_all.Goals as goal
 
 pub returns-in_err-count-clause-front : goal.returns-in_err-count-clause-front

@@ -1,5 +1,5 @@
 use Rattle.std.proofs.Common.{rules}
-use Rattle.disco_http.specs.Streams.{ahead, limits_of}
+use Rattle.disco_reader.specs.Streams.{ahead, limits_of}
 use Rattle.disco_http.specs.Sinks.{sink_of}
 use Rattle.disco_http.proofs.Stopping.{read_failed, refused_stops}
 use Rattle.disco_http.proofs.serving.exchange.Goals as goal

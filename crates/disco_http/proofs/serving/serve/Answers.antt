@@ -1,9 +1,9 @@
 use Rattle.std.proofs.Common.{◌≡◌, ◌<◌, ℕ, refl, ◌+◌, ◌==◌, IfSome, rules, subst, arith, false}
 use Rattle.std.proofs.lemmas.Bool.Decides.{nat_tests}
 use Rattle.disco_message.specs.declared.limits.Limits.{Limits}
+use Rattle.disco_reader.specs.Streams.{ahead}
 use Rattle.disco_http.specs.declared.serving.Step.TheVariants.{Goes, Last, Stops}
 use Rattle.disco_http.specs.Exchanges.{Exchanged}
-use Rattle.disco_http.specs.Streams.{ahead}
 use Rattle.disco_http.proofs.Answering.{begun, goes_on, ends_with, stops_with}
 use Rattle.disco_http.proofs.serving.serve.Goals as goal
 

@@ -1,6 +1,6 @@
 use Rattle.std.proofs.Common.{◌≡◌, ◌<◌, ◌-◌, IfSome, IsFalse}
+use Rattle.disco_reader.specs.Streams.{ahead}
 use Rattle.disco_http.specs.Exchanges.{SoFar}
-use Rattle.disco_http.specs.Streams.{ahead}
 use Rattle.disco_http.proofs.serving.serve.Given as goal
 
 abbrev pub invariant-loop-requests : goal.invariant-loop-requests

@@ -1,5 +1,5 @@
 use Rattle.std.proofs.Common.{ℕ, ap}
-use Rattle.disco_hub.specs.Rounds.{Rounds}
+use Rattle.disco_rounds.specs.Rounds.{Rounds}
 use Rattle.disco_hub.proofs.hub.Hub.expire.Goals as goal
 
 pub returns-clause-rounds : goal.returns-clause-rounds

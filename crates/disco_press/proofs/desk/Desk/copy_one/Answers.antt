@@ -3,7 +3,7 @@ use Rattle.std.specs.declared.alloc.Global.{Global}
 use Rattle.std.specs.declared.sync.Arc.{Arc}
 use Rattle.disco_cache.specs.declared.payload.Payload.{Payload}
 use Rattle.disco_core.specs.Past.{Past}
-use Rattle.disco_hub.specs.Rounds.{Advances, Round}
+use Rattle.disco_rounds.specs.Rounds.{Advances, Round}
 use Rattle.disco_hub.specs.State.{IsCopied, StandsFor, is_doc}
 use Rattle.disco_hub.specs.declared.copied.Copied.{Copied}
 use Rattle.disco_hub.specs.declared.copied.Copied.TheVariants.{Doc, Drop}

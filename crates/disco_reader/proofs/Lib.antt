@@ -1,0 +1,9 @@
+pub mod Chunking
+pub mod Heads
+pub mod Known
+pub mod Receiving
+pub mod Refusals
+pub mod ReplyHeads
+pub mod Requesting
+pub mod Slices
+pub mod Taken

@@ -1,0 +1,27 @@
+use Rattle.std.proofs.Common.{rules, IfSome}
+use Rattle.std.proofs.lemmas.Result.{err_from_is_err_and}
+use Rattle.disco_reader.specs.Found.{HeadRead, HeadRefused}
+use Rattle.disco_reader.specs.Bodies.{BodyRefused}
+use Rattle.disco_reader.specs.Streams.{ahead}
+use Rattle.disco_reader.proofs.Requesting.{refused_head, refused_body}
+use Rattle.disco_reader.proofs.reader.Reader.try_request.Goals as goal
+
+pub returns-in_err-head-clause-refused : goal.returns-in_err-head-clause-refused
+returns-in_err-head-clause-refused g c =
+    let p = err_from_is_err_and c.from_residual.result c.from_residual.ensures.1 in
+    let limits = c.args.self.now.limits in
+    let fault = c.in_err-head.field-0.0 in
+    let refused : IfSome (ahead g.R.Source.remaining c.args.self.now) (HeadRefused limits fault) = search rules in
+    rw (p.1, p.2) (refused_head limits fault (ahead g.R.Source.remaining c.args.self.now) refused)
+
+pub returns-in_err-body-clause-refused : goal.returns-in_err-body-clause-refused
+returns-in_err-body-clause-refused g c =
+    let p = err_from_is_err_and c.from_residual-in_err-body.result c.from_residual-in_err-body.ensures.1 in
+    let limits = c.args.self.now.limits in
+    let first = ahead g.R.Source.remaining c.args.self.now in
+    let mid = ahead g.R.Source.remaining c.read_head.new.self in
+    let says = c.in-Some.head in
+    let fault = c.in_err-body.field-0.0 in
+    let found : IfSome first (λ stream. HeadRead limits stream says mid) = search rules in
+    let refused : IfSome mid (BodyRefused limits says.framing fault) = search rules in
+    rw (p.1, p.2) (refused_body limits fault first mid says found refused)

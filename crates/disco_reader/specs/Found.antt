@@ -1,0 +1,85 @@
+-- Only what code keeps: nothing here is to be believed.
+use Rattle.std.specs.Prelude.{◌≡◌, ℕ, ◌≤◌, ⊤, ◌⊎◌, IsOk, Bool, true, false, ◌++◌, List, length, drop, Option, Some, None, Result, Ok, Err}
+use Rattle.httparse.specs.Grammar.{RequestHead, ResponseHead, ChunkLine, Field, LineEnd, print_section, ReadsSection}
+use Rattle.httparse.specs.Spans.{IsRequestWithin, IsRequestOf, IsResponseWithin, IsResponseOf, IsChunkLineAt}
+use Rattle.httparse.specs.declared.spans.HeaderSpan.{HeaderSpan}
+use Rattle.disco_values.specs.declared.fault.Fault.{Fault}
+use Rattle.disco_reader.specs.declared.looking.Found.{Found}
+use Rattle.disco_reader.specs.declared.looking.Found.TheVariants as found
+use Rattle.disco_reader.specs.declared.looking.Part.{Part}
+use Rattle.disco_reader.specs.declared.looking.Part.TheVariants as part
+use Rattle.disco_values.specs.declared.fault.Fault.TheVariants.{OutOfMemory, HeadTooLarge, BadRequest, ReadFailed}
+use Rattle.disco_message.specs.declared.limits.Limits.{Limits}
+use Rattle.disco_reader.specs.Chunks.{HasSize, LacksChunk, LineRefused, ReadsChunk, ReadsPieces, joined}
+use Rattle.disco_reader.specs.Parts.{HasNo, BytesRefused, PartRefused}
+use Rattle.disco_reader.specs.Replies.{BeginsReply}
+use Rattle.disco_reader.specs.Requests.{Begins}
+use Rattle.disco_message.specs.Heading.{Heading, heading}
+use Rattle.disco_message.specs.Received.{Received, received}
+
+-- a line of this length and size stands at the front
+abbrev pub IsLine : List ℕ → ℕ → ℕ → Type 0
+IsLine bytes len size = (len ≤ length bytes) × ((line : ChunkLine) × IsChunkLineAt bytes len size line)
+
+-- so many fields at most, with the empty line, stand at the front
+abbrev pub IsTrailer : ℕ → List ℕ → ℕ → Type 0
+IsTrailer few bytes len = (len ≤ length bytes) × ((fields : List Field) × (last : LineEnd) × ReadsSection bytes fields last (drop len bytes) × (len ≡ length (print_section fields last)) × (length fields ≤ few))
+
+-- the part that was found stands at the front
+abbrev pub IsFound : ℕ → Part → List ℕ → List HeaderSpan → Found → Type 0
+IsFound few part.RequestHead bytes spans (found.RequestHead line) = IsRequestWithin bytes spans line × IsRequestOf bytes spans line
+IsFound few part.ReplyHead bytes spans (found.ReplyHead line) = IsResponseWithin bytes spans line × IsResponseOf bytes spans line
+IsFound few part.SizeLine bytes spans (found.SizeLine len size) = IsLine bytes len size
+IsFound few part.Trailer bytes spans (found.Trailer len) = IsTrailer few bytes len
+IsFound few part bytes spans other = ⊥
+
+-- what a look at bytes answers
+abbrev pub Looked : ℕ → Part → List ℕ → List HeaderSpan → Result (Option Found) Fault → Type 0
+Looked few part bytes spans (Ok (Some found)) = IsFound few part bytes spans found
+Looked few part bytes spans (Ok None) = HasNo part bytes
+Looked few part bytes spans (Err fault) = BytesRefused few part fault bytes
+
+-- why no chunk's line is read from the input
+abbrev pub SizeRefused : Limits → Fault → List ℕ → Type 0
+SizeRefused limits ReadFailed input = ⊤
+SizeRefused limits BadRequest input = LineRefused limits input
+SizeRefused limits fault input = ⊥
+
+-- why the bytes of a chunk are refused
+abbrev pub DataRefused : ℕ → Fault → List ℕ → Type 0
+DataRefused size ReadFailed input = ⊤
+DataRefused size OutOfMemory input = ⊤
+DataRefused size BadRequest input = LacksChunk size input
+DataRefused size fault input = ⊥
+
+-- why the fields behind the last chunk are refused
+abbrev pub TrailerRefused : Limits → Fault → List ℕ → Type 0
+TrailerRefused limits ReadFailed input = ⊤
+TrailerRefused limits HeadTooLarge input = PartRefused limits part.Trailer HeadTooLarge input
+TrailerRefused limits BadRequest input = PartRefused limits part.Trailer BadRequest input
+TrailerRefused limits fault input = ⊥
+
+-- one turn: a chunk was appended to the body, or the line of size 0 was read
+abbrev pub Turn : Limits → Bool → List ℕ → List ℕ → List ℕ → Option (List ℕ) → Type 0
+Turn limits true old new input left = (piece : List ℕ) × (next : List ℕ) × ReadsChunk limits input piece next × (new ≡ old ++ piece) × (left ≡ Some next)
+Turn limits false old new input left = (next : List ℕ) × HasSize limits 0 input next × (new ≡ old) × (left ≡ Some next)
+
+-- the body so far is that of the chunks so far
+abbrev pub PiecesSoFar : Limits → List ℕ → List ℕ → Option (List ℕ) → Type 0
+PiecesSoFar limits body input left = (pieces : List (List ℕ)) × (next : List ℕ) × ReadsPieces limits input pieces next × (body ≡ joined pieces) × (left ≡ Some next)
+
+-- the stream begins with a head that says this, and so much is left
+abbrev pub HeadRead : Limits → List ℕ → Heading → Option (List ℕ) → Type 0
+HeadRead limits stream says left = (h : RequestHead) × (after : List ℕ) × Begins limits stream h after × (heading h ≡ Ok says) × (left ≡ Some after)
+
+-- why no head is read that may be read on
+abbrev pub HeadRefused : Limits → Fault → List ℕ → Type 0
+HeadRefused limits fault stream = PartRefused limits part.RequestHead fault stream ⊎ ((h : RequestHead) × (after : List ℕ) × Begins limits stream h after × ((heading h ≡ Err fault) ⊎ ((fault ≡ OutOfMemory) × IsOk (heading h))))
+
+-- the stream begins with the head of a reply that says this, and so much is left
+abbrev pub ReplyRead : Limits → List ℕ → Received → Option (List ℕ) → Type 0
+ReplyRead limits stream says left = (h : ResponseHead) × (after : List ℕ) × BeginsReply limits stream h after × (received h ≡ Ok says) × (left ≡ Some after)
+
+-- why no head of a reply is read that may be read on
+abbrev pub ReplyHeadRefused : Limits → Fault → List ℕ → Type 0
+ReplyHeadRefused limits fault stream = PartRefused limits part.ReplyHead fault stream ⊎ ((h : ResponseHead) × (after : List ℕ) × BeginsReply limits stream h after × ((received h ≡ Err fault) ⊎ ((fault ≡ OutOfMemory) × IsOk (received h))))

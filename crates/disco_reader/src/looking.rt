@@ -1,0 +1,130 @@
+//! What stands at the front of bytes: a head, a chunk's line, or the fields behind the last chunk.
+ghost use Rattle.std.specs.Prelude.{◌≡◌, IfErr, IsTrue, length};
+ghost use Rattle.disco_reader.specs.Causes.{is_of_reading};
+ghost use Rattle.disco_reader.specs.Found.{Looked};
+ghost use Rattle.disco_reader.specs.declared.looking.Part.TheVariants.{RequestHead, ReplyHead, SizeLine, Trailer};
+
+use disco_instance::Fault;
+use httparse::spans::{
+    HeaderSpan, RequestSpans, ResponseSpans, parse_headers, parse_request, parse_response,
+};
+use httparse::{Error, Status, parse_chunk_size};
+
+/// A part of a message that is looked for.
+#[derive(Clone, Copy, Debug)]
+pub(crate) enum Part {
+    RequestHead,
+    ReplyHead,
+    /// The line in front of a chunk.
+    SizeLine,
+    /// The fields behind the last chunk, with the empty line.
+    Trailer,
+}
+
+/// A part that was found.
+#[derive(Clone, Copy, Debug)]
+pub(crate) enum Found {
+    RequestHead(RequestSpans),
+    ReplyHead(ResponseSpans),
+    /// The length of the line, and the size of its chunk.
+    SizeLine(usize, u64),
+    /// The length of the fields with the empty line.
+    Trailer(usize),
+}
+
+/// Whether an empty line stands behind a line in bytes.
+fn have_empty_line(bytes: &[u8]) -> bool {
+    let mut line_is_empty = false;
+    for byte in bytes {
+        match *byte {
+            b'\n' if line_is_empty => return true,
+            b'\n' => line_is_empty = true,
+            b'\r' => {}
+            _ => line_is_empty = false,
+        }
+    }
+    false
+}
+
+/// Whether it is worth to look at bytes again for a part, of which the first `looked` were looked at
+/// and the first `seen` don't have what a part ends with: it came behind these, or the bytes are twice
+/// as many as were looked at, so that a wrong one isn't told late.
+pub(crate) fn may_have(part: Part, bytes: &[u8], looked: usize, seen: usize) -> bool {
+    if bytes.len() / 2 >= looked {
+        return true;
+    }
+    let unseen = bytes.get(seen.saturating_sub(2)..).unwrap_or(bytes);
+    match part {
+        Part::SizeLine => unseen.contains(&b'\n'),
+        Part::RequestHead | Part::ReplyHead | Part::Trailer => have_empty_line(unseen),
+    }
+}
+
+/// The part at the front of bytes, if it is whole.
+pub(crate) fn look_at(
+    part: Part,
+    bytes: &[u8],
+    spans: &mut [HeaderSpan],
+) -> Result<Option<Found>, Fault>
+    ensures looked { Looked (length spans.old) part bytes.now spans.new result }
+    ensures length { length spans.new ≡ length spans.old }
+    ensures fault { IfErr result (λ fault. IsTrue (is_of_reading fault)) }
+{
+    match part {
+        Part::RequestHead => look_at_head(bytes, spans),
+        Part::ReplyHead => look_at_reply(bytes, spans),
+        Part::SizeLine => look_at_line(bytes, spans),
+        Part::Trailer => look_at_trailer(bytes, spans),
+    }
+}
+
+fn look_at_head(bytes: &[u8], spans: &mut [HeaderSpan]) -> Result<Option<Found>, Fault>
+    ensures looked { Looked (length spans.old) RequestHead bytes.now spans.new result }
+    ensures length { length spans.new ≡ length spans.old }
+    ensures fault { IfErr result (λ fault. IsTrue (is_of_reading fault)) }
+{
+    match parse_request(bytes, spans) {
+        Ok(Status::Complete(head)) => Ok(Some(Found::RequestHead(head))),
+        Ok(Status::Partial) => Ok(None),
+        Err(Error::TooManyHeaders) => Err(Fault::HeadTooLarge),
+        Err(_) => Err(Fault::BadRequest),
+    }
+}
+
+fn look_at_reply(bytes: &[u8], spans: &mut [HeaderSpan]) -> Result<Option<Found>, Fault>
+    ensures looked { Looked (length spans.old) ReplyHead bytes.now spans.new result }
+    ensures length { length spans.new ≡ length spans.old }
+    ensures fault { IfErr result (λ fault. IsTrue (is_of_reading fault)) }
+{
+    match parse_response(bytes, spans) {
+        Ok(Status::Complete(head)) => Ok(Some(Found::ReplyHead(head))),
+        Ok(Status::Partial) => Ok(None),
+        Err(Error::TooManyHeaders) => Err(Fault::HeadTooLarge),
+        Err(_) => Err(Fault::BadRequest),
+    }
+}
+
+fn look_at_line(bytes: &[u8], spans: &mut [HeaderSpan]) -> Result<Option<Found>, Fault>
+    ensures looked { Looked (length spans.old) SizeLine bytes.now spans.new result }
+    ensures length { length spans.new ≡ length spans.old }
+    ensures fault { IfErr result (λ fault. IsTrue (is_of_reading fault)) }
+{
+    match parse_chunk_size(bytes) {
+        Ok(Status::Complete((len, size))) => Ok(Some(Found::SizeLine(len, size))),
+        Ok(Status::Partial) => Ok(None),
+        Err(_) => Err(Fault::BadRequest),
+    }
+}
+
+fn look_at_trailer(bytes: &[u8], spans: &mut [HeaderSpan]) -> Result<Option<Found>, Fault>
+    ensures looked { Looked (length spans.old) Trailer bytes.now spans.new result }
+    ensures length { length spans.new ≡ length spans.old }
+    ensures fault { IfErr result (λ fault. IsTrue (is_of_reading fault)) }
+{
+    match parse_headers(bytes, spans) {
+        Ok(Status::Complete((len, _))) => Ok(Some(Found::Trailer(len))),
+        Ok(Status::Partial) => Ok(None),
+        Err(Error::TooManyHeaders) => Err(Fault::HeadTooLarge),
+        Err(_) => Err(Fault::BadRequest),
+    }
+}

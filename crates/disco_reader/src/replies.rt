@@ -1,0 +1,155 @@
+//! Replies that are read, as a client does.
+ghost use Rattle.std.specs.Prelude.{◌≡◌, ◌≤◌, ◌⊎◌, ◌+◌, ◌++◌, ◌<◌, ℕ, List, length, vec_len, IfOk, IfErr, IfSome, IsFalse, IsTrue, IsOk, is_err, Err, Some, OnOk};
+ghost use Rattle.std.specs.Io.KnownBytes.{Consumes};
+ghost use Rattle.httparse.specs.Grammar.{ResponseHead};
+ghost use Rattle.httparse.specs.Spans.{IsResponseAt, IsResponseWithin};
+ghost use Rattle.disco_values.specs.declared.fault.Fault.TheVariants.{BodyTooLarge, ReadFailed, OutOfMemory};
+ghost use Rattle.disco_message.specs.Received.{received};
+ghost use Rattle.disco_message.specs.declared.received.Extent.TheVariants.{UntilEnd};
+ghost use Rattle.disco_reader.specs.Causes.{Cause, is_of_reading};
+
+use crate::looking::{Found, Part};
+use crate::reader::Reader;
+use crate::source::Source;
+use disco_instance::Fault;
+use disco_message::{Extent, ReceivedHead};
+use httparse::spans::ResponseSpans;
+use std::alloc::{AllocError, Global};
+
+/// A reply that was received.
+#[derive(Debug, Drop)]
+pub struct ReceivedReply {
+    pub head: ReceivedHead,
+    pub body: Vec<u8>,
+}
+
+impl<R: Source> Reader<R> {
+    ghost use Rattle.disco_reader.specs.Found.{ReplyRead, ReplyHeadRefused};
+    ghost use Rattle.disco_reader.specs.Replies.{ReadsExtent, ExtentRefused};
+    ghost use Rattle.disco_reader.specs.Streams.{ahead, unread};
+
+    /// What the head that was found says.
+    fn copy_reply_head(&self, alloc: Global, line: &ResponseSpans) -> Result<ReceivedHead, Fault>
+        requires { IsResponseWithin (unread self.now) self.now.spans.items line.now }
+        ensures fault { IfErr result (λ fault. IsTrue (is_of_reading fault)) }
+        ensures says { (h : ResponseHead) → IsResponseAt (unread self.now) self.now.spans.items line.now h → (result ≡ received h) ⊎ ((result ≡ Err OutOfMemory) × IsOk (received h)) }
+    {
+        ReceivedHead::new(alloc, self.unread(), &self.spans, line)
+    }
+
+    /// Reads the head of a reply.
+    fn read_reply_head(&mut self, alloc: Global) -> Result<ReceivedHead, Fault>
+        ensures head { IfOk result (λ says. IfSome (ahead R.remaining self.old) (λ stream. ReplyRead self.old.limits stream says (ahead R.remaining self.new))) }
+        ensures refused { IfErr result (λ fault. IfSome (ahead R.remaining self.old) (ReplyHeadRefused self.old.limits fault)) }
+        ensures limits { self.new.limits ≡ self.old.limits }
+        ensures fault { IfErr result (λ fault. IsTrue (is_of_reading fault)) }
+        ensures cause { Cause ReadFailed (R.failed self.old.source) (R.failed self.new.source) result }
+        ensures none_failed { OnOk result (R.failed self.new.source ≡ R.failed self.old.source) }
+    {
+        match self.find(Part::ReplyHead)? {
+            Some(Found::ReplyHead(line)) => {
+                let head = self.copy_reply_head(alloc, &line)?;
+                self.take(line.len);
+                Ok(head)
+            }
+            _ => Err(Fault::BadRequest),
+        }
+    }
+
+    /// Appends what was read to a body, unless it grows past the limit.
+    fn append_all(&mut self, body: &mut Vec<u8>) -> Result<(), Fault>
+        requires { vec_len body.old ≤ self.old.limits.body }
+        ensures taken { OnOk result (Consumes (ahead R.remaining self.old) (ahead R.remaining self.new) (unread self.old)) }
+        ensures body { OnOk result (body.new.items ≡ body.old.items ++ unread self.old) }
+        ensures empty { OnOk result (self.new.start ≡ self.new.end) }
+        ensures fits { OnOk result (vec_len body.new ≤ self.old.limits.body) }
+        ensures refused { IfErr result (λ fault. (fault ≡ OutOfMemory) ⊎ ((fault ≡ BodyTooLarge) × (self.old.limits.body < vec_len body.old + length (unread self.old)))) }
+        ensures source { self.new.source ≡ self.old.source }
+        ensures limits { self.new.limits ≡ self.old.limits }
+    {
+        let count = self.end - self.start;
+        if count as u64 > self.limits.body - body.len() as u64 {
+            return Err(Fault::BodyTooLarge);
+        }
+        match self.append_unread(body, count) {
+            Ok(()) => Ok(()),
+            Err(AllocError) => Err(Fault::OutOfMemory),
+        }
+    }
+
+    /// Reads a body up to the end of the input.
+    fn read_to_end(&mut self, alloc: Global) -> Result<Vec<u8>, Fault>
+        ensures body { IfOk result (λ body. IfSome (ahead R.remaining self.old) (λ after.
+            (rest : List ℕ) × ReadsExtent self.old.limits UntilEnd after body.items rest × (ahead R.remaining self.new ≡ Some rest))) }
+        ensures refused { IfErr result (λ fault. IfSome (ahead R.remaining self.old) (ExtentRefused self.old.limits UntilEnd fault)) }
+        ensures limits { self.new.limits ≡ self.old.limits }
+        ensures fault { IfErr result (λ fault. IsTrue (is_of_reading fault)) }
+        ensures cause { Cause ReadFailed (R.failed self.old.source) (R.failed self.new.source) result }
+        ensures none_failed { OnOk result (R.failed self.new.source ≡ R.failed self.old.source) }
+    {
+        let mut body = Vec::new(alloc);
+        self.append_all(&mut body)?;
+        while self.more()? {
+            self.append_all(&mut body)?;
+        }
+        Ok(body)
+    }
+
+    /// Reads the body of a reply.
+    fn read_extent(&mut self, alloc: Global, extent: Extent) -> Result<Vec<u8>, Fault>
+        ensures body { IfOk result (λ body. IfSome (ahead R.remaining self.old) (λ after.
+            (rest : List ℕ) × ReadsExtent self.old.limits extent after body.items rest × (ahead R.remaining self.new ≡ Some rest))) }
+        ensures refused { IfErr result (λ fault. IfSome (ahead R.remaining self.old) (ExtentRefused self.old.limits extent fault)) }
+        ensures limits { self.new.limits ≡ self.old.limits }
+        ensures fault { IfErr result (λ fault. IsTrue (is_of_reading fault)) }
+        ensures cause { Cause ReadFailed (R.failed self.old.source) (R.failed self.new.source) result }
+        ensures none_failed { OnOk result (R.failed self.new.source ≡ R.failed self.old.source) }
+    {
+        match extent {
+            Extent::Framed(framing) => self.read_body(Vec::new(alloc), framing),
+            Extent::UntilEnd => self.read_to_end(alloc),
+        }
+    }
+}
+
+impl<R: Source> Reader<R> {
+    ghost use Rattle.disco_reader.specs.Replies.{TakesReply, ReplyRefused};
+    ghost use Rattle.disco_reader.specs.Streams.{ahead, limits_of, source_of, is_spent};
+
+    /// Reads a reply, refused or not.
+    fn try_reply(&mut self, alloc: Global) -> Result<ReceivedReply, Fault>
+        ensures reply { IfOk result (λ reply. IfSome (ahead R.remaining self.old) (λ stream.
+            (rest : List ℕ) × TakesReply self.old.limits stream reply.head reply.body.items rest × (ahead R.remaining self.new ≡ Some rest))) }
+        ensures refused { IfErr result (λ fault. IfSome (ahead R.remaining self.old) (ReplyRefused self.old.limits fault)) }
+        ensures limits { self.new.limits ≡ self.old.limits }
+        ensures fault { IfErr result (λ fault. IsTrue (is_of_reading fault)) }
+        ensures cause { Cause ReadFailed (R.failed self.old.source) (R.failed self.new.source) result }
+        ensures none_failed { OnOk result (R.failed self.new.source ≡ R.failed self.old.source) }
+    {
+        let head = self.read_reply_head(alloc)?;
+        let body = self.read_extent(alloc, head.extent())?;
+        Ok(ReceivedReply { head, body })
+    }
+
+    /// Reads a reply, its body by length, in chunks or, with neither, up to the end of the input.
+    /// Refused as `BadRequest` (also at an end before its head), `HeadTooLarge`, `BodyTooLarge`,
+    /// `OutOfMemory` or `ReadFailed`; then the reader is spent.
+    pub fn read_reply(&mut self, alloc: Global) -> Result<ReceivedReply, Fault>
+        requires { IsFalse (is_spent self.old) }
+        // What is read is the reply at the front of the stream, and the rest stays ahead.
+        ensures reply { IfOk result (λ reply. IfSome (ahead R.remaining self.old) (λ stream.
+            (rest : List ℕ) × TakesReply (limits_of self.old) stream reply.head reply.body.items rest × (ahead R.remaining self.new ≡ Some rest))) }
+        // A refusal has its cause in the stream.
+        ensures refused { IfErr result (λ fault. IfSome (ahead R.remaining self.old) (ReplyRefused (limits_of self.old) fault)) }
+        ensures limits { limits_of self.new ≡ limits_of self.old }
+        ensures fault { IfErr result (λ fault. IsTrue (is_of_reading fault)) }
+        // A failed read has raised the count of failures.
+        ensures cause { Cause ReadFailed (R.failed (source_of self.old)) (R.failed (source_of self.new)) result }
+        ensures none_failed { OnOk result (R.failed (source_of self.new) ≡ R.failed (source_of self.old)) }
+        ensures spent { is_spent self.new ≡ is_err result }
+    {
+        let result = self.try_reply(alloc);
+        self.spent = result.is_err();
+        result
+    }
+}

@@ -1,0 +1,40 @@
+-- What `replay` reads and writes.
+use Rattle.std.specs.Prelude.{◌≡◌, ◌≢◌, ◌⊎◌, ℕ, List, Option}
+use Rattle.clap.specs.Words.{Text}
+use Rattle.disco_values.specs.declared.fault.Fault.{Fault}
+use Rattle.disco_values.specs.declared.fault.Fault.TheVariants.{OutOfMemory, ReadFailed, WriteFailed}
+use Rattle.disco_core.specs.State.{rules}
+use Rattle.disco_world.specs.Answers.{IsFirstBadEvent}
+use Rattle.disco_world.specs.Telling.{AreTold}
+use Rattle.disco_world.specs.declared.event.Event.{Event}
+use Rattle.disco_core.specs.declared.settings.Settings.{Settings}
+use Rattle.disco_lines.specs.Answers.{answer_line}
+use Rattle.disco_lines.specs.Input.{AreRead, NamesBadLine}
+use Rattle.disco_options.specs.Options.{NamedBy}
+use Rattle.disco_options.specs.declared.verb.Verb.TheVariants.{Replay}
+
+-- the fault names the first event of the whole input that can't be run
+abbrev pub NamesBadEvent : Settings → Option (List ℕ) → Fault → Type 0
+NamesBadEvent settings known fault = (events : List Event) × AreRead known events × IsFirstBadEvent (rules settings) events fault
+
+-- why events may get no answers, or not all
+abbrev pub IsRunFault : Settings → Option (List ℕ) → Fault → Type 0
+IsRunFault settings known fault = (fault ≡ OutOfMemory) ⊎ ((fault ≡ ReadFailed) ⊎ ((fault ≡ WriteFailed) ⊎ (NamesBadLine known fault ⊎ NamesBadEvent settings known fault)))
+
+-- each event of the whole input is answered, and the answer lines are written
+pub record IsAnswered (settings : Settings) (known old new : Option (List ℕ)) : Type 0 where
+  pub events : List Event
+  pub read : AreRead known events
+  pub answered : AreTold (rules settings) events answer_line old new
+
+-- the words are `replay` and options, and the input is answered with the settings that these name
+abbrev pub IsReplayed : List Text → Option (List ℕ) → Option (List ℕ) → Option (List ℕ) → Type 0
+IsReplayed words known old new = (settings : Settings) × NamedBy Replay words settings × IsAnswered settings known old new
+
+-- why a run of these words fails: want of memory, or what the run with their settings fails for
+abbrev pub IsFaultOf : List Text → Option (List ℕ) → Fault → Type 0
+IsFaultOf words known fault = (fault ≡ OutOfMemory) ⊎ ((settings : Settings) × NamedBy Replay words settings × IsRunFault settings known fault)
+
+-- the run failed, and nothing was answered, but where a write failed or memory was wanting
+abbrev pub IsFailed : {W : Type 0} → List Text → Option (List ℕ) → W → W → Type 0
+IsFailed words known old new = (fault : Fault) × IsFaultOf words known fault × (fault ≢ OutOfMemory → fault ≢ WriteFailed → new ≡ old)

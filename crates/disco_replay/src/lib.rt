@@ -1,0 +1,6 @@
+//! The command `replay`: the events of an input are answered on an empty registry.
+#![tactic(auto)]
+
+mod replaying;
+
+pub use replaying::replay;

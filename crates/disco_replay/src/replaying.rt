@@ -1,0 +1,93 @@
+//! The command `replay`.
+ghost use Rattle.std.specs.Prelude.{◌≡◌, ◌≢◌, ◌≤◌, ℕ, List, [], IfErr, OnOk, Some, map, string_bytes};
+ghost use Rattle.std.specs.Io.KnownBytes.{IsAtEnd};
+ghost use Rattle.disco_values.specs.declared.fault.Fault.{Fault};
+ghost use Rattle.disco_values.specs.declared.fault.Fault.TheVariants.{OutOfMemory, WriteFailed};
+ghost use Rattle.disco_options.specs.Faults.{IsStatusAmong};
+ghost use Rattle.disco_lines.specs.Lines.{IsFirstBadLine};
+ghost use Rattle.disco_options.specs.Options.{faults_of};
+ghost use Rattle.disco_replay.specs.Replay.{IsAnswered, IsFailed, IsReplayed, IsRunFault};
+
+use disco_instance::Fault;
+use disco_lines::{answer_events, read_events, write_answers};
+use disco_options::{Verb, read_settings, refused, report};
+use disco_world::{Settings, has_takes, run};
+use std::alloc::Global;
+use std::io::{Read, Write};
+
+/// Answers all events of an input. A take of no earlier document is refused before anything is
+/// written, so the replies are held where an event is a take.
+fn answer<R: Read, W: Write>(
+    alloc: Global,
+    settings: &Settings,
+    reader: &mut R,
+    out: &mut W,
+) -> Result<(), Fault>
+    ensures answered { OnOk result (IsAnswered settings.now (R.remaining reader.old)
+        (W.contents out.old) (W.contents out.new)) }
+    ensures end { OnOk result (IsAtEnd (R.remaining reader.new)) }
+    ensures fault { IfErr result (IsRunFault settings.now (R.remaining reader.old)) }
+    ensures bad_line { (input : List ℕ) (bad : Fault) → R.remaining reader.old ≡ Some input
+        → IsFirstBadLine input bad → out.new ≡ out.old }
+    ensures unwritten { IfErr result (λ e. e ≢ OutOfMemory → e ≢ WriteFailed → out.new ≡ out.old) }
+{
+    let events = read_events(alloc, reader)?;
+    if !has_takes(events.as_slice()) {
+        return answer_events(alloc, settings, events.as_slice(), out);
+    }
+    let replies = run(alloc, settings, events.as_slice())?;
+    write_answers(alloc, replies.as_slice(), out)
+}
+
+/// Runs the program on the words behind its name, and gives its exit status.
+///
+/// `replay` reads all events from `reader`, one a line, and writes an answer line for each to
+/// `out`. The status is 0 where all answers were written, and where help was asked for. It is 2 for
+/// words that are refused, with a message on `errors`. Else it is 1, with the one line
+/// `discovery: fault N` on `errors`; no answer is then written, but for those that went out before
+/// a write failed.
+pub fn replay<R: Read, W: Write, E: Write>(
+    alloc: Global,
+    reader: &mut R,
+    out: &mut W,
+    errors: &mut E,
+    words: &[String],
+) -> u8
+    ensures status { result ≤ 2 }
+
+    // Words with no fault are `replay` with options: 0 says that all is answered, else it is 1.
+    ensures answered { faults_of Verb.Replay (map string_bytes words.now) ≡ [] → result ≡ 0
+        → IsReplayed (map string_bytes words.now) (R.remaining reader.old)
+        (W.contents out.old) (W.contents out.new) }
+    ensures end { faults_of Verb.Replay (map string_bytes words.now) ≡ [] → result ≡ 0
+        → IsAtEnd (R.remaining reader.new) }
+    ensures settled { faults_of Verb.Replay (map string_bytes words.now) ≡ [] → result ≤ 1 }
+
+    // Other words end as what is wrong with them asks.
+    ensures refused { faults_of Verb.Replay (map string_bytes words.now) ≢ []
+        → IsStatusAmong (faults_of Verb.Replay (map string_bytes words.now)) result }
+
+    // Words that are refused or ask for help leave the input as it is, and those that are refused
+    // the output too.
+    ensures unread { faults_of Verb.Replay (map string_bytes words.now) ≢ [] → reader.new ≡ reader.old }
+    ensures unwritten { result ≡ 2 → out.new ≡ out.old }
+
+    // Where a line of the input means nothing, no event is answered.
+    ensures bad_line { faults_of Verb.Replay (map string_bytes words.now) ≡ []
+        → (input : List ℕ) (bad : Fault) → R.remaining reader.old ≡ Some input
+        → IsFirstBadLine input bad → (result ≡ 1) × (out.new ≡ out.old) }
+
+    // Where the run is refused no event is answered, unless memory or a write failed.
+    ensures failed { faults_of Verb.Replay (map string_bytes words.now) ≡ [] → result ≡ 1
+        → IsFailed (map string_bytes words.now) (R.remaining reader.old) out.old out.new }
+
+    ensures silent { result ≡ 0 → errors.new ≡ errors.old }
+{
+    match read_settings(alloc, Verb::Replay, words) {
+        Ok(settings) => match answer(alloc, &settings, reader, out) {
+            Ok(()) => 0,
+            Err(fault) => report(&fault, errors),
+        },
+        Err(error) => refused(&error, out, errors),
+    }
+}

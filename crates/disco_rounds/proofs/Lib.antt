@@ -1,0 +1,2 @@
+pub mod KeySets
+mod NewKeys

@@ -1,0 +1,16 @@
+use Rattle.std.proofs.Common.{List, sym, ap, subst, ◌∙◌, ◌≡◌, arith}
+use Rattle.std.specs.FinMap.{empty, len, len-empty}
+use Rattle.disco_cache.specs.Keys.{doc_cmp}
+use Rattle.disco_cache.specs.declared.key.DocKey.{DocKey}
+use Rattle.disco_rounds.specs.Rounds.{KeySet, kept_keys}
+use Rattle.disco_rounds.specs.Stored.{AreNew, pairs}
+use Rattle.disco_rounds.proofs.round.Round.of.Goals as goal
+
+pub invariant_of-result : goal.invariant_of-result
+invariant_of-result c =
+    let none : kept_keys (pairs c.in_ok-with_capacity.field-0.items) ≡ empty = ap (λ cs. kept_keys (pairs cs)) c.in_ok-with_capacity.ensures.items in (
+      omega (arith, c.in_ok-with_capacity.ensures.len, c.in_ok-with_capacity.ensures.capacity, c.len.ensures),
+      omega arith,
+      sym (ap len none ∙ len-empty doc_cmp (Unit {0})),
+      subst (λ (t : KeySet × List DocKey). AreNew t.0 t.1) (λ i. (sym none i, sym c.in_ok-left.ensures i)) c.requires,
+    )

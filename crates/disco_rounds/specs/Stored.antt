@@ -1,0 +1,39 @@
+-- Rounds as they are stored. Nothing here is to be believed: no public contract rests on it.
+use Rattle.std.specs.Prelude.{◌≡◌, ℕ, Bool, false, List, [], ◌∷◌, map}
+use Rattle.std.specs.Borrow.{Bor}
+use Rattle.std.specs.FinMap.{contains_key, insert}
+use Rattle.disco_history.specs.SortedBy.{AreSortedBy, IsAtBy, IsGapBy, map_by}
+use Rattle.disco_cache.specs.Keys.{doc_cmp}
+use Rattle.disco_cache.specs.declared.key.DocKey.{DocKey}
+use Rattle.disco_rounds.specs.Rounds.{KeySet}
+use Rattle.disco_rounds.specs.declared.round.CopiedKey.{CopiedKey}
+
+abbrev pub pair : CopiedKey → DocKey × Bool
+pair c = (c.key, c.kept)
+
+abbrev pub pairs : List CopiedKey → List (DocKey × Bool)
+pairs cs = map pair cs
+
+abbrev pub key_in : Bor DocKey → DocKey
+key_in k = k.now
+
+abbrev pub mark : Bor DocKey → Unit {0}
+mark k = tt
+
+abbrev pub AreInOrder : List (Bor DocKey) → Type 0
+AreInOrder ks = AreSortedBy doc_cmp key_in mark ks
+
+-- the keys that a list stands for
+abbrev pub seen_keys : List (Bor DocKey) → KeySet
+seen_keys ks = map_by doc_cmp key_in mark ks
+
+abbrev pub IsAt : List (Bor DocKey) → DocKey → ℕ → Type 0
+IsAt ks k i = IsAtBy doc_cmp key_in ks k i
+
+abbrev pub IsGap : List (Bor DocKey) → DocKey → ℕ → Type 0
+IsGap ks k i = IsGapBy doc_cmp key_in ks k i
+
+-- none of these keys is among those, nor a second time among these
+abbrev pub AreNew : KeySet → List DocKey → Type 0
+AreNew ks [] = Unit {0}
+AreNew ks (k ∷ left) = (contains_key ks k ≡ false) × AreNew (insert ks k tt) left

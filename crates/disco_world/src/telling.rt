@@ -1,0 +1,66 @@
+//! Runs whose replies are told as they come, and not held.
+ghost use Rattle.std.specs.Prelude.{◌≡◌, ◌⊎◌, ℕ, List, Option, IfErr, OnOk, false};
+ghost use Rattle.std.specs.Io.KnownBytes.{Appends};
+ghost use Rattle.std.specs.List.{list_any};
+ghost use Rattle.disco_values.specs.declared.fault.Fault.TheVariants.{OutOfMemory, WriteFailed};
+ghost use Rattle.disco_core.specs.State.{rules};
+ghost use Rattle.disco_world.specs.Telling.{AreTold, is_take};
+ghost use Rattle.disco_world.specs.declared.event.Reply.{Reply};
+
+use crate::event::{Event, Reply};
+use crate::levels::Levels;
+use crate::runs::answer_alone;
+use disco_hub::Settings;
+use disco_instance::Fault;
+use std::alloc::Global;
+use std::collections::BTreeMap;
+
+/// Tells replies to an output, one after another.
+pub trait Tell<W> {
+    // What was told so far, where that is known.
+    ghost told: { Self → W → Option (List ℕ) };
+
+    // The bytes that a reply is told as.
+    ghost text: { Reply → List ℕ };
+
+    /// Tells a reply. Refused as `WriteFailed` or `OutOfMemory`.
+    fn tell(&mut self, reply: &Reply, out: &mut W) -> Result<(), Fault>
+        ensures told { OnOk result (Appends (told self.old out.old) (told self.new out.new) (text reply.now)) }
+        ensures fault { IfErr result (λ e. (e ≡ WriteFailed) ⊎ (e ≡ OutOfMemory)) };
+}
+
+fn is_take(event: &Event) -> bool
+    ensures { result ≡ is_take event.now }
+{
+    matches!(event, Event::Take { .. })
+}
+
+/// Whether one of the events gives a client what an earlier one answered.
+pub fn has_takes(events: &[Event]) -> bool
+    ensures { result ≡ list_any is_take events.now }
+{
+    events.iter().any(|event| is_take(event))
+}
+
+/// Runs the events in order from an empty registry as `run` does, and tells each reply as it comes.
+/// No reply is held, so no event may be a take. Refused as the teller refuses, with the replies
+/// before told.
+pub fn run_to<W, T: Tell<W>>(
+    alloc: Global,
+    settings: &Settings,
+    events: &[Event],
+    teller: &mut T,
+    out: &mut W,
+) -> Result<(), Fault>
+    requires { list_any is_take events.now ≡ false }
+    ensures told { OnOk result (AreTold (rules settings.now) events.now T.text (T.told teller.old out.old) (T.told teller.new out.new)) }
+    ensures fault { IfErr result (λ e. (e ≡ WriteFailed) ⊎ (e ≡ OutOfMemory)) }
+{
+    let mut levels = Levels::new(alloc, settings);
+    let clients = BTreeMap::new(alloc);
+    for event in events {
+        let reply = answer_alone(alloc, &mut levels, &clients, event);
+        teller.tell(&reply, out)?;
+    }
+    Ok(())
+}
