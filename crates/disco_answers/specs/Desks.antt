@@ -11,10 +11,10 @@ use Rattle.disco_core.specs.Past.{Past, history}
 use Rattle.disco_hub.specs.Press.{change}
 use Rattle.disco_hub.specs.State.{StandsFor, rules_of}
 use Rattle.disco_press.specs.Desks.{DeskState, IsValid, Notes}
-use Rattle.disco_press.specs.Looks.{Shows}
-use Rattle.disco_press.specs.Rolls.{notes_in}
+use Rattle.disco_editions.specs.Looks.{Shows}
+use Rattle.disco_editions.specs.Rolls.{notes_in}
 use Rattle.disco_press.specs.Seats.{SeatState}
-use Rattle.disco_press.specs.declared.seat.Looked.TheVariants.{Doc}
+use Rattle.disco_editions.specs.declared.looking.Looked.TheVariants.{Doc}
 use Rattle.disco_message.specs.ReplyText.{Answer}
 use Rattle.disco_calls.specs.Calls.{Asks, loads}
 use Rattle.disco_answers.specs.Replies.{IsReply, with_document}

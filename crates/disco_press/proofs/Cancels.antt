@@ -1,17 +1,16 @@
 -- One cancel after another, each noted.
-use Rattle.std.proofs.Common.{◌≡◌, ℕ, ◌+◌, List, [], ◌∷◌, ◌++◌, length, map, Some, None, Result, Ok, Err, IfOk, IfErr, OnErr, OnOk, slice_get, refl, sym, ap, subst, ◌∙◌, append-nil, append_assoc}
+use Rattle.std.proofs.Common.{◌≡◌, ℕ, ◌+◌, List, [], ◌++◌, map, Some, Result, Ok, Err, IfOk, OnOk, slice_get, refl, sym, ap, subst, ◌∙◌, append-nil, append_assoc}
 use Rattle.std.proofs.lemmas.List.{map-append}
 use Rattle.disco_values.specs.declared.fault.Fault.{Fault}
 use Rattle.disco_values.specs.declared.key.Key.{Key}
-use Rattle.disco_history.specs.Change.{Entry}
 use Rattle.disco_registry.specs.Accept.{accepts}
 use Rattle.disco_registry.specs.Commit.{done_by}
 use Rattle.disco_registry.specs.Op.{cancel}
 use Rattle.disco_registry.specs.declared.op.Applied.{Applied}
 use Rattle.disco_core.specs.Past.{Past, history, with_done}
 use Rattle.disco_hub.specs.Expiry.{cancelled}
-use Rattle.disco_hub.specs.Press.{Note, change}
-use Rattle.disco_hub.specs.State.{State, StandsFor, rules_of}
+use Rattle.disco_hub.specs.Press.{change}
+use Rattle.disco_hub.specs.State.{StandsFor, rules_of}
 use Rattle.disco_hub.specs.Steps.{Cancels}
 use Rattle.disco_hub.proofs.Cancels.{Did, at_history, left, says}
 use Rattle.disco_press.specs.Desks.{DeskState, Notes, NotesCancels, NotesNothing, note_done}

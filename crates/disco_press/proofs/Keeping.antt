@@ -1,28 +1,22 @@
 -- What a desk keeps, one call on.
-use Rattle.std.proofs.Common.{◌≡◌, ℕ, ◌+◌, ◌≤◌, List, [], ◌∷◌, ◌++◌, length, map, Option, Some, None, IfSome, slice_get, refl, sym, ap, subst, ◌∙◌, arith, append-nil, length-append}
+use Rattle.std.proofs.Common.{◌≡◌, ℕ, ◌+◌, List, [], ◌∷◌, ◌++◌, length, map, Option, Some, None, IfSome, slice_get, refl, sym, ap, subst, ◌∙◌, arith, append-nil, length-append}
 use Rattle.std.proofs.lemmas.List.{map-append}
-use Rattle.std.specs.FinMap.{empty, get, len}
+use Rattle.std.specs.FinMap.{empty, len}
 use Rattle.disco_history.specs.Change.{Entry}
-use Rattle.disco_cache.specs.declared.key.DocKey.{DocKey}
 use Rattle.disco_registry.specs.Op.{Ask}
 use Rattle.disco_queue.specs.Timed.{Timed}
 use Rattle.disco_core.specs.Past.{Past, history, nothing, with_done}
 use Rattle.disco_hub.specs.Levels.{AreLevels, put_copy}
 use Rattle.disco_hub.specs.Press.{Edition, IsLegal, IsPublishable, Note, begin, change, edition_of, note_of}
-use Rattle.disco_rounds.specs.Rounds.{Advances, Begins, Ends, Rounds, round_keys}
-use Rattle.disco_hub.specs.Shown.{WasTrue}
+use Rattle.disco_rounds.specs.Rounds.{Advances, Begins, Ends, round_keys}
 use Rattle.disco_hub.specs.State.{IsCopied, State, StandsFor, is_doc}
 use Rattle.disco_hub.specs.declared.copied.Copied.{Copied}
-use Rattle.disco_hub.proofs.Levels.{begun_levels, copied_levels, ended_edition, ended_legal, ended_len, ended_levels, ended_publishable, first_levels, first_pressed, plain_levels}
-use Rattle.disco_hub.proofs.Shown.{shown_stands, true_there}
+use Rattle.disco_hub.proofs.Levels.{begun_levels, copied_levels, ended_edition, ended_legal, ended_len, ended_levels, ended_publishable, first_levels, plain_levels}
 use Rattle.disco_press.specs.Desks.{note_done}
-use Rattle.disco_press.specs.Editions.{IsEditionOf}
+use Rattle.disco_editions.specs.Editions.{IsEditionOf}
 use Rattle.disco_press.specs.Keeping.{IsKept}
-use Rattle.disco_press.specs.Looks.{Finds, Shows}
-use Rattle.disco_press.specs.Rolls.{Rolled, notes_in}
-use Rattle.disco_press.specs.declared.seat.Looked.{Looked}
-use Rattle.disco_press.specs.declared.seat.Looked.TheVariants.{Doc, Miss, Shut}
-use Rattle.disco_press.proofs.Publications.{notes_more}
+use Rattle.disco_editions.specs.Rolls.{Rolled, notes_in}
+use Rattle.disco_editions.proofs.Publications.{notes_more}
 
 -- the changes that an operation makes
 abbrev pub changes_done : Option Entry → List Entry
@@ -128,17 +122,3 @@ new_kept printed roll hub next n none none' none'' stands rounds zero = record {
   levels = subst (λ (t : List (List Note) × List Note). AreLevels hub next (notes_in t.0) t.1 nothing) (λ i. (sym none' i, sym none'' i)) (first_levels hub next stands rounds);
   version = version_is hub nothing stands ∙ sym zero;
 }
-
-pub new_edition : (ps : List (List Note)) (docs : Edition) → ps ≡ [] → docs ≡ empty → IsEditionOf ps docs
-new_edition ps docs none fresh =
-    subst (λ (t : List (List Note) × Edition). IsEditionOf t.0 t.1) (λ i. (sym none i, sym fresh i)) (record { docs_are = refl; legal = first_pressed.legal; publishable = refl })
-
--- ---- looks
-
-pub shows : (key : DocKey) (ps : List (List Note)) (docs : Edition) (looked : Looked) → IsEditionOf ps docs → Finds (get docs key) looked → Shows (notes_in ps) key looked
-shows key ps docs Shut is finds = tt
-shows key ps docs Miss is finds = (is.legal, is.publishable, ap (λ (m : Edition). get m key) (sym is.docs_are) ∙ finds)
-shows key ps docs (Doc d) is finds =
-    let there = ap (λ (m : Edition). get m key) (sym is.docs_are) ∙ finds in
-    let stands = shown_stands (notes_in ps) key d.value is.publishable there in
-    (is.legal, is.publishable, there, (stands, true_there (notes_in ps) key d.value is.legal stands))

@@ -1,3 +1,2 @@
 mod Cancels
 mod Keeping
-mod Publications

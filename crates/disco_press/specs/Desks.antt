@@ -4,7 +4,7 @@ use Rattle.disco_history.specs.Change.{Entry}
 use Rattle.disco_core.specs.Past.{Past, history}
 use Rattle.disco_hub.specs.Press.{IsPressed, Note, change}
 use Rattle.disco_hub.specs.State.{State, StandsFor}
-use Rattle.disco_press.specs.Rolls.{notes_in}
+use Rattle.disco_editions.specs.Rolls.{notes_in}
 
 -- what was published, publication by publication, what was noted since, and the hub
 pub record DeskState : Type 0 where

@@ -4,7 +4,7 @@ use Rattle.disco_core.specs.Past.{Past}
 use Rattle.disco_hub.specs.Levels.{AreLevels}
 use Rattle.disco_hub.specs.Press.{Edition, Note}
 use Rattle.disco_hub.specs.State.{State}
-use Rattle.disco_press.specs.Rolls.{Rolled, notes_in}
+use Rattle.disco_editions.specs.Rolls.{Rolled, notes_in}
 
 -- readers take what was published, the hub stands for what was noted, and each change is counted
 pub record IsKept (printed : List (List Note)) (roll : Rolled) (hub : State) (next : Edition) (counted : ℕ) : Type 0 where

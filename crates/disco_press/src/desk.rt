@@ -9,11 +9,9 @@ ghost use Rattle.disco_core.specs.State.{rules};
 ghost use Rattle.disco_hub.specs.State.{MayServe, StandsFor, rules_of};
 ghost use Rattle.disco_press.specs.Desks.{IsValid, NotesNothing};
 
-use crate::front::Naming;
-use crate::printer::Printer;
-use crate::roll::Roll;
 use crate::seat::Seat;
 use disco_cache::{DocKey, Edition, Payload};
+use disco_editions::{Naming, Printer, Roll};
 use disco_hub::{Hub, Minute, Settings};
 use disco_instance::{Fault, Form, Key};
 use std::alloc::Global;

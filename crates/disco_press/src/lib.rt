@@ -1,21 +1,13 @@
-//! Editions that readers take without a lock, and the desk under a lock that publishes them.
+//! A desk under a lock that publishes editions, and the seats that look into them without one.
 #![tactic(auto)]
 
 mod desk;
-mod front;
-mod looking;
-mod mark;
 mod opening;
-mod printer;
-mod roll;
 mod rounds;
 mod seat;
-mod shown;
 mod writing;
 
 pub use desk::Desk;
-pub use disco_cache::Edition;
-pub use front::Naming;
-pub use mark::Mark;
+pub use disco_editions::{Edition, Looked, Mark, Naming};
 pub use opening::{Opening, open};
-pub use seat::{Looked, Seat};
+pub use seat::Seat;

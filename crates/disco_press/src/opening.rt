@@ -7,11 +7,8 @@ ghost use Rattle.disco_hub.specs.State.{StandsFor, rules_of};
 ghost use Rattle.disco_press.specs.Seats.{IsNew};
 
 use crate::desk::Desk;
-use crate::front::Naming;
-use crate::mark::Mark;
-use crate::printer::Printer;
-use crate::roll::Roll;
 use crate::seat::Seat;
+use disco_editions::{Mark, Naming, Printer, Roll};
 use disco_hub::Settings;
 use disco_instance::Fault;
 use scroll::Scroll;
@@ -51,9 +48,9 @@ fn seat_of<J: Naming>(
     ensures rest { IfOk result (λ _. (rest.new.parts + 1 ≡ rest.old.parts) × (rest.new.amount ≡ 0)) }
     ensures seat { IfOk result (λ s. IsNew roll.now.published s) }
 {
-    let reader = printer.reader()?;
+    let window = printer.window(roll.front())?;
     let mine = rest.split_off(1, 0);
-    Ok(Seat::new(reader, roll.front(), mine))
+    Ok(Seat::new(window, mine))
 }
 
 /// So many seats.

@@ -11,10 +11,9 @@ ghost use Rattle.disco_hub.specs.State.{IsCopied, StandsFor, is_doc};
 ghost use Rattle.disco_press.specs.Desks.{Notes, notes_of};
 
 use crate::desk::Desk;
-use crate::front::Naming;
-use crate::shown::Shown;
 use core::mem::replace;
 use disco_cache::Edition;
+use disco_editions::{Naming, Shown};
 use disco_hub::Copied;
 use disco_instance::Fault;
 use std::sync::{Arc, Wait};

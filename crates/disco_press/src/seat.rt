@@ -1,42 +1,20 @@
 //! Seats of readers.
-ghost use Rattle.std.specs.Prelude.{◌≡◌, ◌<◌, ◌≤◌, ◌+◌, ◌^◌, IfSome};
+ghost use Rattle.std.specs.Prelude.{◌≡◌, ◌<◌, ◌≤◌, ◌+◌, ◌^◌};
 ghost use mathlib.Core.List.{IsPrefix};
-ghost use Rattle.std.specs.FinMap.{get};
-ghost use Rattle.disco_press.specs.Looks.{Finds, Shows};
-ghost use Rattle.disco_press.specs.Rolls.{notes_in};
+ghost use Rattle.disco_editions.specs.Looks.{Shows};
+ghost use Rattle.disco_editions.specs.Rolls.{notes_in};
 ghost use Rattle.disco_press.specs.Seats.{IsNew};
 
-use crate::front::{Front, Naming};
-use crate::looking::look_in;
-use crate::shown::{Press, Shown};
-use core::mem::replace_with;
-use disco_cache::{DocKey, Payload};
-use left_right::reader::Reader;
-use std::alloc::Global;
+use disco_cache::DocKey;
+use disco_editions::{Front, Looked, Naming, Window};
 use std::marker::Model;
-use std::sync::Arc;
 use std::sync::ledger::{Book, Share};
-
-/// What a look finds.
-#[derive(Debug, Drop)]
-pub enum Looked {
-    /// The document, shared.
-    Doc(Arc<Payload, Global>),
-    /// The edition has no document of this key.
-    Miss,
-    /// Nothing can be seen now: the desk is closed, or the host refused to share the document. What
-    /// the seat knows is not lost.
-    Shut,
-}
-
-pub(crate) type PressReader<J> = Reader<Shown, (), Press<J>>;
 
 /// The place from which one reader looks into the editions of the desk of this name, and with
 /// which it counts its own changes. It may go to another thread.
 #[derive(Drop)]
 pub struct Seat<J: Naming> {
-    reader: PressReader<J>,
-    known: Front<J>,
+    window: Window<J>,
     mine: Share<J>,
     changes: u64,
 }
@@ -47,19 +25,18 @@ impl<J: Naming> Model for Seat<J> {
 
     ghost Value = { SeatState };
 
-    ghost view = { λ s. record { known = s.known; changes = s.changes } };
+    ghost view = { λ s. record { known = s.window; changes = s.changes } };
 
     ghost invariant = { λ s. (s.mine.amount ≡ s.changes) × (0 < s.mine.parts) };
 }
 
 impl<J: Naming> Seat<J> {
-    pub(crate) fn new(reader: PressReader<J>, known: Front<J>, mine: Share<J>) -> Seat<J>
+    pub(crate) fn new(window: Window<J>, mine: Share<J>) -> Seat<J>
         requires { (0 < mine.parts) × (mine.amount ≡ 0) }
-        ensures { IsNew known result }
+        ensures { IsNew window result }
     {
         Seat {
-            reader,
-            known,
+            window,
             mine,
             changes: 0,
         }
@@ -73,19 +50,7 @@ impl<J: Naming> Seat<J> {
         ensures known { IsPrefix self.old.known self.new.known }
         ensures count { self.new.changes ≡ self.old.changes }
     {
-        let (looked, front) = replace_with(
-            &mut self.reader,
-            key,
-            |reader, key| look_in(reader, key),
-        );
-        let Some(front) = front else {
-            return Looked::Shut;
-        };
-        if !self.known.is_before(&front) {
-            return Looked::Shut;
-        }
-        self.known = front;
-        looked
+        self.window.look(key)
     }
 
     /// How many changes this seat has made. Takes no memory.
@@ -119,13 +84,13 @@ impl<J: Naming> Seat<J> {
     pub(crate) fn known(&self) -> &Front<J>
         ensures { result.now ≡ self.now.known }
     {
-        &self.known
+        self.window.known()
     }
 
     /// From now on this seat knows these publications.
     pub(crate) fn tell(&mut self, known: Front<J>)
         ensures { self.new ≡ record self.old { known = known } }
     {
-        self.known = known;
+        self.window.tell(known);
     }
 }

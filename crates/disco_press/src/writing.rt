@@ -12,8 +12,8 @@ ghost use Rattle.disco_press.specs.Desks.{Notes, NotesCancels, NotesNothing, not
 ghost use Rattle.disco_press.specs.Steps.{CancelsOne};
 
 use crate::desk::Desk;
-use crate::front::Naming;
 use crate::seat::Seat;
+use disco_editions::Naming;
 use disco_hub::Expired;
 use disco_instance::{Fault, Key};
 use disco_registry::{Applied, Op};

@@ -1,6 +1,5 @@
-use Rattle.std.proofs.Common.{◌≡◌, ℕ, zero, suc, ◌+◌, ◌<◌, List, [], ◌∷◌, ◌++◌, All, subst, sym, arith, ap, ◌∙◌}
+use Rattle.std.proofs.Common.{zero, suc, ◌+◌, List, [], ◌∷◌, All, subst, sym, arith, ap, ◌∙◌}
 use Rattle.std.proofs.lemmas.List.Elements.{All-append}
-use Rattle.disco_hub.specs.Press.{Note}
 use Rattle.disco_press.specs.Seats.{IsNew, SeatState}
 use Rattle.disco_press.proofs.opening.seats_of.Goals as goal
 

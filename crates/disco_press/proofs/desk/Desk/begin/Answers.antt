@@ -1,4 +1,3 @@
-use Rattle.std.proofs.Common.{◌∙◌}
 use Rattle.disco_press.proofs.Keeping.{begun_kept}
 use Rattle.disco_press.proofs.desk.Desk.begin.Goals as goal
 

@@ -1,9 +1,9 @@
-use Rattle.std.proofs.Common.{List, ◌≡◌, ◌∙◌, ap, subst, sym}
+use Rattle.std.proofs.Common.{◌∙◌, ap, subst, sym}
 use Rattle.std.specs.FinMap.{len}
 use Rattle.disco_hub.specs.Press.{Edition, edition_of}
 use Rattle.disco_press.specs.Desks.{DeskState, notes_of}
-use Rattle.disco_press.specs.Editions.{IsEditionOf}
-use Rattle.disco_press.specs.Rolls.{Rolled, publications}
+use Rattle.disco_editions.specs.Editions.{IsEditionOf}
+use Rattle.disco_editions.specs.Rolls.{Rolled, publications}
 use Rattle.disco_press.proofs.Keeping.{edition_ended, ended_kept, ended_many}
 use Rattle.disco_press.proofs.desk.Desk.publish.Goals as goal
 

@@ -1,4 +1,4 @@
-use Rattle.std.proofs.Common.{◌+◌, Some, refl, subst, arith}
+use Rattle.std.proofs.Common.{Some, refl, subst, arith}
 use Rattle.disco_history.specs.Change.{seen}
 use Rattle.disco_registry.specs.Commit.{done_by}
 use Rattle.disco_registry.specs.Op.{ask_of}

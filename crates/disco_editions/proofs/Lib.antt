@@ -1,0 +1,2 @@
+pub mod Publications
+mod Shows

@@ -1,0 +1,32 @@
+-- A roll that has gone on begins with what was published before.
+use Rattle.std.proofs.Common.{◌≡◌, List, [], ◌∷◌, ◌++◌, fold, refl, sym, ◌∙◌, ap, subst, append-nil}
+use Rattle.std.proofs.lemmas.List.Sums.{fold-append}
+use Rattle.std.proofs.lemmas.List.Concat.{flat_map-append}
+use mathlib.Core.List.{IsPrefix}
+use base.Growing.{prefix_refl, prefix_trans}
+use Rattle.disco_history.specs.Change.{seen}
+use Rattle.disco_hub.specs.Press.{Note, begin, change, note_of}
+use Rattle.disco_editions.specs.declared.mark.Mark.{Mark}
+use Rattle.disco_editions.specs.declared.mark.Mark.TheVariants.{Begun, Changed, Copied, Published}
+use Rattle.disco_editions.specs.Rolls.{Rolled, notes_in, publications, roll_on, rolled, with_note}
+
+pub rolled_more : (marks : List Mark) (m : Mark) → rolled (marks ++ m ∷ []) ≡ roll_on (rolled marks) m
+rolled_more marks m = fold-append roll_on (record { published = []; pending = [] }) marks (m ∷ [])
+
+goes_on : (r : Rolled) (more : List Mark) → IsPrefix r.published (fold roll_on r more).published
+goes_on r [] = prefix_refl r.published
+goes_on r (Begun ∷ more) = goes_on (with_note r begin) more
+goes_on r (Changed c ∷ more) = goes_on (with_note r (change (seen c))) more
+goes_on r (Copied c ∷ more) = goes_on (with_note r (note_of c)) more
+goes_on r (Published ∷ more) =
+    let s : Rolled = record { published = r.published ++ r.pending ∷ []; pending = [] } in
+    prefix_trans r.published s.published (fold roll_on s more).published (r.pending ∷ [], refl) (goes_on s more)
+
+pub begins_too : (xs ys : List Mark) → IsPrefix xs ys → IsPrefix (publications xs) (publications ys)
+begins_too xs ys p =
+    let e : rolled ys ≡ fold roll_on (rolled xs) p.0 = ap rolled (sym p.1) ∙ fold-append roll_on (record { published = []; pending = [] }) xs p.0 in
+    subst (λ (r : Rolled). IsPrefix (publications xs) r.published) (sym e) (goes_on (rolled xs) p.0)
+
+-- one publication more
+pub notes_more : (ps : List (List Note)) (p : List Note) → notes_in (ps ++ p ∷ []) ≡ notes_in ps ++ p
+notes_more ps p = flat_map-append (λ (q : List Note). q) ps (p ∷ []) ∙ ap (λ q. notes_in ps ++ q) (append-nil p)

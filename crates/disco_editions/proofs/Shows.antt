@@ -1,0 +1,24 @@
+-- Looks into an edition.
+use Rattle.std.proofs.Common.{◌≡◌, List, [], refl, sym, ap, subst, ◌∙◌}
+use Rattle.std.specs.FinMap.{empty, get}
+use Rattle.disco_cache.specs.declared.key.DocKey.{DocKey}
+use Rattle.disco_hub.specs.Press.{Edition, Note}
+use Rattle.disco_hub.proofs.Levels.{first_pressed}
+use Rattle.disco_hub.proofs.Shown.{shown_stands, true_there}
+use Rattle.disco_editions.specs.Editions.{IsEditionOf}
+use Rattle.disco_editions.specs.Looks.{Finds, Shows}
+use Rattle.disco_editions.specs.Rolls.{notes_in}
+use Rattle.disco_editions.specs.declared.looking.Looked.{Looked}
+use Rattle.disco_editions.specs.declared.looking.Looked.TheVariants.{Doc, Miss, Shut}
+
+pub new_edition : (ps : List (List Note)) (docs : Edition) → ps ≡ [] → docs ≡ empty → IsEditionOf ps docs
+new_edition ps docs none fresh =
+    subst (λ (t : List (List Note) × Edition). IsEditionOf t.0 t.1) (λ i. (sym none i, sym fresh i)) (record { docs_are = refl; legal = first_pressed.legal; publishable = refl })
+
+pub shows : (key : DocKey) (ps : List (List Note)) (docs : Edition) (looked : Looked) → IsEditionOf ps docs → Finds (get docs key) looked → Shows (notes_in ps) key looked
+shows key ps docs Shut is finds = tt
+shows key ps docs Miss is finds = (is.legal, is.publishable, ap (λ (m : Edition). get m key) (sym is.docs_are) ∙ finds)
+shows key ps docs (Doc d) is finds =
+    let there = ap (λ (m : Edition). get m key) (sym is.docs_are) ∙ finds in
+    let stands = shown_stands (notes_in ps) key d.value is.publishable there in
+    (is.legal, is.publishable, there, (stands, true_there (notes_in ps) key d.value is.legal stands))

@@ -1,0 +1,15 @@
+-- What readers take: the rule that each step of readers and writer keeps, and that a publish has to show.
+use Rattle.std.specs.Prelude.{◌≡◌, ℕ, List}
+use Rattle.disco_hub.specs.Press.{Edition, IsLegal, IsPublishable, Note, edition_of}
+use Rattle.disco_editions.specs.Rolls.{notes_in, publications}
+use Rattle.disco_editions.specs.declared.shown.Shown.{Shown}
+
+-- the documents are the edition of these publications, which are legal and may be seen
+pub record IsEditionOf (ps : List (List Note)) (docs : Edition) : Type 0 where
+  pub docs_are : docs ≡ edition_of (notes_in ps)
+  pub legal : IsLegal (notes_in ps)
+  pub publishable : IsPublishable (notes_in ps)
+
+-- they are those of publications of the desk of this name
+abbrev pub IsShown : ℕ → Shown → Type 0
+IsShown name x = (x.page.leaf.name ≡ name) × IsEditionOf (publications x.page.leaf.items) x.docs

@@ -1,0 +1,3 @@
+pub mod Editions
+pub mod Looks
+pub mod Rolls

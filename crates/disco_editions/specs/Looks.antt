@@ -1,0 +1,21 @@
+-- What a look finds.
+use Rattle.std.specs.Prelude.{◌≡◌, List, Option, Some, None}
+use Rattle.std.specs.FinMap.{get}
+use Rattle.disco_cache.specs.declared.key.DocKey.{DocKey}
+use Rattle.disco_cache.specs.declared.payload.Payload.{Payload}
+use Rattle.disco_hub.specs.Press.{IsLegal, IsPublishable, Note, edition_of}
+use Rattle.disco_hub.specs.Shown.{WasTrue}
+use Rattle.disco_editions.specs.declared.looking.Looked.{Looked}
+use Rattle.disco_editions.specs.declared.looking.Looked.TheVariants.{Doc, Miss, Shut}
+
+-- what an edition has at a key is found, unless the look is shut
+abbrev pub Finds : Option Payload → Looked → Type 0
+Finds o (Doc d) = o ≡ Some d.value
+Finds o Miss = o ≡ None
+Finds o Shut = Unit {0}
+
+-- what a look that is not shut shows of what was published: it is legal, readers may see it, the answer is its edition's, and a document was true when it was noted, behind the beginning of the last round
+abbrev pub Shows : List Note → DocKey → Looked → Type 0
+Shows l k Shut = Unit {0}
+Shows l k Miss = IsLegal l × IsPublishable l × (get (edition_of l) k ≡ None)
+Shows l k (Doc d) = IsLegal l × IsPublishable l × (get (edition_of l) k ≡ Some d.value) × WasTrue l k d.value
