@@ -92,19 +92,19 @@ abbrev pub HasPlacesFor : VipKeys → Leases → Option Entry → Type 0
 HasPlacesFor v l None = Unit {0}
 HasPlacesFor v l (Some c) = HasVipPlaces v (put_of c) × HasPlace l (key_of c)
 
--- there is room for a change in the queue, if there is one
+-- there is room for a change in the queue, and a place for its number, if there is one
 abbrev pub HasRoomFor : Queue → Option Entry → Type 0
 HasRoomFor q None = Unit {0}
-HasRoomFor q (Some c) = HasRoom q
+HasRoomFor q (Some c) = HasRoom q × queue.HasPlace (key_of c) q
 
 -- no place of what a change found, and none of its key's lease, stands empty after it, if there is one
 abbrev pub IsSweptAfter : FinMap key_cmp Entry → Option Entry → VipKeys → Leases → Type 0
 IsSweptAfter held None v l = Unit {0}
 IsSweptAfter held (Some c) v l = IsSwept v (get held (key_of c)) × IsFilled (key_of c) l
 
--- there is no place of a vip or a lease that was not there
-abbrev pub AddsNoPlaces : VipKeys → Leases → VipKeys → Leases → Type 0
-AddsNoPlaces v l w m = vips.KeepsPlaces w v × leases.KeepsPlaces m l
+-- there is no place of a vip, a lease or a recent change that was not there
+abbrev pub AddsNoPlaces : State → State → Type 0
+AddsNoPlaces old new = vips.KeepsPlaces new.vips old.vips × leases.KeepsPlaces new.leases old.leases × (new.queue.places ≡ old.queue.places)
 
 -- the change that is ready, if there is one
 abbrev pub change_in : Ready → Option Entry

@@ -114,11 +114,12 @@ fn open_all(
     ensures queue { recent.IsSameQueue queue.old queue.new }
     ensures places { OnOk result (HasPlacesFor index.new book.new (Some (seen change.now))) }
     ensures room { OnOk result (HasRoomFor queue.new (Some (seen change.now))) }
+    ensures given_back { OnErr result (queue.new.places ≡ queue.old.places) }
     ensures memory { IfErr result (λ e. e ≡ OutOfMemory) }
 {
     vips::open(index, change)?;
     book.ready(change.key())?;
-    queue.ready()
+    queue.ready(change.key())
 }
 
 /// Gives back the places of a change that stand empty.
@@ -148,7 +149,7 @@ fn open_places(
     ensures places { OnOk result (HasPlacesFor index.new book.new (option_map (λ c. seen c.now) change.entry)) }
     ensures room { OnOk result (HasRoomFor queue.new (option_map (λ c. seen c.now) change.entry)) }
     ensures memory { IfErr result (λ e. e ≡ OutOfMemory) }
-    ensures given_back { OnErr result (AddsNoPlaces index.old book.old index.new book.new) }
+    ensures given_back { OnErr result (vip.KeepsPlaces index.new index.old × lease.KeepsPlaces book.new book.old × (queue.new.places ≡ queue.old.places)) }
 {
     let Some(change) = change else {
         return Ok(());
@@ -229,15 +230,15 @@ impl Core {
     }
 
     /// Makes every growth that an operation at a moment in milliseconds needs, and changes no
-    /// answer. Refused as the operation is, and as `OutOfMemory`, and then no place of a vip or a
-    /// lease stays that was not there.
+    /// answer. Refused as the operation is, and as `OutOfMemory`, and then no place of a vip, a lease
+    /// or a recent change stays that was not there.
     pub fn ready(&mut self, op: Op, now: u64) -> Result<Ready, Fault>
         ensures same { IsSameCore self.old self.new }
         ensures ready { IfOk result (λ r. accepts self.old.registry (ask_of op) now ≡ Ok (change_in r) × IsReady self.new r) }
         ensures moment { IfOk result (λ r. moment_in r ≡ now) }
         ensures asked { IfOk result (λ r. IsFor self.new r (ask_of op)) }
         ensures refused { IfErr result (Refuses self.old.registry (ask_of op) now) }
-        ensures given_back { OnErr result (AddsNoPlaces self.old.vips self.old.leases self.new.vips self.new.leases) }
+        ensures given_back { OnErr result (AddsNoPlaces self.old self.new) }
     {
         let step = step_of(&op);
         let key = op.key().clone()?;

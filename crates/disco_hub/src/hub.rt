@@ -82,7 +82,7 @@ impl Hub {
         ensures moment { IfOk result (λ r. moment_in r ≡ now) }
         ensures asked { IfOk result (λ r. IsFor self.new.core r (ask_of op)) }
         ensures refused { IfErr result (Refuses self.old.core.registry (ask_of op) now) }
-        ensures given_back { OnErr result (AddsNoPlaces self.old.core.vips self.old.core.leases self.new.core.vips self.new.core.leases) }
+        ensures given_back { OnErr result (AddsNoPlaces self.old.core self.new.core) }
     {
         self.core.ready(op, now)
     }
@@ -117,7 +117,7 @@ impl Hub {
         ensures history { IfOk result (λ a. (p : Past) → StandsFor self.old p → StandsFor self.new (with_done (rules_of self.old).queue p now (ask_of op) (done_by a))) }
         ensures refused_history { OnErr result ((p : Past) → StandsFor self.old p → StandsFor self.new p) }
         ensures swept { IfOk result (λ a. IsSweptAfter self.old.core.registry.held (done_by a) self.new.core.vips self.new.core.leases) }
-        ensures given_back { OnErr result (AddsNoPlaces self.old.core.vips self.old.core.leases self.new.core.vips self.new.core.leases) }
+        ensures given_back { OnErr result (AddsNoPlaces self.old.core self.new.core) }
     {
         let ready = self.ready(op, now)?;
         Ok(self.commit(ready))

@@ -31,7 +31,7 @@ impl<J: Naming> Desk<J> {
         ensures history { IfOk result (λ a. (p : Past) → StandsFor self.old.hub p → StandsFor self.new.hub (with_done (rules_of self.old.hub).queue p now (ask_of op) (done_by a))) }
         ensures refused_history { OnErr result ((p : Past) → StandsFor self.old.hub p → StandsFor self.new.hub p) }
         ensures swept { IfOk result (λ a. IsSweptAfter self.old.hub.core.registry.held (done_by a) self.new.hub.core.vips self.new.hub.core.leases) }
-        ensures given_back { OnErr result (AddsNoPlaces self.old.hub.core.vips self.old.hub.core.leases self.new.hub.core.vips self.new.hub.core.leases) }
+        ensures given_back { OnErr result (AddsNoPlaces self.old.hub.core self.new.hub.core) }
         ensures noted { IfOk result (λ a. Notes (note_done (done_by a)) self.old self.new) }
         ensures not_noted { OnErr result (NotesNothing self.old self.new) }
     {
@@ -58,7 +58,7 @@ impl<J: Naming> Desk<J> {
         ensures history { IfOk result (λ a. (p : Past) → StandsFor self.old.hub p → StandsFor self.new.hub (with_done (rules_of self.old.hub).queue p now (ask_of op) (done_by a))) }
         ensures refused_history { OnErr result ((p : Past) → StandsFor self.old.hub p → StandsFor self.new.hub p) }
         ensures swept { IfOk result (λ a. IsSweptAfter self.old.hub.core.registry.held (done_by a) self.new.hub.core.vips self.new.hub.core.leases) }
-        ensures given_back { OnErr result (AddsNoPlaces self.old.hub.core.vips self.old.hub.core.leases self.new.hub.core.vips self.new.hub.core.leases) }
+        ensures given_back { OnErr result (AddsNoPlaces self.old.hub.core self.new.hub.core) }
         ensures noted { IfOk result (λ a. Notes (note_done (done_by a)) self.old self.new) }
         ensures not_noted { OnErr result (NotesNothing self.old self.new) }
         ensures count { IfOk result (λ a. seat.new ≡ record seat.old { changes = seat.old.changes + length (note_done (done_by a)) }) }

@@ -1,3 +1,6 @@
 mod Fronts
 mod Histories
 mod LastChanges
+mod Numbering
+mod Places
+mod Walks

@@ -1,11 +1,11 @@
 //! The last change of each key.
-ghost use Rattle.std.specs.Prelude.{◌≡◌, IfOk, map, true};
-ghost use Rattle.std.specs.BTreeMap as tree;
-ghost use Rattle.std.specs.FinMap.{entries, values};
-ghost use Rattle.std.specs.List.{All};
+ghost use Rattle.std.specs.Prelude.{◌≡◌, IfOk, IfSome, map, option_map, true};
+ghost use Rattle.std.specs.BTreeMap.{IsOrdered};
+ghost use Rattle.std.specs.List.{All, filter_map};
+ghost use Rattle.disco_values.specs.Key.{key_cmp};
 ghost use Rattle.disco_history.specs.Change.{is_proper, seen};
-ghost use Rattle.disco_history.specs.Mentions.{delta};
-ghost use Rattle.disco_queue.specs.Seen.{change_of, pair_of};
+ghost use Rattle.disco_queue.specs.Numbers.{numbered};
+ghost use Rattle.disco_queue.specs.Seen.{change_of};
 
 use crate::kept::Kept;
 use disco_history::Change;
@@ -13,33 +13,36 @@ use disco_instance::Key;
 use std::alloc::{AllocError, Global};
 use std::collections::{BTreeMap, VecDeque};
 
-fn by_key(changes: &VecDeque<Kept>, alloc: Global) -> Result<BTreeMap<&Key, &Change>, AllocError>
-    ensures last { IfOk result (λ found. map pair_of found.entries ≡ entries (delta (map change_of changes.now.items) 0)) }
-    ensures proper { IfOk result (λ found. All (λ c. is_proper c.now ≡ true) (tree.values found)) }
+/// The kept change of a number, of changes that so many others come before.
+fn numbered(kept: &VecDeque<Kept>, before: u64, number: u64) -> Option<&Change>
+    ensures change { option_map (λ c. seen c.now) result ≡ numbered before (map change_of kept.now.items) number }
+    ensures proper { IfSome result (λ c. is_proper c.now ≡ true) }
 {
-    let mut latest = BTreeMap::new(alloc);
-    for kept in changes {
-        latest.insert(kept.change.key(), &kept.change)?;
+    if number <= before {
+        return None;
     }
-    Ok(latest)
+    match kept.get((number - before - 1) as usize) {
+        Some(kept) => Some(&kept.change),
+        None => None,
+    }
 }
 
-fn in_order<'a>(
-    latest: BTreeMap<&'a Key, &'a Change>,
+/// The kept changes of the numbers that stand in places, in the order of their keys.
+pub(crate) fn numbered_in<'a>(
+    places: &BTreeMap<Key, u64>,
+    kept: &'a VecDeque<Kept>,
+    before: u64,
     alloc: Global,
 ) -> Result<Vec<&'a Change>, AllocError>
-    ensures { IfOk result (λ found. found.items ≡ tree.values latest.entry) }
-{
-    latest.into_values().collect(alloc)
-}
-
-/// The last change of each key, in the order of the keys. A search tree of the keys finds them.
-pub(crate) fn last_of_each(
-    changes: &VecDeque<Kept>,
-    alloc: Global,
-) -> Result<Vec<&Change>, AllocError>
-    ensures last { IfOk result (λ found. map (λ c. seen c.now) found.items ≡ values (delta (map change_of changes.now.items) 0)) }
+    ensures changes { IfOk result (λ found. map (λ c. seen c.now) found.items ≡ filter_map (λ e. numbered before (map change_of kept.now.items) e.1) places.now.entries) }
     ensures proper { IfOk result (λ found. All (λ c. is_proper c.now ≡ true) found.items) }
+    ensures ordered { IsOrdered key_cmp places.now }
 {
-    in_order(by_key(changes, alloc)?, alloc)
+    let mut found = Vec::new(alloc);
+    for (_, number) in places {
+        if let Some(change) = numbered(kept, before, *number) {
+            found.push(change)?;
+        }
+    }
+    Ok(found)
 }

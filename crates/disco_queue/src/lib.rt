@@ -7,6 +7,7 @@
 mod kept;
 mod latest;
 pub mod laws;
+mod numbers;
 mod queue;
 
 pub use queue::ChangedQueue;

@@ -2,18 +2,21 @@
 ghost use Rattle.std.specs.Prelude.{◌≡◌, ℕ, ◌+◌, ◌-◌, ◌^◌, ◌<◌, ◌≤◌, List, [], ◌∷◌, ◌++◌, IfErr, IfOk, OnErr, OnOk, drop, length, map, true, nat_le, nat_lt};
 ghost use Rattle.std.specs.FinMap.{values};
 ghost use Rattle.std.specs.List.{All};
+ghost use Rattle.std.specs.VecDeque.{deque_capacity, deque_len};
 ghost use Rattle.disco_values.specs.declared.fault.Fault.TheVariants.{OutOfMemory};
-ghost use Rattle.disco_history.specs.Change.{is_proper, seen};
+ghost use Rattle.disco_history.specs.Change.{Entry, is_proper, key_of, seen};
 ghost use Rattle.disco_history.specs.Mentions.{delta};
+ghost use Rattle.disco_queue.specs.Numbers.{AreNumbered};
+ghost use Rattle.disco_queue.specs.Seen.{change_of};
 ghost use Rattle.disco_queue.specs.Base.{base_after_change, base_after_cleaning, first_before, leaving};
-ghost use Rattle.disco_queue.specs.Queue.{HasRoom, IsSameQueue, Keeps, newest, version};
+ghost use Rattle.disco_queue.specs.Queue.{HasPlace, HasRoom, IsSameQueue, Keeps, newest, version};
 ghost use Rattle.disco_queue.specs.Timed.{Timed, changes};
 
 use crate::kept::Kept;
-use crate::latest::last_of_each;
+use crate::numbers::Numbers;
 use disco_history::Change;
-use disco_instance::Fault;
-use std::alloc::Global;
+use disco_instance::{Fault, Key};
+use std::alloc::{AllocError, Global};
 use std::collections::VecDeque;
 use std::marker::Model;
 
@@ -24,19 +27,42 @@ pub struct ChangedQueue {
     max: u64,
     base: u64,
     kept: VecDeque<Kept>,
+    /// Of each kept key the number of its last change, so that a delta reads no earlier one.
+    numbers: Numbers,
 }
 
 impl Model for ChangedQueue {
     ghost use Rattle.std.specs.Prelude.{◌-◌, map};
+    ghost use Rattle.std.specs.Coded.{codes};
+    ghost use Rattle.std.specs.FinMap.{code};
     ghost use Rattle.std.specs.VecDeque.{deque_capacity, deque_len};
+    ghost use Rattle.disco_queue.specs.Numbers.{AreNumbered};
     ghost use Rattle.disco_queue.specs.Queue.{IsWithin, Queue};
-    ghost use Rattle.disco_queue.specs.Seen.{timed};
+    ghost use Rattle.disco_queue.specs.Seen.{change_of, timed};
 
     ghost Value = { Queue };
 
-    ghost view = { λ q. record { max = q.max; base = q.base; kept = map timed q.kept.items; room = deque_capacity q.kept - deque_len q.kept } };
+    ghost coded = { Prim.hlevel (codes, code) };
 
-    ghost invariant = { λ q. IsWithin q.max q.base (deque_len q.kept) };
+    ghost view = { λ q. record { max = q.max; base = q.base; kept = map timed q.kept.items; room = deque_capacity q.kept - deque_len q.kept; places = q.numbers } };
+
+    ghost invariant = { λ q. IsWithin q.max q.base (deque_len q.kept) × AreNumbered q.numbers q.base (map change_of q.kept.items) };
+}
+
+/// The oldest change leaves, and the place of its key where it is the key's last.
+fn drop_front(kept: &mut VecDeque<Kept>, base: &mut u64, numbers: &mut Numbers)
+    requires some { 0 < deque_len kept.old }
+    requires fits { base.old + 1 < 2 ^ 64 }
+    ensures kept { kept.new.items ≡ drop 1 kept.old.items }
+    ensures len { deque_len kept.new + 1 ≡ deque_len kept.old }
+    ensures capacity { deque_capacity kept.new ≡ deque_capacity kept.old }
+    ensures base { base.new ≡ base.old + 1 }
+    ensures numbers { (es : List Entry) → AreNumbered numbers.old base.old (map change_of kept.old.items ++ es) → AreNumbered numbers.new base.new (map change_of kept.new.items ++ es) }
+{
+    if let Some(oldest) = kept.pop_front() {
+        *base += 1;
+        numbers.close(oldest.change.key(), *base);
+    }
 }
 
 impl ChangedQueue {
@@ -52,6 +78,7 @@ impl ChangedQueue {
             max,
             base: 0,
             kept: VecDeque::new(alloc),
+            numbers: Numbers::new(alloc),
         }
     }
 
@@ -78,25 +105,28 @@ impl ChangedQueue {
         self.base + self.kept.len() as u64
     }
 
-    /// Makes room for one more change, where the queue is not full. Shows in nothing but the room.
-    /// Refused only as `OutOfMemory`, and only where there is no room already.
-    pub fn ready(&mut self) -> Result<(), Fault>
+    /// Makes room for one more change, which is of this key, where the queue is not full, and a place
+    /// for the key. No answer shows either. Refused only as `OutOfMemory`, and only where room or
+    /// place isn't there already; then no place is made.
+    pub fn ready(&mut self, key: &Key) -> Result<(), Fault>
         ensures same { IsSameQueue self.old self.new }
         ensures history { (h : List Timed) → Keeps self.old h → Keeps self.new h }
         ensures room { OnOk result (HasRoom self.new) }
-        ensures needed { OnErr result (HasRoom self.old → ⊥) }
+        ensures place { OnOk result (HasPlace key.now self.new) }
+        ensures needed { OnErr result (HasRoom self.old → HasPlace key.now self.old → ⊥) }
+        ensures given_back { OnErr result (self.new.places ≡ self.old.places) }
         ensures memory { IfErr result (λ e. e ≡ OutOfMemory) }
     {
-        if !self.is_full() {
-            self.kept.reserve(1)?;
-        }
+        self.make_room()?;
+        self.numbers.open(key)?;
         Ok(())
     }
 
     /// The change comes last, with its moment `now`, in milliseconds. Where the queue is full, the
-    /// oldest change leaves. Takes no memory: the room is there after `ready`.
+    /// oldest change leaves. Takes no memory: room and place are there after `ready`.
     pub fn push(&mut self, change: Change, now: u64)
         requires room { HasRoom self.old }
+        requires place { HasPlace (key_of (seen change)) self.old }
         requires version { version self.old < 2 ^ 64 - 1 }
         requires proper { is_proper change ≡ true }
         ensures max { self.new.max ≡ self.old.max }
@@ -106,8 +136,11 @@ impl ChangedQueue {
         ensures history { (h : List Timed) → Keeps self.old h → Keeps self.new (h ++ (seen change, now) ∷ []) }
         ensures history_base { (h : List Timed) → Keeps self.old h → self.new.base ≡ base_after_change self.old.max self.old.base (length (h ++ (seen change, now) ∷ [])) }
     {
-        if self.is_full() {
-            self.drop_oldest();
+        let number = self.version() + 1;
+        let is_full = self.is_full();
+        self.numbers.put(change.key(), number);
+        if is_full {
+            drop_front(&mut self.kept, &mut self.base, &mut self.numbers);
         }
         self.kept.push_back_reserved(Kept {
             change,
@@ -143,7 +176,19 @@ impl ChangedQueue {
         ensures proper { IfOk result (λ found. All (λ c. is_proper c.now ≡ true) found.items) }
         ensures memory { IfErr result (λ e. e ≡ OutOfMemory) }
     {
-        Ok(last_of_each(&self.kept, alloc)?)
+        Ok(self.numbers.last_changes(&self.kept, self.base, alloc)?)
+    }
+
+    /// Makes room for one more change, where the queue is not full.
+    fn make_room(&mut self) -> Result<(), AllocError>
+        ensures same { self.new ≡ record self.old { room = self.new.room } }
+        ensures room { OnOk result (HasRoom self.new) }
+        ensures needed { OnErr result (HasRoom self.old → ⊥) }
+    {
+        if self.is_full() {
+            return Ok(());
+        }
+        self.kept.reserve(1)
     }
 
     fn is_full(&self) -> bool
@@ -170,8 +215,7 @@ impl ChangedQueue {
         ensures kept { self.new.kept ≡ drop 1 self.old.kept }
         ensures room { self.new.room ≡ self.old.room + 1 }
     {
-        self.kept.pop_front();
-        self.base += 1;
+        drop_front(&mut self.kept, &mut self.base, &mut self.numbers);
     }
 
     /// Drops the changes before the first whose moment is not below the bound.

@@ -1,5 +1,7 @@
-use Rattle.std.proofs.Common.{refl, subst}
-use Rattle.disco_core.specs.State.{AddsNoPlaces, State}
+use Rattle.std.proofs.Common.{◌≡◌, refl, subst}
+use Rattle.disco_index.specs.Vips as vips
+use Rattle.disco_lease.specs.Leases as leases
+use Rattle.disco_core.specs.State.{State}
 use Rattle.disco_core.proofs.Marks.{on_err}
 use Rattle.disco_core.proofs.Ties.{same_from, tied_same}
 use Rattle.disco_core.proofs.registered.Core.ready.Goals as goal
@@ -38,4 +40,4 @@ pub returns-in_err-open_places-clause-given_back :
     goal.returns-in_err-open_places-clause-given_back
 returns-in_err-open_places-clause-given_back c =
     on_err c.from_residual-in_err-open_places.result _
-    (subst (λ (s : State). AddsNoPlaces s.vips s.leases c.open_places.new.index c.open_places.new.book) c.self.view_is c.in_err-open_places.ensures.given_back)
+    (subst (λ (s : State). vips.KeepsPlaces c.open_places.new.index s.vips × leases.KeepsPlaces c.open_places.new.book s.leases × (c.open_places.new.queue.places ≡ s.queue.places)) c.self.view_is c.in_err-open_places.ensures.given_back)

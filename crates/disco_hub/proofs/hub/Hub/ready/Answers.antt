@@ -4,4 +4,4 @@ use Rattle.disco_hub.specs.State.{State}
 use Rattle.disco_hub.proofs.hub.Hub.ready.Goals as goal
 
 pub returns-clause-given_back : goal.returns-clause-given_back
-returns-clause-given_back c = subst (λ (s : State). OnErr c.ready.result (AddsNoPlaces s.core.vips s.core.leases c.ready.new.self.vips c.ready.new.self.leases)) c.self.view_is c.ready.ensures.given_back
+returns-clause-given_back c = subst (λ (s : State). OnErr c.ready.result (AddsNoPlaces s.core c.ready.new.self)) c.self.view_is c.ready.ensures.given_back

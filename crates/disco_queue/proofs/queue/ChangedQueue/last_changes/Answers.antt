@@ -9,13 +9,13 @@ use Rattle.disco_queue.proofs.queue.ChangedQueue.last_changes.Goals as goal
 
 pub returns-clause-kept : goal.returns-clause-kept
 returns-clause-kept c =
-    c.in_ok-last_of_each.ensures.last
+    c.in_ok-last_changes.ensures.last c.self.invariant.1
     ∙ ap (λ (es : List Entry). values (delta es 0)) (sym (seen_changes c.self.inside.kept.items))
     ∙ ap (λ (q : Queue). values (delta (changes q.kept) 0)) c.self.view_is
 
 pub returns-clause-history : goal.returns-clause-history
 returns-clause-history c h keeps =
-    c.in_ok-last_of_each.ensures.last
+    c.in_ok-last_changes.ensures.last c.self.invariant.1
     ∙ ap (λ (es : List Entry). values (delta es 0)) (sym (seen_changes c.self.inside.kept.items))
     ∙ ap (λ (q : Queue). values (delta (changes q.kept) 0)) c.self.view_is
     ∙ ap (λ d. values d) (delta_from h c.args.self.now.kept c.args.self.now.base keeps.contents)

@@ -1,24 +1,54 @@
-use Rattle.std.proofs.Common.{◌≤◌, [], ◌∷◌, ◌++◌, length, map, sym, ap, subst, ◌∙◌, arith}
-use borrow.Author.Tests.{leb-true}
-use Rattle.std.proofs.lemmas.List.{map-append}
-use Rattle.disco_history.specs.Change.{seen}
-use Rattle.disco_queue.specs.Queue.{Keeps, Queue}
-use Rattle.disco_queue.specs.Seen.{timed}
+use Rattle.std.proofs.Common.{◌≡◌, ◌≤◌, ◌<◌, ◌+◌, List, [], ◌∷◌, ◌++◌, length, map, IsSome, refl, sym, ap, subst, ◌∙◌, arith}
+use Rattle.std.specs.FinMap.{get}
+use Rattle.std.specs.VecDeque.{deque_len}
+use borrow.Author.Tests.{leb-true, leb-false}
+use Rattle.std.proofs.lemmas.List.{drop-map, length-map, map-append}
+use Rattle.disco_values.specs.declared.key.Key.{Key}
+use Rattle.disco_history.specs.Change.{Entry, key_of, seen}
+use Rattle.disco_queue.specs.Numbers.{AltersAt, AreNumbered, written}
+use Rattle.disco_queue.specs.Queue.{Keeps, Queue, version}
+use Rattle.disco_queue.specs.Seen.{change_of, timed}
+use Rattle.disco_queue.specs.contracts.queue.ChangedQueue.{the_view}
 use Rattle.disco_queue.proofs.Histories.{keeps_dropped, keeps_pushed}
+use Rattle.disco_queue.proofs.Numbering.{number_written}
 use Rattle.disco_queue.proofs.queue.ChangedQueue.push.Goals as goal
 use Rattle.disco_queue.proofs.queue.ChangedQueue.push.Goals.{then-is_full, else-is_full}
 
+pub invariant_of-self : goal.invariant_of-self
+invariant_of-self c =
+    let i = c.self.inside in
+    let j = c.if-is_full.self-inside in
+    let x = seen c.args.change in
+    let here = map change_of i.kept.items in
+    let number : c.version-number.result + 1 ≡ i.base + length here + 1 =
+    omega (arith, c.version-number.ensures.sum, ap version c.self.view_is, length-map i.kept.items change_of, length-map i.kept.items timed) in
+    let place = subst (λ (q : Queue). IsSome (get q.places (key_of x))) (sym c.self.view_is) c.requires.place in
+    let alters = subst (λ (k : Key). AltersAt (written (c.version-number.result + 1)) k i.numbers c.put.new.self) c.key.ensures c.put.ensures in
+    let put : AreNumbered c.put.new.self i.base (here ++ x ∷ []) = number_written i.numbers c.put.new.self i.base (c.version-number.result + 1) here x number place alters c.self.invariant.1 in
+    let new : AreNumbered j.numbers j.base (map change_of j.kept.items ++ x ∷ []) = elim c.if-is_full.branch [
+      | then-is_full w ↦ rw (w.self-inside-is) (w.drop_front.ensures.numbers (x ∷ []) put)
+      | else-is_full w ↦ rw (w.self-inside-is) put
+    ] in
+    let room : (j.max ≡ i.max) × (deque_len j.kept + 1 ≤ i.max) × (j.base + deque_len j.kept ≡ i.base + deque_len i.kept) = elim c.if-is_full.branch [
+      | then-is_full w ↦ rw (w.self-inside-is) (refl, omega (arith, w.drop_front.ensures.len, c.self.invariant.0.few), omega (arith, w.drop_front.ensures.len, w.drop_front.ensures.base))
+      | else-is_full w ↦
+          let few : length c.args.self.now.kept < c.args.self.now.max = leb-false c.args.self.now.max (length c.args.self.now.kept) (sym w.if-is_full.ensures) in
+          rw (w.self-inside-is) (refl, omega (arith, few, ap (λ (q : Queue). q.max) c.self.view_is, ap (λ (q : Queue). length q.kept) c.self.view_is, length-map i.kept.items timed, i.kept.ok.0), refl)
+    ] in (
+      record { some = omega (arith, room.0, c.self.invariant.0.some); few = omega (arith, room.0, room.1, c.push_back_reserved.ensures.len); fits = omega (arith, room.2, c.push_back_reserved.ensures.len, c.requires.version, ap version c.self.view_is, length-map i.kept.items timed, i.kept.ok.0) },
+      subst (λ (es : List Entry). AreNumbered j.numbers j.base es) (sym (ap (map change_of) c.push_back_reserved.ensures.items ∙ map-append change_of j.kept.items _)) new,
+    )
+
 pub returns-clause-history : goal.returns-clause-history
 returns-clause-history c h keeps =
-    let old = c.args.self.now in
-    let room_made : Keeps c.if-is_full.self h = elim c.if-is_full.branch [
+    let i = c.self.inside in
+    let j = c.if-is_full.self-inside in
+    let before : Keeps (the_view i) h = subst (λ (q : Queue). Keeps q h) (sym c.self.view_is) keeps in
+    let between : Keeps (the_view j) h = elim c.if-is_full.branch [
       | then-is_full w ↦
-          let full : old.max ≤ length old.kept = leb-true old.max (length old.kept) (sym c.is_full.ensures ∙ w.if-is_full.true) in
-          let some : 1 ≤ length old.kept = omega (arith, full, c.self.invariant.some, ap (λ (q : Queue). q.max) c.self.view_is) in
-          subst (λ (q : Queue). Keeps q h) (sym w.self-is) (keeps_dropped old w.drop_oldest.new.self h 1 some w.drop_oldest.ensures.base w.drop_oldest.ensures.kept keeps)
-      | else-is_full w ↦ subst (λ (q : Queue). Keeps q h) (sym w.self-is) keeps
+          let full : c.args.self.now.max ≤ length c.args.self.now.kept = leb-true c.args.self.now.max (length c.args.self.now.kept) (sym w.if-is_full.ensures) in
+          let some : 1 ≤ length (map timed i.kept.items) = omega (arith, full, c.self.invariant.0.some, ap (λ (q : Queue). q.max) c.self.view_is, ap (λ (q : Queue). length q.kept) c.self.view_is) in
+          rw (w.self-inside-is) (keeps_dropped (the_view i) _ h 1 some w.drop_front.ensures.base (ap (map timed) w.drop_front.ensures.kept ∙ sym (drop-map timed 1 i.kept.items)) before)
+      | else-is_full w ↦ rw (w.self-inside-is) (record { contents = before.contents; version = before.version })
     ] in
-    keeps_pushed c.if-is_full.self _ h (seen c.args.change, c.args.now)
-    (ap (λ (q : Queue). q.base) c.self-2.view_is)
-    (ap (map timed) c.push_back_reserved.ensures.items ∙ map-append timed c.self-2.inside.kept.items _ ∙ ap (λ (q : Queue). q.kept ++ (seen c.args.change, c.args.now) ∷ []) c.self-2.view_is)
-    room_made
+    keeps_pushed (the_view j) _ h (seen c.args.change, c.args.now) refl (ap (map timed) c.push_back_reserved.ensures.items ∙ map-append timed j.kept.items _) between

@@ -1,0 +1,130 @@
+-- The number of each key's last change, as changes come and leave.
+use Rattle.std.proofs.Common.{◌≡◌, ℕ, zero, suc, ◌+◌, ◌-◌, ◌<◌, ◌==◌, Bool, true, false, cond, T, List, [], ◌∷◌, ◌++◌, length, nat_lt, Option, Some, None, IsSome, option_and_then, refl, sym, ap, subst, ◌∙◌, arith}
+use Rattle.std.proofs.Math.Dec.{eqb_refl}
+use Rattle.std.proofs.lemmas.Bool.{le-ltb, lt-ltb, eqb-true}
+use Rattle.std.specs.FinMap.{FinMap, get}
+use Rattle.std.specs.List.{slice_get}
+use Rattle.std.specs.Option.{option_or, unwrap_or}
+use Rattle.disco_values.specs.Key.{key_cmp, same_key}
+use Rattle.disco_values.specs.declared.key.Key.{Key}
+use Rattle.disco_history.specs.Change.{Entry, key_of, last}
+use Rattle.disco_history.proofs.Keys.{same_is}
+use Rattle.disco_queue.specs.Numbers.{AltersAt, AreNumbered, last_number, later_or, left_by, numbered, opened, written}
+
+abbrev Places : Type 0
+Places = FinMap key_cmp ℕ
+
+some_later : (n here : ℕ) → 0 < n → later_or n here ≡ n
+some_later n here lt = ap (λ b. cond b n here) (lt-ltb 0 n lt)
+
+none_later : (n here : ℕ) → n ≡ 0 → later_or n here ≡ here
+none_later n here is = ap (λ m. later_or m here) is
+
+nothing_here : (n : ℕ) → later_or n 0 ≡ n
+nothing_here zero = refl
+nothing_here (suc n) = some_later (suc n) 0 (omega arith)
+
+-- the key has no change and no number, or the number is that of its last change's place
+data Placed (before n : ℕ) (es : List Entry) (o : Option Entry) : Type 0 where
+  nowhere : n ≡ 0 → o ≡ None → Placed before n es o
+  there : (i : ℕ) (e : Entry) → n ≡ before + i + 1 → o ≡ Some e → slice_get es i ≡ Some e → Placed before n es o
+
+placed : (before : ℕ) (es : List Entry) (k : Key) → Placed before (last_number before es k) es (last es k)
+placed before [] k = nowhere refl refl
+placed before (e ∷ es) k = one (same_key k (key_of e)) (placed (before + 1) es k)
+  where
+    one : (b : Bool) → Placed (before + 1) (last_number (before + 1) es k) es (last es k) → Placed before (later_or (last_number (before + 1) es k) (cond b (before + 1) 0)) (e ∷ es) (option_or (last es k) (cond b (Some e) None))
+    one b (there i x n o at) =
+        there (suc i) x (some_later (last_number (before + 1) es k) (cond b (before + 1) 0) (omega (arith, n)) ∙ omega (arith, n)) (ap (λ y. option_or y (cond b (Some e) None)) o) at
+    one true (nowhere n o) = there 0 e (none_later (last_number (before + 1) es k) (before + 1) n ∙ omega arith) (ap (λ y. option_or y (Some e)) o) refl
+    one false (nowhere n o) = nowhere (none_later (last_number (before + 1) es k) 0 n) (ap (λ y. option_or y (cond false (Some e) None)) o)
+
+-- ---- a change comes at the back
+
+number_more : (before : ℕ) (es : List Entry) (e : Entry) (k : Key) → last_number before (es ++ e ∷ []) k ≡ cond (same_key k (key_of e)) (before + length es + 1) (last_number before es k)
+number_more before [] e k = ap (λ n. cond (same_key k (key_of e)) n 0) (omega arith)
+number_more before (x ∷ es) e k =
+    ap (λ n. later_or n (cond (same_key k (key_of x)) (before + 1) 0)) (number_more (before + 1) es e k) ∙ one (same_key k (key_of e))
+  where
+    one : (b : Bool) → later_or (cond b (before + 1 + length es + 1) (last_number (before + 1) es k)) (cond (same_key k (key_of x)) (before + 1) 0)
+        ≡ cond b (before + suc (length es) + 1) (later_or (last_number (before + 1) es k) (cond (same_key k (key_of x)) (before + 1) 0))
+    one true = some_later (before + 1 + length es + 1) (cond (same_key k (key_of x)) (before + 1) 0) (omega arith) ∙ omega arith
+    one false = refl
+
+one_written : (number : ℕ) (o : Option ℕ) → IsSome o → unwrap_or (written number o) 0 ≡ number
+one_written number None some = absurd (cc)
+one_written number (Some n) some = refl
+
+pub number_written : (old new : Places) (before number : ℕ) (es : List Entry) (e : Entry) → number ≡ before + length es + 1 → IsSome (get old (key_of e)) → AltersAt (written number) (key_of e) old new
+    → AreNumbered old before es → AreNumbered new before (es ++ e ∷ [])
+number_written old new before number es e is some alters are k =
+    ap (λ o. unwrap_or o 0) (alters k) ∙ one (same_key k (key_of e)) refl ∙ sym (number_more before es e k)
+  where
+    one : (b : Bool) → same_key k (key_of e) ≡ b → unwrap_or (cond b (written number (get old k)) (get old k)) 0 ≡ cond b (before + length es + 1) (last_number before es k)
+    one true same = one_written number (get old k) (subst (λ (q : Key). IsSome (get old q)) (sym (same_is k (key_of e) same)) some) ∙ is
+    one false same = are k
+
+-- ---- the first change leaves
+
+other_key : (o : Option ℕ) (n : ℕ) → unwrap_or o 0 ≡ later_or n 0 → unwrap_or o 0 ≡ n
+other_key o n is = is ∙ nothing_here n
+
+not_same : (a b : ℕ) → b < a → (a == b) ≡ false
+not_same a b lt = one (a == b) refl
+  where
+    one : (c : Bool) → (a == b) ≡ c → c ≡ false
+    one false is = refl
+    one true is = absurd (omega (arith, lt, eqb-true a b is))
+
+holds : (b : Bool) → T b → b ≡ true
+holds true h = refl
+holds false h = absurd h
+
+same : (a : ℕ) → (a == a) ≡ true
+same a = holds (a == a) (eqb_refl a)
+
+own_key : (before : ℕ) (es : List Entry) (o : Option ℕ) (n : ℕ) (x : Option Entry) → Placed (before + 1) n es x → unwrap_or o 0 ≡ later_or n (before + 1) → unwrap_or (left_by (before + 1) o) 0 ≡ n
+own_key before es None n x (nowhere z none) is = absurd (omega (arith, is, none_later n (before + 1) z))
+own_key before es None n x (there i e at some found) is = absurd (omega (arith, is, at, some_later n (before + 1) (omega (arith, at))))
+own_key before es (Some m) n x (nowhere z none) is =
+    let own : m ≡ before + 1 = is ∙ none_later n (before + 1) z in
+    ap (λ b. unwrap_or (cond b None (Some m)) 0) (ap (λ a. a == (before + 1)) own ∙ same (before + 1)) ∙ sym z
+own_key before es (Some m) n x (there i e at some found) is =
+    let later : m ≡ n = is ∙ some_later n (before + 1) (omega (arith, at)) in
+    ap (λ b. unwrap_or (cond b None (Some m)) 0) (not_same m (before + 1) (omega (arith, later, at))) ∙ later
+
+pub number_left : (old new : Places) (before : ℕ) (e : Entry) (es : List Entry) → AltersAt (left_by (before + 1)) (key_of e) old new → AreNumbered old before (e ∷ es) → AreNumbered new (before + 1) es
+number_left old new before e es alters are k =
+    ap (λ o. unwrap_or o 0) (alters k) ∙ one (same_key k (key_of e)) (are k)
+  where
+    one : (b : Bool) → unwrap_or (get old k) 0 ≡ later_or (last_number (before + 1) es k) (cond b (before + 1) 0) → unwrap_or (cond b (left_by (before + 1) (get old k)) (get old k)) 0 ≡ last_number (before + 1) es k
+    one true is = own_key before es (get old k) (last_number (before + 1) es k) (last es k) (placed (before + 1) es k) is
+    one false is = other_key (get old k) (last_number (before + 1) es k) is
+
+-- ---- an empty place
+
+one_opened : (b : Bool) (o : Option ℕ) → unwrap_or (cond b (opened o) o) 0 ≡ unwrap_or o 0
+one_opened true o = refl
+one_opened false o = refl
+
+pub number_opened : (old new : Places) (before : ℕ) (es : List Entry) (k : Key) → AltersAt opened k old new → AreNumbered old before es → AreNumbered new before es
+number_opened old new before es k alters are q = ap (λ o. unwrap_or o 0) (alters q) ∙ one_opened (same_key q k) (get old q) ∙ are q
+
+-- ---- the change of a number
+
+none_before : (before : ℕ) (es : List Entry) → numbered before es 0 ≡ None
+none_before before es = ap (λ b. cond b (slice_get es (0 - before - 1)) None) (le-ltb before 0 (omega arith))
+
+found : (before n : ℕ) (es : List Entry) (o : Option Entry) → Placed before n es o → numbered before es n ≡ o
+found before n es o (nowhere z none) = ap (numbered before es) z ∙ none_before before es ∙ sym none
+found before n es o (there i e at some is) =
+    ap (λ b. cond b (slice_get es (n - before - 1)) None) (lt-ltb before n (omega (arith, at)))
+    ∙ ap (slice_get es) (omega (arith, at)) ∙ is ∙ sym some
+
+last_at : (before : ℕ) (es : List Entry) (k : Key) (o : Option ℕ) → unwrap_or o 0 ≡ last_number before es k → option_and_then (numbered before es) o ≡ last es k
+last_at before es k None is = sym (none_before before es) ∙ ap (numbered before es) is ∙ found before (last_number before es k) es (last es k) (placed before es k)
+last_at before es k (Some n) is = ap (numbered before es) is ∙ found before (last_number before es k) es (last es k) (placed before es k)
+
+-- what the numbers find is the last change of each key
+pub last_numbered : (places : Places) (before : ℕ) (es : List Entry) (k : Key) → AreNumbered places before es → option_and_then (numbered before es) (get places k) ≡ last es k
+last_numbered places before es k are = last_at before es k (get places k) (are k)

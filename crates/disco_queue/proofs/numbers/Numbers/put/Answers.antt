@@ -1,0 +1,18 @@
+use Rattle.std.proofs.Common.{◌≡◌, ℕ, Some, None, Option, IsSome, refl, sym, ap, subst, ◌∙◌}
+use Rattle.disco_queue.specs.Numbers.{written}
+use Rattle.disco_queue.proofs.Places.{altered, unaltered, at_key, written-some}
+use Rattle.disco_queue.proofs.numbers.Numbers.put.Goals as goal
+use Rattle.disco_queue.proofs.numbers.Numbers.put.Goals.{in-Some, in_default}
+
+pub returns : goal.returns
+returns c =
+    let es = c.self.inside.places.entries in
+    let k = c.args.key.now in
+    rw (← c.self.view_is) (elim c.match-get_mut.branch [
+      | in-Some w ↦
+          let some : IsSome (at_key es k) = subst (λ (o : Option ℕ). IsSome o) w.in-Some.ensures.value refl in
+          rw (w.self-inside-is) (altered (written c.args.number) es k (c.get_mut.follows.lender c.args.number).entries (Some c.args.number) ((c.get_mut.follows.holds c.args.number).3 some).0 (written-some c.args.number (at_key es k) some))
+      | in_default w ↦
+          let none : None ≡ at_key es k = w.in_default.ensures.value in
+          rw (w.self-inside-is, c.get_mut.follows.holds-at-none) (unaltered (written c.args.number) es k (sym none ∙ ap (written c.args.number) none))
+    ])

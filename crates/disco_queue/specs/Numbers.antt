@@ -1,0 +1,46 @@
+-- The number of each key's last change, and what becomes of places. Nothing here is to be believed: it is the invariant of a type.
+use Rattle.std.specs.Prelude.{◌≡◌, ℕ, ◌+◌, ◌-◌, nat_lt, ◌==◌, List, [], ◌∷◌, if◌then◌else◌, Option, Some, None, option_map}
+use Rattle.std.specs.FinMap.{FinMap, get}
+use Rattle.std.specs.List.{slice_get}
+use Rattle.std.specs.Option.{unwrap_or}
+use Rattle.disco_values.specs.Key.{key_cmp, same_key}
+use Rattle.disco_values.specs.declared.key.Key.{Key}
+use Rattle.disco_history.specs.Change.{Entry, key_of}
+
+-- the later one, if there is one
+abbrev pub later_or : ℕ → ℕ → ℕ
+later_or later here = if nat_lt 0 later then later else here
+
+-- of changes that so many others come before, the number of the key's last one, counted from 1 at the beginning; 0 where there is none
+abbrev pub last_number : ℕ → List Entry → Key → ℕ
+last_number before [] k = 0
+last_number before (e ∷ es) k = later_or (last_number (before + 1) es k) (if same_key k (key_of e) then before + 1 else 0)
+
+-- the number in the place of a key, 0 where it stands empty or isn't there
+abbrev pub number_at : FinMap key_cmp ℕ → Key → ℕ
+number_at places k = unwrap_or (get places k) 0
+
+-- each place has the number of the last of these changes of its key, and other keys have none
+abbrev pub AreNumbered : FinMap key_cmp ℕ → ℕ → List Entry → Type 0
+AreNumbered places before es = (k : Key) → number_at places k ≡ last_number before es k
+
+-- the change of a number
+abbrev pub numbered : ℕ → List Entry → ℕ → Option Entry
+numbered before es number = if nat_lt before number then slice_get es (number - before - 1) else None
+
+-- a place that is there, empty where there was none
+abbrev pub opened : Option ℕ → Option ℕ
+opened place = Some (unwrap_or place 0)
+
+-- a place with this number, where there is one
+abbrev pub written : ℕ → Option ℕ → Option ℕ
+written number place = option_map (λ _. number) place
+
+-- no place where it has this number
+abbrev pub left_by : ℕ → Option ℕ → Option ℕ
+left_by number None = None
+left_by number (Some n) = if n == number then None else Some n
+
+-- the place of the key becomes what f makes of it, and each other place stays
+abbrev pub AltersAt : (Option ℕ → Option ℕ) → Key → FinMap key_cmp ℕ → FinMap key_cmp ℕ → Type 0
+AltersAt f k old new = (p : Key) → get new p ≡ (if same_key p k then f (get old p) else get old p)

@@ -1,0 +1,90 @@
+//! Of each key the number of its last change, with places that stand empty.
+ghost use Rattle.std.specs.Prelude.{◌≡◌, IfOk, None, OnErr, OnOk, map, true};
+ghost use Rattle.std.specs.FinMap.{empty, get, values};
+ghost use Rattle.std.specs.List.{All};
+ghost use Rattle.disco_history.specs.Change.{is_proper, seen};
+ghost use Rattle.disco_history.specs.Mentions.{delta};
+ghost use Rattle.disco_queue.specs.Numbers.{AltersAt, AreNumbered, left_by, opened, written};
+ghost use Rattle.disco_queue.specs.Seen.{change_of};
+
+use crate::kept::Kept;
+use crate::latest::numbered_in;
+use disco_history::Change;
+use disco_instance::Key;
+use std::alloc::{AllocError, Global};
+use std::collections::{BTreeMap, VecDeque};
+use std::marker::Model;
+
+/// A place for each of some keys: the number of the last kept change of the key, counted from 1 at
+/// the beginning of the history, or 0 where the place stands empty.
+#[derive(Drop)]
+pub(crate) struct Numbers {
+    places: BTreeMap<Key, u64>,
+}
+
+impl Model for Numbers {
+    ghost use Rattle.std.specs.Prelude.{ℕ};
+    ghost use Rattle.std.specs.Coded.{codes};
+    ghost use Rattle.std.specs.FinMap.{FinMap, code, from_entries};
+    ghost use Rattle.disco_values.specs.Key.{key_cmp};
+
+    ghost Value = { FinMap key_cmp ℕ };
+
+    ghost coded = { Prim.hlevel (codes, code) };
+
+    ghost view = { λ n. from_entries n.places.entries };
+}
+
+impl Numbers {
+    pub(crate) fn new(alloc: Global) -> Numbers
+        ensures { result ≡ empty }
+    {
+        Numbers {
+            places: BTreeMap::new(alloc),
+        }
+    }
+
+    /// Makes an empty place for a key, where there is none.
+    pub(crate) fn open(&mut self, key: &Key) -> Result<(), AllocError>
+        ensures ok { OnOk result (AltersAt opened key.now self.old self.new) }
+        ensures err { OnErr result (self.new ≡ self.old) }
+        ensures needed { OnErr result (get self.old key.now ≡ None) }
+    {
+        if !self.places.contains_key(key) {
+            self.places.insert(key.clone()?, 0)?;
+        }
+        Ok(())
+    }
+
+    /// Puts a number into the place of a key, where it has one.
+    pub(crate) fn put(&mut self, key: &Key, number: u64)
+        ensures { AltersAt (written number) key.now self.old self.new }
+    {
+        if let Some(place) = self.places.get_mut(key) {
+            *place = number;
+        }
+    }
+
+    /// Takes the place of a key out, where it has this number.
+    pub(crate) fn close(&mut self, key: &Key, number: u64)
+        ensures { AltersAt (left_by number) key.now self.old self.new }
+    {
+        if self.places.get(key).copied() == Some(number) {
+            self.places.remove(key);
+        }
+    }
+
+    /// Where they number the kept changes, of which so many others come before: the last change of
+    /// each key, in the order of the keys.
+    pub(crate) fn last_changes<'a>(
+        &self,
+        kept: &'a VecDeque<Kept>,
+        before: u64,
+        alloc: Global,
+    ) -> Result<Vec<&'a Change>, AllocError>
+        ensures last { AreNumbered self.now before (map change_of kept.now.items) → IfOk result (λ found. map (λ c. seen c.now) found.items ≡ values (delta (map change_of kept.now.items) 0)) }
+        ensures proper { IfOk result (λ found. All (λ c. is_proper c.now ≡ true) found.items) }
+    {
+        numbered_in(&self.places, kept, before, alloc)
+    }
+}
