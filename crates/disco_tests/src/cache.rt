@@ -1,25 +1,16 @@
 //! Kept documents, by the calls that no event reaches alone.
+use crate::given::{defaults, record, registration};
 use disco_cache::{DocCache, DocKey, Payload};
 use disco_hub::Hub;
-use disco_instance::{Bytes, Fault, Form, Record, Text};
-use disco_prog::settings_of;
+use disco_instance::{Bytes, Fault, Form, Text};
 use disco_registry::Op;
-use disco_wire::read_registration;
 use disco_writer::Query;
 use std::alloc::Global;
 use std::sync::Arc;
-use std::test::Fail;
-
-fn record(alloc: Global) -> Result<Record, Fault> {
-    read_registration(
-        alloc,
-        br#"{"instance":{"instanceId":"1","hostName":"h","app":"A","ipAddr":"10.0.0.1","vipAddress":"a,b","dataCenterInfo":{"name":"MyOwn"}}}"#,
-    )
-}
 
 fn vip(alloc: Global, name: &str, form: Form) -> Result<DocKey, Fault> {
     Ok(DocKey {
-        query: Query::Vip(Text::from_string(String::from_str(alloc, name)?)),
+        query: Query::Vip(Text::new(alloc, name)?),
         form,
     })
 }
@@ -36,35 +27,39 @@ fn document(alloc: Global, key: DocKey) -> Result<Arc<Payload, Global>, Fault> {
     )?)
 }
 
-#[test]
-fn keeps_documents_by_key_until_a_change_names_them(rt: HostRuntime) -> Result<(), Fail> {
-    let alloc = rt.alloc();
-    let mut cache = DocCache::new(alloc, 2);
-    assert!(rt; cache.put(document(alloc, vip(alloc, "c", Form::Full)?)?)?);
-    assert!(rt; cache.put(document(alloc, vip(alloc, "a", Form::Compact)?)?)?);
-    assert!(rt; !cache.put(document(alloc, vip(alloc, "d", Form::Full)?)?)?);
-    let keys = cache.keys(alloc)?;
-    assert_eq!(rt; keys.len(), 2);
-    assert!(rt; *keys[0] == vip(alloc, "a", Form::Compact)?);
-    drop(keys);
-    cache.invalidate(None, Some(&record(alloc)?));
-    assert!(rt; cache.get(&vip(alloc, "a", Form::Compact)?).is_none());
-    assert!(rt; cache.get(&vip(alloc, "c", Form::Full)?).is_some());
-    Ok(())
+/// Puts in as many documents as are kept, and one more. Tells whether all but the last are kept.
+fn fills(alloc: Global, cache: &mut DocCache) -> Result<bool, Fault> {
+    let first = cache.put(document(alloc, vip(alloc, "c", Form::Full)?)?)?;
+    let second = cache.put(document(alloc, vip(alloc, "a", Form::Compact)?)?)?;
+    let third = cache.put(document(alloc, vip(alloc, "d", Form::Full)?)?)?;
+    Ok(first && second && !third)
 }
 
-#[test]
-fn tells_the_change_to_come(rt: HostRuntime) -> Result<(), Fail> {
-    let alloc = rt.alloc();
-    let mut words = Vec::new(alloc);
-    words.push(String::from_str(alloc, "replay")?)?;
-    let settings = settings_of(alloc, words.as_slice()).map_err(|_| "refused")?;
+/// Whether the keys are those of both documents, in their order.
+fn has_both(alloc: Global, cache: &DocCache) -> Result<bool, Fault> {
+    let least = vip(alloc, "a", Form::Compact)?;
+    let keys = cache.keys(alloc)?;
+    Ok(keys.len() == 2 && *keys[0] == least)
+}
+
+/// Documents are kept by key until a change names them.
+pub(crate) fn keeps_by_key(alloc: Global) -> Result<bool, Fault> {
+    let mut cache = DocCache::new(alloc, 2);
+    let kept = fills(alloc, &mut cache)? && has_both(alloc, &cache)?;
+    cache.invalidate(None, Some(&record(alloc, "1")?));
+    let named = cache.get(&vip(alloc, "a", Form::Compact)?).is_none();
+    let other = cache.get(&vip(alloc, "c", Form::Full)?).is_some();
+    Ok(kept && named && other)
+}
+
+/// What is ready tells the change to come, where there is one.
+pub(crate) fn tells_what_comes(alloc: Global) -> Result<bool, Fault> {
+    let settings = defaults(alloc)?;
     let mut hub = Hub::new(alloc, &settings);
-    let ready = hub.ready(Op::Register(record(alloc)?), 1)?;
-    assert!(rt; ready.change()?.is_some());
+    let ready = hub.ready(registration(alloc, "1")?, 1)?;
+    let change = ready.change()?.is_some();
     let _ = hub.commit(ready);
-    assert_eq!(rt; hub.version(), 1);
-    let again = hub.ready(Op::Renew(record(alloc)?.key), 2)?;
-    assert!(rt; again.change()?.is_none());
-    Ok(())
+    let version = hub.version();
+    let again = hub.ready(Op::Renew(record(alloc, "1")?.key), 2)?;
+    Ok(change && version == 1 && again.change()?.is_none())
 }

@@ -1,26 +1,16 @@
 //! A desk and its seats: rounds and looks on the running objects, and two threads.
 ghost use Rattle.std.specs.Prelude.{◌≡◌};
 
+use crate::given::{cancel, defaults, refusal, registration};
 use disco_cache::DocKey;
-use disco_hub::{Copied, Settings};
-use disco_instance::{Fault, Form, Key, Text};
+use disco_hub::Copied;
+use disco_instance::{Fault, Form, Text};
 use disco_press::{Desk, Looked, Naming, Opening, Seat, open};
-use disco_prog::settings_of;
-use disco_registry::{Applied, Op};
-use disco_wire::read_registration;
+use disco_registry::Applied;
 use disco_writer::Query;
 use std::alloc::Global;
-use std::marker::Brand;
-use std::process::Abort;
 use std::sync::{Mutex, MutexGuard, Wait};
-use std::test::Fail;
 use std::thread::{Threads, join};
-
-fn defaults(alloc: Global) -> Result<Settings, Fail> {
-    let mut words = Vec::new(alloc);
-    words.push(String::from_str(alloc, "replay")?)?;
-    Ok(settings_of(alloc, words.as_slice()).map_err(|_| "refused")?)
-}
 
 fn apps() -> DocKey {
     DocKey {
@@ -34,28 +24,6 @@ fn app_a(alloc: Global) -> Result<DocKey, Fault> {
         query: Query::App(Text::new(alloc, "A")?),
         form: Form::Full,
     })
-}
-
-fn registration(alloc: Global, id: &str) -> Result<Op, Fault> {
-    let text = format!(in alloc;
-        r#"{{"instance":{{"instanceId":"{id}","hostName":"h","app":"A","ipAddr":"10.0.0.1","dataCenterInfo":{{"name":"MyOwn"}}}}}}"#
-    )?;
-    Ok(Op::Register(read_registration(alloc, text.as_bytes())?))
-}
-
-fn cancel(alloc: Global, id: &str) -> Result<Op, Fault> {
-    Ok(Op::Cancel(Key {
-        app: Text::new(alloc, "A")?,
-        id: Text::new(alloc, id)?,
-    }))
-}
-
-/// The number of a refusal, or 0 where there was none.
-fn refusal<T: Drop>(answer: Result<T, Fault>) -> u32 {
-    match answer {
-        Ok(_) => 0,
-        Err(fault) => fault.number(),
-    }
 }
 
 /// The version of a document that a look found; 1,000 where it missed, 2,000 where it was shut.
@@ -147,7 +115,7 @@ fn all_rounds<J: Naming, R: Wait>(
     rt: &R,
     alloc: Global,
     opening: Opening,
-) -> Result<(Rounds, u64, u64), Fail>
+) -> Result<(Rounds, u64, u64), Fault>
     requires marks { opening.marks.name ≡ J.list }
     requires name { opening.blank.name ≡ J.name }
     requires parts { opening.blank.parts ≡ J.parts }
@@ -162,15 +130,26 @@ fn all_rounds<J: Naming, R: Wait>(
     Ok((rounds?, shut.0, shut.1))
 }
 
-#[test]
-fn a_seat_sees_what_a_desk_publishes(rt: HostRuntime) -> Result<(), Fail> {
-    let (rounds, one, two) = all_rounds::<Brand, _>(&rt, rt.alloc(), Opening::new())?;
-    assert_eq!(rt; rounds.first, (17, 17, 1, 16, 18, 1, 2000, 1));
-    assert_eq!(rt; rounds.seen, 1);
-    assert_eq!(rt; rounds.second, (2, 2, 2, 4, 1000, 1));
-    assert_eq!(rt; rounds.later, (4, 1000));
-    assert_eq!(rt; (one, two), (2000, 2000));
-    Ok(())
+/// What both rounds come to.
+const WANTED: Rounds = Rounds {
+    first: (17, 17, 1, 16, 18, 1, 2000, 1),
+    seen: 1,
+    second: (2, 2, 2, 4, 1000, 1),
+    later: (4, 1000),
+};
+
+/// A seat sees what a desk publishes, and nothing once the desk is closed.
+pub(crate) fn a_seat_sees_what_is_published<J: Naming, R: Wait>(
+    rt: &R,
+    alloc: Global,
+    opening: Opening,
+) -> Result<bool, Fault>
+    requires marks { opening.marks.name ≡ J.list }
+    requires name { opening.blank.name ≡ J.name }
+    requires parts { opening.blank.parts ≡ J.parts }
+{
+    let (rounds, one, two) = all_rounds::<J, R>(rt, alloc, opening)?;
+    Ok(rounds == WANTED && (one, two) == (2000, 2000))
 }
 
 /// Registers an instance, and publishes the document of all apps.
@@ -229,7 +208,7 @@ fn two_threads<J: Naming + Send + Sync, R: Threads + Wait + Sync>(
     rt: &R,
     alloc: Global,
     opening: Opening,
-) -> Result<(u64, u32, u64), Fail>
+) -> Result<(u64, u32, u64), Fault>
     requires marks { opening.marks.name ≡ J.list }
     requires name { opening.blank.name ≡ J.name }
     requires parts { opening.blank.parts ≡ J.parts }
@@ -252,9 +231,16 @@ fn two_threads<J: Naming + Send + Sync, R: Threads + Wait + Sync>(
     Ok((seen, refused, changes))
 }
 
-#[test]
-fn another_thread_sees_what_was_published(rt: HostRuntime) -> Result<(), Fail> {
-    let (seen, refused, changes) = two_threads::<Brand, _>(&rt, rt.alloc(), Opening::new())?;
-    assert_eq!(rt; (seen, refused, changes), (1, 5, 1));
-    Ok(())
+/// Another thread sees what was published, and a seat counts what was changed for it.
+pub(crate) fn another_thread_sees_it<J: Naming + Send + Sync, R: Threads + Wait + Sync>(
+    rt: &R,
+    alloc: Global,
+    opening: Opening,
+) -> Result<bool, Fault>
+    requires marks { opening.marks.name ≡ J.list }
+    requires name { opening.blank.name ≡ J.name }
+    requires parts { opening.blank.parts ≡ J.parts }
+{
+    let came = two_threads::<J, R>(rt, alloc, opening)?;
+    Ok(came == (1, 5, 1))
 }

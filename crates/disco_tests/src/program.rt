@@ -1,17 +1,10 @@
 //! Runs of the program over streams that fail, and over more instances than it holds.
+use crate::given::strings;
+use disco_instance::Fault;
 use disco_prog::replay;
 use std::alloc::{AllocError, Global};
 use std::io;
 use std::io::{Read, Write};
-use std::test::Fail;
-
-fn strings(alloc: Global, words: &[&str]) -> Result<Vec<String>, AllocError> {
-    let mut strings = Vec::new(alloc);
-    for word in words {
-        strings.push(String::from_str(alloc, word)?)?;
-    }
-    Ok(strings)
-}
 
 fn push_registration(input: &mut String, id: u32) -> Result<(), AllocError> {
     writeln!(
@@ -20,9 +13,8 @@ fn push_registration(input: &mut String, id: u32) -> Result<(), AllocError> {
     )
 }
 
-#[test]
-fn holds_65536_instances(rt: HostRuntime) -> Result<(), Fail> {
-    let alloc = rt.alloc();
+/// 65,536 instances are held, and no more.
+pub(crate) fn holds_its_most(alloc: Global) -> Result<bool, Fault> {
     let words = strings(alloc, &["replay"])?;
     let (mut input, mut want) = (String::new(alloc), String::new(alloc));
     for id in 1..65537u32 {
@@ -33,9 +25,7 @@ fn holds_65536_instances(rt: HostRuntime) -> Result<(), Fail> {
     want.push_str("fault 8\n")?;
     let (mut reader, mut out, mut errors) = (input.as_bytes(), Vec::new(alloc), Vec::new(alloc));
     let status = replay(alloc, &mut reader, &mut out, &mut errors, words.as_slice());
-    assert_eq!(rt; status, 0);
-    assert!(rt; out.as_slice() == want.as_bytes());
-    Ok(())
+    Ok(status == 0 && out.as_slice() == want.as_bytes())
 }
 
 /// A reader that fails where its bytes end.
@@ -53,21 +43,23 @@ impl Read for Torn<'_> {
     }
 }
 
-#[test]
-fn says_that_reading_failed(rt: HostRuntime) -> Result<(), Fail> {
-    let alloc = rt.alloc();
+fn fails_behind(alloc: Global, words: &[String], rest: &str) -> bool {
+    let mut reader = Torn {
+        rest: rest.as_bytes(),
+    };
+    let (mut out, mut errors) = (Vec::new(alloc), Vec::new(alloc));
+    let status = replay(alloc, &mut reader, &mut out, &mut errors, words);
+    status == 1 && out.is_empty() && errors.as_slice() == b"discovery: fault 20\n".as_slice()
+}
+
+/// Where a read fails, nothing is answered, and it is said.
+pub(crate) fn tells_failed_reads(alloc: Global) -> Result<bool, Fault> {
     let words = strings(alloc, &["replay"])?;
+    let mut all = true;
     for rest in ["", "load full apps\n", "hello\n", "load"] {
-        let mut reader = Torn {
-            rest: rest.as_bytes(),
-        };
-        let (mut out, mut errors) = (Vec::new(alloc), Vec::new(alloc));
-        let status = replay(alloc, &mut reader, &mut out, &mut errors, words.as_slice());
-        assert_eq!(rt; status, 1);
-        assert!(rt; out.is_empty());
-        assert!(rt; errors.as_slice() == b"discovery: fault 20\n".as_slice());
+        all = all && fails_behind(alloc, words.as_slice(), rest);
     }
-    Ok(())
+    Ok(all)
 }
 
 /// A writer that takes so many bytes and then fails, at a flush too.
@@ -94,9 +86,17 @@ impl Write for Full {
     }
 }
 
-#[test]
-fn says_that_writing_failed(rt: HostRuntime) -> Result<(), Fail> {
-    let alloc = rt.alloc();
+fn fails_past(alloc: Global, word: &str, room: usize) -> Result<bool, Fault> {
+    let words = strings(alloc, &[word])?;
+    let mut reader = b"cancel 1 A 1".as_slice();
+    let (mut out, mut errors) = (Full { room }, Vec::new(alloc));
+    let status = replay(alloc, &mut reader, &mut out, &mut errors, words.as_slice());
+    Ok(status == 1 && errors.as_slice() == b"discovery: fault 21\n".as_slice())
+}
+
+/// Where a write fails, of answers or of help, it is said.
+pub(crate) fn tells_failed_writes(alloc: Global) -> Result<bool, Fault> {
+    let mut all = true;
     for (word, room) in [
         ("replay", 0),
         ("replay", 7),
@@ -104,12 +104,7 @@ fn says_that_writing_failed(rt: HostRuntime) -> Result<(), Fail> {
         ("--help", 0),
         ("--help", 5),
     ] {
-        let words = strings(alloc, &[word])?;
-        let mut reader = b"cancel 1 A 1".as_slice();
-        let (mut out, mut errors) = (Full { room }, Vec::new(alloc));
-        let status = replay(alloc, &mut reader, &mut out, &mut errors, words.as_slice());
-        assert_eq!(rt; status, 1);
-        assert!(rt; errors.as_slice() == b"discovery: fault 21\n".as_slice());
+        all = all && fails_past(alloc, word, room)?;
     }
-    Ok(())
+    Ok(all)
 }

@@ -12,7 +12,6 @@ use disco_reconcile::{Client, Fetch, Fetched, HttpFetch, Refreshed};
 use disco_writer::Query;
 use std::alloc::Global;
 use std::io::Write;
-use std::test::Fail;
 
 /// All apps of a registry without instances.
 const NONE: &str =
@@ -117,24 +116,28 @@ const WANTED: &[(Result<Refreshed, Fault>, usize)] = &[
     (Ok(Refreshed::Full), 1),
 ];
 
-#[test]
-fn refreshes_by_delta_and_in_full(rt: HostRuntime) -> Result<(), Fail> {
-    let alloc = rt.alloc();
+/// Whether the next refresh comes to that, with so many instances in the copy then.
+fn comes_to(client: &mut Client<Script<'_>>, came: Result<Refreshed, Fault>, held: usize) -> bool {
+    let refreshed = client.refresh();
+    refreshed == came && client.copy().is_some_and(|copy| copy.len() == held)
+}
+
+/// A client refreshes by deltas and in full.
+pub(crate) fn refreshes(alloc: Global) -> Result<bool, Fault> {
     let script = Script {
         alloc,
         lines: LINES,
         failures: 0,
     };
     let mut client = Client::new(alloc, script, Form::Full);
-    assert!(rt; client.copy().is_none());
+    let mut all = client.copy().is_none();
     for (came, instances) in WANTED {
-        assert!(rt; client.refresh() == *came);
-        let copy = client.copy().ok_or("no copy")?;
-        assert_eq!(rt; copy.len(), *instances);
+        all = comes_to(&mut client, *came, *instances) && all;
     }
-    let copy = client.copy().ok_or("no copy")?;
-    assert_eq!(rt; copy.up(alloc, "orders")?.len(), 1);
-    Ok(())
+    match client.copy() {
+        Some(copy) => Ok(all && copy.up(alloc, "orders")?.len() == 1),
+        None => Ok(false),
+    }
 }
 
 fn key(query: Query) -> DocKey
@@ -196,23 +199,22 @@ const CONNECTIONS: &[(&str, usize, (u32, u32, u64))] = &[
     ),
 ];
 
-#[test]
-fn fetches_on_one_connection_until_it_ends(rt: HostRuntime) -> Result<(), Fail> {
+/// A connection is used until it ends.
+pub(crate) fn fetches_to_the_end(alloc: Global) -> Result<bool, Fault> {
+    let mut all = true;
     for (bytes, room, came) in CONNECTIONS {
-        let both = fetch_both(rt.alloc(), bytes, Full { room: *room })?;
-        assert!(rt; both == *came);
+        all = all && fetch_both(alloc, bytes, Full { room: *room })? == *came;
     }
-    Ok(())
+    Ok(all)
 }
 
-#[test]
-fn writes_one_request_for_each_fetch(rt: HostRuntime) -> Result<(), Fail> {
-    let mut written = Vec::new(rt.alloc());
-    let both = fetch_both(rt.alloc(), CONNECTIONS[0].0, &mut written)?;
-    assert!(rt; both == CONNECTIONS[0].2);
-    assert!(rt;
-        written.as_slice()
-            == b"GET /eureka/v2/apps HTTP/1.1\r\nHost: localhost\r\nX-Eureka-Accept: compact\r\n\r\nGET /eureka/v2/apps/delta HTTP/1.1\r\nHost: localhost\r\nX-Eureka-Accept: compact\r\n\r\n".as_slice()
-    );
-    Ok(())
+/// What two fetches write.
+const WRITTEN: &str =
+    "GET /eureka/v2/apps HTTP/1.1\r\nHost: localhost\r\nX-Eureka-Accept: compact\r\n\r\nGET /eureka/v2/apps/delta HTTP/1.1\r\nHost: localhost\r\nX-Eureka-Accept: compact\r\n\r\n";
+
+/// One request is written for each fetch.
+pub(crate) fn one_request_each(alloc: Global) -> Result<bool, Fault> {
+    let mut written = Vec::new(alloc);
+    let both = fetch_both(alloc, CONNECTIONS[0].0, &mut written)?;
+    Ok(both == CONNECTIONS[0].2 && written.as_slice() == WRITTEN.as_bytes())
 }

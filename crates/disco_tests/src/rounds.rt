@@ -1,18 +1,14 @@
 //! Rounds of a publisher, by the calls that no event reaches alone.
+use crate::given::{defaults, refusal};
 use disco_cache::DocKey;
 use disco_hub::{Copied, Hub};
 use disco_instance::{Fault, Form};
-use disco_prog::settings_of;
 use disco_writer::Query;
 use std::alloc::Global;
-use std::process::Abort;
-use std::test::Fail;
 
 /// A hub that keeps one document.
-fn keeping(alloc: Global) -> Result<Hub, Fail> {
-    let mut words = Vec::new(alloc);
-    words.push(String::from_str(alloc, "replay")?)?;
-    let settings = settings_of(alloc, words.as_slice()).map_err(|_| "refused")?;
+fn keeping(alloc: Global) -> Result<Hub, Fault> {
+    let settings = defaults(alloc)?;
     let mut hub = Hub::new(alloc, &settings);
     let _ = hub.load(&DocKey {
         query: Query::Apps,
@@ -21,53 +17,39 @@ fn keeping(alloc: Global) -> Result<Hub, Fail> {
     Ok(hub)
 }
 
-/// The number of a refusal, or 0 where there was none.
-fn refusal<T: Drop>(answer: Result<T, Fault>) -> u32 {
-    match answer {
-        Ok(_) => 0,
-        Err(fault) => fault.number(),
-    }
+fn begins(hub: &mut Hub) -> bool {
+    let early = refusal(hub.abandon());
+    let begun = matches!(hub.begin(), Ok(1));
+    begun && early == 17 && refusal(hub.begin()) == 16
 }
 
-fn begins(rt: &impl Abort, hub: &mut Hub) {
-    assert_eq!(rt; refusal(hub.abandon()), 17);
-    assert!(rt; matches!(hub.begin(), Ok(1)));
-    assert_eq!(rt; refusal(hub.begin()), 16);
+fn stays(hub: &mut Hub) -> bool {
+    let next = matches!(hub.next_copy(), Ok(Some(Copied::Doc(_))));
+    let left = matches!(hub.round(), Some(1));
+    next && left && refusal(hub.finish()) == 18
 }
 
-fn stays(rt: &impl Abort, hub: &mut Hub) {
-    assert!(rt; matches!(hub.next_copy(), Ok(Some(Copied::Doc(_)))));
-    assert!(rt; matches!(hub.round(), Some(1)));
-    assert_eq!(rt; refusal(hub.finish()), 18);
+fn is_left(hub: &mut Hub) -> bool {
+    let ended = refusal(hub.abandon());
+    let gone = hub.round().is_none();
+    gone && ended == 0 && matches!(hub.begin(), Ok(1))
 }
 
-fn is_left(rt: &impl Abort, hub: &mut Hub) {
-    assert_eq!(rt; refusal(hub.abandon()), 0);
-    assert!(rt; hub.round().is_none());
-    assert!(rt; matches!(hub.begin(), Ok(1)));
+fn is_copied(hub: &mut Hub) -> bool {
+    let marked = refusal(hub.mark(true));
+    let kept = refusal(hub.abandon());
+    let none = matches!(hub.round(), Some(0)) && matches!(hub.next_copy(), Ok(None));
+    none && (marked, kept) == (0, 17) && refusal(hub.mark(true)) == 17
 }
 
-fn is_copied(rt: &impl Abort, hub: &mut Hub) {
-    assert_eq!(rt; refusal(hub.mark(true)), 0);
-    assert_eq!(rt; refusal(hub.abandon()), 17);
-    assert!(rt; matches!(hub.round(), Some(0)));
-    assert!(rt; matches!(hub.next_copy(), Ok(None)));
-    assert_eq!(rt; refusal(hub.mark(true)), 17);
+fn ends(hub: &mut Hub) -> bool {
+    let finished = matches!(hub.finish(), Ok(1));
+    finished && refusal(hub.copy_one()) == 17 && refusal(hub.finish()) == 17
 }
 
-fn ends(rt: &impl Abort, hub: &mut Hub) {
-    assert!(rt; matches!(hub.finish(), Ok(1)));
-    assert_eq!(rt; refusal(hub.copy_one()), 17);
-    assert_eq!(rt; refusal(hub.finish()), 17);
-}
-
-#[test]
-fn a_round_can_be_left_until_a_key_is_copied(rt: HostRuntime) -> Result<(), Fail> {
-    let mut hub = keeping(rt.alloc())?;
-    begins(&rt, &mut hub);
-    stays(&rt, &mut hub);
-    is_left(&rt, &mut hub);
-    is_copied(&rt, &mut hub);
-    ends(&rt, &mut hub);
-    Ok(())
+/// A round can be left until a key is copied.
+pub(crate) fn can_be_left(alloc: Global) -> Result<bool, Fault> {
+    let mut hub = keeping(alloc)?;
+    let open = begins(&mut hub) && stays(&mut hub) && is_left(&mut hub);
+    Ok(open && is_copied(&mut hub) && ends(&mut hub))
 }

@@ -1,0 +1,53 @@
+//! What trials are given: settings, and instances of one app.
+use disco_hub::Settings;
+use disco_instance::{Fault, Key, Record, Text};
+use disco_prog::settings_of;
+use disco_registry::Op;
+use disco_wire::read_registration;
+use std::alloc::{AllocError, Global};
+
+pub(crate) fn strings(alloc: Global, words: &[&str]) -> Result<Vec<String>, AllocError> {
+    let mut strings = Vec::new(alloc);
+    for word in words {
+        strings.push(String::from_str(alloc, word)?)?;
+    }
+    Ok(strings)
+}
+
+/// The settings of a command line without options.
+pub(crate) fn defaults(alloc: Global) -> Result<Settings, Fault> {
+    let words = strings(alloc, &["replay"])?;
+    match settings_of(alloc, words.as_slice()) {
+        Ok(settings) => Ok(settings),
+        Err(_) => Err(Fault::OutOfMemory),
+    }
+}
+
+/// The record of the instance of an id, of app A.
+pub(crate) fn record(alloc: Global, id: &str) -> Result<Record, Fault> {
+    let text = format!(in alloc;
+        r#"{{"instance":{{"instanceId":"{id}","hostName":"h","app":"A","ipAddr":"10.0.0.1","vipAddress":"a,b","dataCenterInfo":{{"name":"MyOwn"}}}}}}"#
+    )?;
+    read_registration(alloc, text.as_bytes())
+}
+
+/// What registers it.
+pub(crate) fn registration(alloc: Global, id: &str) -> Result<Op, Fault> {
+    Ok(Op::Register(record(alloc, id)?))
+}
+
+/// What cancels it.
+pub(crate) fn cancel(alloc: Global, id: &str) -> Result<Op, Fault> {
+    Ok(Op::Cancel(Key {
+        app: Text::new(alloc, "A")?,
+        id: Text::new(alloc, id)?,
+    }))
+}
+
+/// The number of a refusal, or 0 where there was none.
+pub(crate) fn refusal<T: Drop>(answer: Result<T, Fault>) -> u32 {
+    match answer {
+        Ok(_) => 0,
+        Err(fault) => fault.number(),
+    }
+}
