@@ -81,10 +81,14 @@ where
     timed
 }
 
-/// Says that connections are taken.
-fn say<W: Write>(port: u16, out: &mut W) -> io::Result<()> {
-    writeln!(out, "listening 127.0.0.1:{port}")?;
-    out.flush()
+/// Says that connections are taken, in one write.
+fn say<W: Write>(alloc: Global, port: u16, out: &mut W) -> Result<(), Fault> {
+    let line = format!(in alloc; "listening 127.0.0.1:{port}\n")?;
+    if out.write_all(line.as_bytes()).is_ok() && out.flush().is_ok() {
+        Ok(())
+    } else {
+        Err(Fault::WriteFailed)
+    }
 }
 
 /// Opens a desk, says that connections are taken, and serves them.
@@ -104,9 +108,9 @@ where
 {
     let (desk, seats) = open::<J, R>(rt, alloc, &service.settings, service.workers, opening)?;
     let desk = Mutex::new(desk);
-    let served = match say(service.port, out) {
+    let served = match say(alloc, service.port, out) {
         Ok(()) => run(rt, alloc, service, listener, &desk, seats),
-        Err(_) => Err(Fault::WriteFailed),
+        Err(fault) => Err(fault),
     };
     desk.into_inner().close(rt);
     served
