@@ -11,9 +11,10 @@ use crate::data_center::DataCenter;
 use crate::lease::Lease;
 use crate::members::{
     flag_member, non_empty_member, number_member, override_member, port_member, status_member,
-    text_member, text_or_empty,
+    text_member,
 };
 use crate::metadata::entries_member;
+use crate::parts::{Addresses, Pages};
 use crate::record::Record;
 use disco_values::{Action, Fault, Field, Key, Status, Text, action_of, upper_text};
 use serde_json::Value;
@@ -106,13 +107,8 @@ fn read_record(alloc: Global, value: &Value, within: Option<&str>) -> Result<Rec
 {
     let key = key_from_value(alloc, value, within)?;
     let data_center = data_center_member(alloc, value)?;
-    let health_check_url = text_or_empty(alloc, value, "healthCheckUrl")?;
-    let home_page_url = text_or_empty(alloc, value, "homePageUrl")?;
-    let status_page_url = text_or_empty(alloc, value, "statusPageUrl")?;
-    let host_name = text_or_empty(alloc, value, "hostName")?;
-    let ip_addr = text_or_empty(alloc, value, "ipAddr")?;
-    let secure_vip_address = text_or_empty(alloc, value, "secureVipAddress")?;
-    let vip_address = text_or_empty(alloc, value, "vipAddress")?;
+    let pages = Pages::read(alloc, value)?;
+    let addresses = Addresses::read(alloc, value)?;
     let overridden_status = override_member(alloc, value)?;
     let status = status_member(alloc, value, "status", Status::Up)?;
     let metadata = entries_member(alloc, value, "metadata")?;
@@ -121,11 +117,11 @@ fn read_record(alloc: Global, value: &Value, within: Option<&str>) -> Result<Rec
         key,
         country_id: country_member(value),
         data_center,
-        health_check_url,
-        home_page_url,
-        status_page_url,
-        host_name,
-        ip_addr,
+        health_check_url: pages.health_check_url,
+        home_page_url: pages.home_page_url,
+        status_page_url: pages.status_page_url,
+        host_name: addresses.host_name,
+        ip_addr: addresses.ip_addr,
         is_coordinating: flag_member(value, "isCoordinatingDiscoveryServer").unwrap_or(false),
         last_dirty: number_member(value, "lastDirtyTimestamp", 0, u64::MAX, 0),
         last_updated: number_member(value, "lastUpdatedTimestamp", 0, u64::MAX, 0),
@@ -134,8 +130,8 @@ fn read_record(alloc: Global, value: &Value, within: Option<&str>) -> Result<Rec
         overridden_status,
         port: port_member(value, "port", 7001, true),
         secure_port: port_member(value, "securePort", 7002, false),
-        secure_vip_address,
-        vip_address,
+        secure_vip_address: addresses.secure_vip_address,
+        vip_address: addresses.vip_address,
         status,
     })
 }

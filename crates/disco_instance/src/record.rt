@@ -6,6 +6,7 @@ ghost use Rattle.disco_values.specs.declared.fault.Fault.TheVariants.{OutOfMemor
 
 use crate::data_center::DataCenter;
 use crate::lease::Lease;
+use crate::parts::{Addresses, Pages};
 use crate::port::Port;
 use disco_values::{Entries, Fault, Key, Status, Text};
 
@@ -57,15 +58,17 @@ impl Record {
         ensures same { IfOk result (λ r. r ≡ self.now) }
         ensures memory { IfErr result (λ e. e ≡ OutOfMemory) }
     {
+        let pages = Pages::copied(self)?;
+        let addresses = Addresses::copied(self)?;
         Ok(Record {
             key: self.key.clone()?,
             country_id: self.country_id,
             data_center: self.data_center.clone()?,
-            health_check_url: self.health_check_url.clone()?,
-            home_page_url: self.home_page_url.clone()?,
-            status_page_url: self.status_page_url.clone()?,
-            host_name: self.host_name.clone()?,
-            ip_addr: self.ip_addr.clone()?,
+            health_check_url: pages.health_check_url,
+            home_page_url: pages.home_page_url,
+            status_page_url: pages.status_page_url,
+            host_name: addresses.host_name,
+            ip_addr: addresses.ip_addr,
             is_coordinating: self.is_coordinating,
             last_dirty: self.last_dirty,
             last_updated: self.last_updated,
@@ -74,8 +77,8 @@ impl Record {
             overridden_status: self.overridden_status,
             port: self.port,
             secure_port: self.secure_port,
-            secure_vip_address: self.secure_vip_address.clone()?,
-            vip_address: self.vip_address.clone()?,
+            secure_vip_address: addresses.secure_vip_address,
+            vip_address: addresses.vip_address,
             status: self.status,
         })
     }
