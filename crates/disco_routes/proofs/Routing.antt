@@ -12,7 +12,7 @@ use Rattle.disco_routes.specs.declared.place.Place.TheVariants as place
 use Rattle.disco_routes.specs.declared.route.Route.{Route}
 use Rattle.disco_routes.specs.declared.route.Route.TheVariants.{Apps, Delta, App, Instance, Status, Metadata, Id, Vip, Svip}
 use Rattle.disco_routes.specs.Paths.{parts, place_of, of_apps, of_instance, one_name, is_empty}
-use Rattle.disco_routes.specs.Table.{table}
+use Rattle.disco_routes.specs.Table.{table, with_apps, with_instances, with_vips}
 use Rattle.disco_routes.proofs.Walk.{front, back, more, back_of, parts_of, split_on, same, under, ends, seek-empty, fork, branch, slash_cut, slash_on, param_on, plain_step, word, IsCut, append-nil}
 use Rattle.disco_routes.proofs.Named.{IsFolder, through, named, named_last}
 
@@ -81,7 +81,7 @@ abbrev all_rows : Rows
 all_rows = under (47 ∷ []) folder_rows ++ ends None
 
 same_rows : rename (λ r. r.value) table ≡ all_rows
-unfolding table matchit_on_literals
+unfolding table with_apps with_instances with_vips matchit_on_literals
 same_rows = refl
 
 -- a row that ends here is a cut

@@ -17,19 +17,34 @@ abbrev pub with_row : Result Scan InsertError → Route → RowsOf (RouteOf Rout
 with_row (Ok s) value rows = placed ((route_from s value).pattern, route_from s value) rows
 with_row (Err e) value rows = rows
 
--- all rows
-unfoldable pub table : RowsOf (RouteOf Route)
-table =
-    with_row (parse_route (codes "/svips/{svip}")) Svip
-    (with_row (parse_route (codes "/vips/{vip}")) Vip
-    (with_row (parse_route (codes "/instances/{id}")) Id
-    (with_row (parse_route (codes "/apps/{app}/{id}/metadata")) Metadata
-    (with_row (parse_route (codes "/apps/{app}/{id}/status")) Status
-    (with_row (parse_route (codes "/apps/{app}/{id}")) Instance
-    (with_row (parse_route (codes "/apps/{app}")) App
+abbrev Rows : Type 0
+Rows = RowsOf (RouteOf Route)
+
+-- and those of apps and of what changed
+unfoldable pub with_apps : Rows → Rows
+with_apps rows =
+    with_row (parse_route (codes "/apps/{app}")) App
     (with_row (parse_route (codes "/apps/delta")) Delta
     (with_row (parse_route (codes "/apps/")) Apps
-    (with_row (parse_route (codes "/apps")) Apps [])))))))))
+    (with_row (parse_route (codes "/apps")) Apps rows)))
+
+-- and those of an instance of an app
+unfoldable pub with_instances : Rows → Rows
+with_instances rows =
+    with_row (parse_route (codes "/apps/{app}/{id}/metadata")) Metadata
+    (with_row (parse_route (codes "/apps/{app}/{id}/status")) Status
+    (with_row (parse_route (codes "/apps/{app}/{id}")) Instance rows))
+
+-- and those of ids and vips
+unfoldable pub with_vips : Rows → Rows
+with_vips rows =
+    with_row (parse_route (codes "/svips/{svip}")) Svip
+    (with_row (parse_route (codes "/vips/{vip}")) Vip
+    (with_row (parse_route (codes "/instances/{id}")) Id rows))
+
+-- all rows
+unfoldable pub table : Rows
+table = with_vips (with_instances (with_apps []))
 
 -- the parts of a path that stand for names
 abbrev pub names : List ℕ → List ℕ

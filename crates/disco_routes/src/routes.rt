@@ -1,8 +1,8 @@
 //! The table of paths.
-ghost use Rattle.std.specs.Prelude.{◌≡◌, IfOk, option_map};
+ghost use Rattle.std.specs.Prelude.{◌≡◌, IfOk, OnOk, option_map};
 ghost use Rattle.disco_routes.specs.Paths.{behind_base, place_at};
 ghost use Rattle.disco_routes.specs.Places.{shown};
-ghost use Rattle.disco_routes.specs.Table.{filled, table};
+ghost use Rattle.disco_routes.specs.Table.{filled, table, with_apps, with_instances, with_vips};
 
 use crate::parts::split;
 use crate::place::Place;
@@ -20,20 +20,45 @@ pub struct Routes {
     ghost routes: { router ≡ table },
 }
 
+/// Adds the rows of apps and of what changed.
+#[tactic(auto, unfolding(crate::specs::Table::with_apps))]
+fn add_apps(router: &mut Router<Route>) -> Result<(), InsertError>
+    ensures { OnOk result (router.new ≡ with_apps router.old) }
+{
+    router.insert("/apps", Route::Apps)?;
+    router.insert("/apps/", Route::Apps)?;
+    router.insert("/apps/delta", Route::Delta)?;
+    router.insert("/apps/{app}", Route::App)
+}
+
+/// Adds the rows of an instance of an app.
+#[tactic(auto, unfolding(crate::specs::Table::with_instances))]
+fn add_instances(router: &mut Router<Route>) -> Result<(), InsertError>
+    ensures { OnOk result (router.new ≡ with_instances router.old) }
+{
+    router.insert("/apps/{app}/{id}", Route::Instance)?;
+    router.insert("/apps/{app}/{id}/status", Route::Status)?;
+    router.insert("/apps/{app}/{id}/metadata", Route::Metadata)
+}
+
+/// Adds the rows of ids and vips.
+#[tactic(auto, unfolding(crate::specs::Table::with_vips))]
+fn add_vips(router: &mut Router<Route>) -> Result<(), InsertError>
+    ensures { OnOk result (router.new ≡ with_vips router.old) }
+{
+    router.insert("/instances/{id}", Route::Id)?;
+    router.insert("/vips/{vip}", Route::Vip)?;
+    router.insert("/svips/{svip}", Route::Svip)
+}
+
+#[tactic(auto, unfolding(crate::specs::Table::table))]
 fn router(alloc: Global) -> Result<Router<Route>, InsertError>
     ensures { IfOk result (λ r. r ≡ table) }
 {
     let mut router = Router::new(alloc);
-    router.insert("/apps", Route::Apps)?;
-    router.insert("/apps/", Route::Apps)?;
-    router.insert("/apps/delta", Route::Delta)?;
-    router.insert("/apps/{app}", Route::App)?;
-    router.insert("/apps/{app}/{id}", Route::Instance)?;
-    router.insert("/apps/{app}/{id}/status", Route::Status)?;
-    router.insert("/apps/{app}/{id}/metadata", Route::Metadata)?;
-    router.insert("/instances/{id}", Route::Id)?;
-    router.insert("/vips/{vip}", Route::Vip)?;
-    router.insert("/svips/{svip}", Route::Svip)?;
+    add_apps(&mut router)?;
+    add_instances(&mut router)?;
+    add_vips(&mut router)?;
     Ok(router)
 }
 
