@@ -1,5 +1,5 @@
 //! The registry.
-ghost use Rattle.std.specs.Prelude.{◌≡◌, ◌<◌, ◌^◌, ◌&&◌, not, nat_lt, List, [], map, IfOk, IfErr, IfSome, None, Some, Ok, filter, option_map, true};
+ghost use Rattle.std.specs.Prelude.{◌≡◌, ◌<◌, ◌^◌, ◌&&◌, not, nat_lt, List, [], map, IfOk, IfErr, IfSome, None, Some, Ok, OnOk, false, filter, option_map, true};
 ghost use Rattle.std.specs.FinMap.{get, len, values};
 ghost use Rattle.std.specs.List.{find};
 ghost use Rattle.disco_instance.specs.Instance.{Gives};
@@ -246,21 +246,34 @@ impl Registry {
         held.is_none() && self.records.len() as u64 >= self.instances
     }
 
-    fn ready_register(&mut self, posted: Record, now: u64) -> Result<Ready, Fault>
+    /// Makes room for a registration at a moment, unless there is a cause against it.
+    fn admit(&mut self, posted: &Record, now: u64) -> Result<(), Fault>
         ensures same { IsSameRegistry self.old self.new }
-        ensures ready { IfOk result (λ r. accepts self.old (register (row posted)) now ≡ Ok r × IsReady self.new r) }
-        ensures refused { IfErr result (Refuses self.old (register (row posted)) now) }
+        ensures place { OnOk result ((is_new (record_at self.old.held posted.now.key) && not (nat_lt (len self.old.held) self.old.instances)) ≡ false) }
+        ensures left { OnOk result (self.old.version < self.old.versions) }
+        ensures room { OnOk result (0 < self.new.room) }
+        ensures refused { IfErr result (Refuses self.old (register (row posted.now)) now) }
     {
-        let held = self.records.get(&posted.key);
-        if self.has_no_place(held) {
+        let _ = now;
+        if self.has_no_place(self.records.get(&posted.key)) {
             return Err(Fault::TooManyInstances);
         }
         if self.version >= self.versions {
             return Err(Fault::VersionsSpent);
         }
+        self.records.reserve()?;
+        Ok(())
+    }
+
+    fn ready_register(&mut self, posted: Record, now: u64) -> Result<Ready, Fault>
+        ensures same { IsSameRegistry self.old self.new }
+        ensures ready { IfOk result (λ r. accepts self.old (register (row posted)) now ≡ Ok r × IsReady self.new r) }
+        ensures refused { IfErr result (Refuses self.old (register (row posted)) now) }
+    {
+        self.admit(&posted, now)?;
+        let held = self.records.get(&posted.key);
         let new = settled(held, posted, now)?;
         let ready = put_ready(self.alloc, new, Action::Added)?;
-        self.records.reserve()?;
         Ok(ready)
     }
 
