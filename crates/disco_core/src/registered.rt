@@ -3,7 +3,7 @@ ghost use Rattle.std.specs.Prelude.{◌≡◌, ◌≢◌, ◌<◌, ◌≤◌, �
 ghost use Rattle.std.specs.FinMap.{len};
 ghost use Rattle.disco_values.specs.declared.fault.Fault.TheVariants.{OutOfMemory};
 ghost use Rattle.disco_instance.specs.Row.{row};
-ghost use Rattle.disco_history.specs.Change.{Entry, key_of, seen};
+ghost use Rattle.disco_history.specs.Change.{Entry, is_proper, key_of, seen};
 ghost use Rattle.disco_history.specs.Held.{record_at};
 ghost use Rattle.disco_history.specs.Query.{is_absent};
 ghost use Rattle.disco_history.specs.Registry.{put_of, reg};
@@ -14,13 +14,13 @@ ghost use Rattle.disco_queue.specs.Queue as recent;
 ghost use Rattle.disco_registry.specs.Accept.{Refuses, accepts};
 ghost use Rattle.disco_registry.specs.Commit as commit;
 ghost use Rattle.disco_registry.specs.Commit.{Takes, changes_properly, done_by, held_after};
-ghost use Rattle.disco_registry.specs.Op.{Ask, ask_of};
+ghost use Rattle.disco_registry.specs.Op.{Ask, ask_of, asked_key};
 ghost use Rattle.disco_registry.specs.State as registry;
 ghost use Rattle.disco_writer.specs.Documents.{IsWritten, asked_by, is_delta};
 ghost use Rattle.disco_cache.specs.Payloads.{IsTrue};
 ghost use Rattle.disco_core.specs.Past.{Past, cleaned, history, minute_closed, nothing, taken_in, with_done};
 ghost use Rattle.disco_core.specs.Refusals.{doc_of_id, doc_of_key, refusal_of, refusal_of_id};
-ghost use Rattle.disco_core.specs.Moves.{Moves, OthersStay};
+ghost use Rattle.disco_core.specs.Moves.{Moves, OthersStay, step_for};
 ghost use Rattle.disco_core.specs.State.{AddsNoPlaces, HasPlacesFor, HasRoomFor, IsFor, IsReady, IsSameCore, IsSwept, IsSweptAfter, StandsFor, change_in, moment_in, rules, rules_of};
 
 use crate::counts::count;
@@ -98,6 +98,42 @@ impl Ready {
     {
         Ok(shared(self.ready.change())?)
     }
+}
+
+/// What is ready of an operation, with its change once more.
+fn with_kept(
+    ready: disco_registry::Ready,
+    key: Key,
+    step: Step,
+    moment: u64,
+) -> Result<Ready, Fault>
+    ensures ready { IfOk result (λ r. (r.ready ≡ ready) × (r.key ≡ key) × (r.step ≡ step) × (r.moment ≡ moment)) }
+    ensures kept { IfOk result (λ r. (option_map seen r.kept ≡ change_in r) × IfSome r.kept (λ c. is_proper c ≡ true)) }
+    ensures memory { IfErr result (λ e. e ≡ OutOfMemory) }
+{
+    let kept = shared(ready.change())?;
+    Ok(Ready {
+        ready,
+        key,
+        step,
+        kept,
+        moment,
+    })
+}
+
+/// Makes the registry ready for an operation. Refused as the operation is, and as `OutOfMemory`.
+fn accept(held: &mut Registry, op: Op, now: u64) -> Result<Ready, Fault>
+    ensures same { registry.IsSameRegistry held.old held.new }
+    ensures ready { IfOk result (λ r. accepts held.old (ask_of op) now ≡ Ok (change_in r) × commit.IsReady held.new r.ready) }
+    ensures moment { IfOk result (λ r. moment_in r ≡ now) }
+    ensures asked { IfOk result (λ r. (r.key ≡ asked_key (ask_of op)) × (r.step ≡ step_for (ask_of op))) }
+    ensures kept { IfOk result (λ r. (option_map seen r.kept ≡ change_in r) × IfSome r.kept (λ c. is_proper c ≡ true)) }
+    ensures refused { IfErr result (Refuses held.old (ask_of op) now) }
+{
+    let step = step_of(&op);
+    let key = op.key().clone()?;
+    let ready = held.ready(op, now)?;
+    with_kept(ready, key, step, now)
 }
 
 /// Makes the places that a change needs. Refused only as `OutOfMemory`, with places half made.
@@ -240,23 +276,14 @@ impl Core {
         ensures refused { IfErr result (Refuses self.old.registry (ask_of op) now) }
         ensures given_back { OnErr result (AddsNoPlaces self.old self.new) }
     {
-        let step = step_of(&op);
-        let key = op.key().clone()?;
-        let ready = self.registry.ready(op, now)?;
-        let kept = shared(ready.change())?;
+        let ready = accept(&mut self.registry, op, now)?;
         open_places(
             &mut self.vips,
             &mut self.leases,
             &mut self.queue,
-            ready.change(),
+            ready.to_come(),
         )?;
-        Ok(Ready {
-            ready,
-            key,
-            step,
-            kept,
-            moment: now,
-        })
+        Ok(ready)
     }
 
     /// Does what is ready, which has to be of this core as it is. Takes no memory, and gives back the

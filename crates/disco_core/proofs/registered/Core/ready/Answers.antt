@@ -8,17 +8,17 @@ use Rattle.disco_core.proofs.registered.Core.ready.Goals as goal
 
 pub invariant_of-self-in_err-open_places : goal.invariant_of-self-in_err-open_places
 invariant_of-self-in_err-open_places c =
-    tied_same c.self.inside.registry c.ready.new.self c.self.inside.counts c.self.inside.vips c.open_places.new.index c.self.inside.leases c.open_places.new.book c.self.inside.queue c.open_places.new.queue
-    c.self.invariant c.ready.ensures.same c.open_places.ensures.vips c.open_places.ensures.leases c.open_places.ensures.queue
+    tied_same c.self.inside.registry c.accept.new.held c.self.inside.counts c.self.inside.vips c.open_places.new.index c.self.inside.leases c.open_places.new.book c.self.inside.queue c.open_places.new.queue
+    c.self.invariant c.accept.ensures.same c.open_places.ensures.vips c.open_places.ensures.leases c.open_places.ensures.queue
 
 pub invariant_of-self-2 : goal.invariant_of-self-2
 invariant_of-self-2 c =
-    tied_same c.self.inside.registry c.ready.new.self c.self.inside.counts c.self.inside.vips c.open_places.new.index c.self.inside.leases c.open_places.new.book c.self.inside.queue c.open_places.new.queue
-    c.self.invariant c.ready.ensures.same c.open_places.ensures.vips c.open_places.ensures.leases c.open_places.ensures.queue
+    tied_same c.self.inside.registry c.accept.new.held c.self.inside.counts c.self.inside.vips c.open_places.new.index c.self.inside.leases c.open_places.new.book c.self.inside.queue c.open_places.new.queue
+    c.self.invariant c.accept.ensures.same c.open_places.ensures.vips c.open_places.ensures.leases c.open_places.ensures.queue
 
 pub returns-in_err-open_places-clause-same : goal.returns-in_err-open_places-clause-same
 returns-in_err-open_places-clause-same c = same_from _ _ _ c.self.view_is (record {
-  registry = c.ready.ensures.same;
+  registry = c.accept.ensures.same;
   vips = c.open_places.ensures.vips;
   leases = c.open_places.ensures.leases;
   queue = c.open_places.ensures.queue;
@@ -28,7 +28,7 @@ returns-in_err-open_places-clause-same c = same_from _ _ _ c.self.view_is (recor
 
 pub returns-clause-same : goal.returns-clause-same
 returns-clause-same c = same_from _ _ _ c.self.view_is (record {
-  registry = c.ready.ensures.same;
+  registry = c.accept.ensures.same;
   vips = c.open_places.ensures.vips;
   leases = c.open_places.ensures.leases;
   queue = c.open_places.ensures.queue;
