@@ -48,7 +48,7 @@ fn serve_all<J: Naming, R: Wait, C: Clock + Copy, G: Gate>(
     alloc: Global,
     listener: &TcpListener,
     door: &Mutex<Door>,
-    mut service: DeskService<'_, J, R, C, G>,
+    service: &mut DeskService<'_, J, R, C, G>,
     mut buffers: Buffers,
 ) {
     for _ in rt.forever() {
@@ -56,7 +56,7 @@ fn serve_all<J: Naming, R: Wait, C: Clock + Copy, G: Gate>(
             return;
         };
         service.connection = number;
-        buffers = attend(alloc, buffers, &stream, &mut service);
+        buffers = attend(alloc, buffers, &stream, service);
     }
 }
 
@@ -77,8 +77,8 @@ pub(crate) fn work<J: Naming, R: Wait, C: Clock + Copy, G: Gate>(
     } = worker;
     match Routes::new(alloc) {
         Ok(routes) => {
-            let service = DeskService::new(shop, routes, seat, clock);
-            serve_all(rt, alloc, listener, door, service, buffers);
+            let mut service = DeskService::new(shop, routes, seat, clock);
+            serve_all(rt, alloc, listener, door, &mut service, buffers);
         }
         Err(_) => door.lock(rt).refuse(Refusal::NoMemory),
     }
