@@ -10,7 +10,6 @@ use Rattle.disco_hub.specs.Press.{IsPublishable}
 use Rattle.disco_rounds.specs.Rounds.{KeySet, Round, Rounds}
 use Rattle.disco_hub.specs.State.{MayServe, StandsFor, rules_of}
 use Rattle.disco_hub.proofs.Levels.{first_levels, first_pressed}
-use Rattle.disco_world.specs.Rounds.{new_press}
 use Rattle.std.specs.FinMap.{empty}
 use Rattle.disco_world.specs.Answers.{AreAnswers, AreServed, IsAnswer, IsFirstBadEvent, IsPressed, IsServed, key_asked}
 use Rattle.disco_world.specs.Levels.{AreLevelsOf, Goes}

@@ -1,13 +1,15 @@
 //! Runs of events.
 ghost use Rattle.std.specs.Prelude.{◌≡◌, ◌≢◌, false, length, IfOk, IfErr, IfSome, IfNone, None, Result, Some, option_map};
 ghost use Rattle.std.specs.BTreeMap as tree;
+ghost use Rattle.std.specs.FinMap.{empty};
 ghost use Rattle.std.specs.Ordering.{nat_cmp};
 ghost use Rattle.disco_instance.specs.Instance.{Gives};
 ghost use Rattle.disco_values.specs.declared.fault.Fault.{Fault};
 ghost use Rattle.disco_values.specs.declared.fault.Fault.TheVariants.{OutOfMemory};
 ghost use Rattle.disco_registry.specs.Op.{Ask, ask_of};
+ghost use Rattle.disco_core.specs.Past.{nothing};
 ghost use Rattle.disco_core.specs.State.{rules};
-ghost use Rattle.disco_hub.specs.State.{rules_of};
+ghost use Rattle.disco_hub.specs.State.{StandsFor, rules_of};
 ghost use Rattle.disco_world.specs.Answers.{AreAnswers, AreKnown, ArePressed, AreServed, IsFirstBadEvent};
 ghost use Rattle.disco_world.specs.Events.{World, bad, closes, deed, doc_in, doc_of_event, expires, for_clients, writes};
 ghost use Rattle.disco_world.specs.Levels.{AreLevelsOf, Goes};
@@ -44,9 +46,30 @@ pub fn run(alloc: Global, settings: &Settings, events: &[Event]) -> Result<Vec<R
 {
     let mut levels = Levels::new(alloc, settings);
     let mut clients = BTreeMap::new(alloc);
+    run_all(alloc, &mut levels, &mut clients, events)
+}
+
+/// Runs the events over an empty registry, of which no client has a copy.
+fn run_all(
+    alloc: Global,
+    levels: &mut Levels,
+    clients: &mut Clients,
+    events: &[Event],
+) -> Result<Vec<Reply>, Fault>
+    requires stands { StandsFor levels.old.hub nothing }
+    requires rounds { levels.old.hub.rounds ≡ record { edition = empty; round = None } }
+    requires published { levels.old.published ≡ empty }
+    requires clients { tree.IsEmpty clients.old }
+    ensures each { IfOk result (λ replies. length replies.items ≡ length events.now) }
+    ensures answers { IfOk result (λ replies. AreAnswers (rules_of levels.old.hub) events.now replies.items) }
+    ensures served { IfOk result (λ replies. AreServed (rules_of levels.old.hub) events.now replies.items) }
+    ensures pressed { IfOk result (λ replies. ArePressed (rules_of levels.old.hub) events.now replies.items) }
+    ensures known { IfOk result (λ replies. AreKnown (rules_of levels.old.hub) events.now replies.items) }
+    ensures refused { IfErr result (λ e. e ≢ OutOfMemory → IsFirstBadEvent (rules_of levels.old.hub) events.now e) }
+{
     let mut replies = Vec::new(alloc);
     for event in events {
-        let Some(reply) = answer(alloc, &mut levels, &mut clients, replies.as_slice(), event) else {
+        let Some(reply) = answer(alloc, levels, clients, replies.as_slice(), event) else {
             return Err(Fault::BadEvent(replies.len() as u64 + 1));
         };
         replies.push(reply)?;

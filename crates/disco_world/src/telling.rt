@@ -1,12 +1,17 @@
 //! Runs whose replies are told as they come, and not held.
-ghost use Rattle.std.specs.Prelude.{◌≡◌, ◌⊎◌, ℕ, List, Option, IfErr, OnOk, false};
+ghost use Rattle.std.specs.Prelude.{◌≡◌, ◌⊎◌, ℕ, List, Option, IfErr, None, OnOk, false};
+ghost use Rattle.std.specs.BTreeMap as tree;
+ghost use Rattle.std.specs.FinMap.{empty};
 ghost use Rattle.std.specs.Io.KnownBytes.{Appends};
 ghost use Rattle.std.specs.List.{list_any};
 ghost use Rattle.disco_values.specs.declared.fault.Fault.TheVariants.{OutOfMemory, WriteFailed};
+ghost use Rattle.disco_core.specs.Past.{nothing};
 ghost use Rattle.disco_core.specs.State.{rules};
+ghost use Rattle.disco_hub.specs.State.{StandsFor, rules_of};
 ghost use Rattle.disco_world.specs.Telling.{AreTold, is_take};
 ghost use Rattle.disco_world.specs.declared.event.Reply.{Reply};
 
+use crate::clients::Clients;
 use crate::event::{Event, Reply};
 use crate::levels::Levels;
 use crate::runs::answer_alone;
@@ -58,8 +63,28 @@ pub fn run_to<W, T: Tell<W>>(
 {
     let mut levels = Levels::new(alloc, settings);
     let clients = BTreeMap::new(alloc);
+    tell_all(alloc, &mut levels, &clients, events, teller, out)
+}
+
+/// Runs the events over an empty registry, of which no client has a copy, and tells each reply.
+fn tell_all<W, T: Tell<W>>(
+    alloc: Global,
+    levels: &mut Levels,
+    clients: &Clients,
+    events: &[Event],
+    teller: &mut T,
+    out: &mut W,
+) -> Result<(), Fault>
+    requires stands { StandsFor levels.old.hub nothing }
+    requires rounds { levels.old.hub.rounds ≡ record { edition = empty; round = None } }
+    requires published { levels.old.published ≡ empty }
+    requires clients { tree.IsEmpty clients.now }
+    requires alone { list_any is_take events.now ≡ false }
+    ensures told { OnOk result (AreTold (rules_of levels.old.hub) events.now T.text (T.told teller.old out.old) (T.told teller.new out.new)) }
+    ensures fault { IfErr result (λ e. (e ≡ WriteFailed) ⊎ (e ≡ OutOfMemory)) }
+{
     for event in events {
-        let reply = answer_alone(alloc, &mut levels, &clients, event);
+        let reply = answer_alone(alloc, levels, clients, event);
         teller.tell(&reply, out)?;
     }
     Ok(())

@@ -1,8 +1,0 @@
-use Rattle.std.specs.BTreeMap as tree
-use Rattle.std.specs.Ordering.{nat_cmp}
-use Rattle.disco_core.specs.State.{rules}
-use Rattle.disco_world.proofs.Tellings.{IsTelling}
-use Rattle.disco_world.proofs.telling.run_to.Given as goal
-
-abbrev pub invariant-loop-event : goal.invariant-loop-event
-invariant-loop-event g l = IsTelling (rules l.settings) l.events g.T.Tell.text l.event-index l.levels (tree.get nat_cmp l.clients) (g.T.Tell.told l.fn.teller l.fn.out) (g.T.Tell.told l.teller l.out)
