@@ -1,5 +1,5 @@
 //! Kept documents, by the calls that no event reaches alone.
-use crate::given::{defaults, record, registration};
+use crate::given::{empty_hub, key, record, registration};
 use disco_cache::{DocCache, DocKey, Payload};
 use disco_hub::Hub;
 use disco_instance::{Bytes, Fault, Form, Text};
@@ -42,24 +42,53 @@ fn has_both(alloc: Global, cache: &DocCache) -> Result<bool, Fault> {
     Ok(keys.len() == 2 && *keys[0] == least)
 }
 
+/// Whether the document that a change names is gone, and the other one kept.
+fn has_one(alloc: Global, cache: &DocCache) -> Result<bool, Fault> {
+    let named = cache.get(&vip(alloc, "a", Form::Compact)?).is_none();
+    Ok(named && cache.get(&vip(alloc, "c", Form::Full)?).is_some())
+}
+
+/// Drops what a change of an instance names.
+fn forget(alloc: Global, cache: &mut DocCache) -> Result<(), Fault> {
+    let rec = record(alloc, "1")?;
+    cache.invalidate(None, Some(&rec));
+    Ok(())
+}
+
+fn keeps(alloc: Global, cache: &mut DocCache) -> Result<bool, Fault> {
+    let kept = fills(alloc, cache)? && has_both(alloc, cache)?;
+    forget(alloc, cache)?;
+    Ok(kept && has_one(alloc, cache)?)
+}
+
 /// Documents are kept by key until a change names them.
 pub(crate) fn keeps_by_key(alloc: Global) -> Result<bool, Fault> {
     let mut cache = DocCache::new(alloc, 2);
-    let kept = fills(alloc, &mut cache)? && has_both(alloc, &cache)?;
-    cache.invalidate(None, Some(&record(alloc, "1")?));
-    let named = cache.get(&vip(alloc, "a", Form::Compact)?).is_none();
-    let other = cache.get(&vip(alloc, "c", Form::Full)?).is_some();
-    Ok(kept && named && other)
+    keeps(alloc, &mut cache)
+}
+
+/// Whether what is ready for a registration tells a change. It is done.
+fn tells_a_change(alloc: Global, hub: &mut Hub) -> Result<bool, Fault> {
+    let op = registration(alloc, "1")?;
+    let ready = hub.ready(op, 1)?;
+    let told = ready.change()?.is_some();
+    let _ = hub.commit(ready);
+    Ok(told && hub.version() == 1)
+}
+
+/// Whether what is ready for a renewal tells none.
+fn tells_none(alloc: Global, hub: &mut Hub) -> Result<bool, Fault> {
+    let op = Op::Renew(key(alloc, "1")?);
+    let ready = hub.ready(op, 2)?;
+    Ok(ready.change()?.is_none())
+}
+
+fn tells(alloc: Global, hub: &mut Hub) -> Result<bool, Fault> {
+    Ok(tells_a_change(alloc, hub)? && tells_none(alloc, hub)?)
 }
 
 /// What is ready tells the change to come, where there is one.
 pub(crate) fn tells_what_comes(alloc: Global) -> Result<bool, Fault> {
-    let settings = defaults(alloc)?;
-    let mut hub = Hub::new(alloc, &settings);
-    let ready = hub.ready(registration(alloc, "1")?, 1)?;
-    let change = ready.change()?.is_some();
-    let _ = hub.commit(ready);
-    let version = hub.version();
-    let again = hub.ready(Op::Renew(record(alloc, "1")?.key), 2)?;
-    Ok(change && version == 1 && again.change()?.is_none())
+    let mut hub = empty_hub(alloc)?;
+    tells(alloc, &mut hub)
 }

@@ -1,5 +1,5 @@
 //! Calls that no event reaches, each once where there is memory.
-use crate::given::{record, registration};
+use crate::given::{key, registration};
 use disco_history::{Change, last_of};
 use disco_index::Counts;
 use disco_instance::{Fault, Status};
@@ -13,20 +13,36 @@ fn registered(alloc: Global, registry: &mut Registry, id: &str) -> Result<Change
     }
 }
 
+fn all_registered(alloc: Global, registry: &mut Registry) -> Result<Vec<Change>, Fault> {
+    let mut changes = Vec::new(alloc);
+    for id in ["1", "2", "1"] {
+        changes.push(registered(alloc, registry, id)?)?;
+    }
+    Ok(changes)
+}
+
+fn are_last(alloc: Global, changes: &[Change]) -> Result<bool, Fault> {
+    let last = last_of(changes, &key(alloc, "1")?) == Some(2);
+    Ok(last && last_of(changes, &key(alloc, "3")?).is_none())
+}
+
+fn are_held(alloc: Global, registry: &Registry) -> Result<bool, Fault> {
+    let held = registry
+        .get(&key(alloc, "1")?)
+        .is_some_and(|rec| rec.lease.registration == 1000);
+    let none = registry.get(&key(alloc, "3")?).is_none();
+    Ok(held && none && registry.len() == 2)
+}
+
+fn are_found(alloc: Global, registry: &mut Registry) -> Result<bool, Fault> {
+    let changes = all_registered(alloc, registry)?;
+    Ok(are_last(alloc, changes.as_slice())? && are_held(alloc, registry)?)
+}
+
 /// Operations are applied, and the last change of a key is found.
 pub(crate) fn last_of_a_key(alloc: Global) -> Result<bool, Fault> {
     let mut registry = Registry::new(alloc, 10, 10);
-    let mut changes = Vec::new(alloc);
-    for id in ["1", "2", "1"] {
-        changes.push(registered(alloc, &mut registry, id)?)?;
-    }
-    let (one, other) = (record(alloc, "1")?.key, record(alloc, "3")?.key);
-    let last = last_of(changes.as_slice(), &one) == Some(2);
-    let none = last_of(changes.as_slice(), &other).is_none() && registry.get(&other).is_none();
-    let held = registry
-        .get(&one)
-        .is_some_and(|rec| rec.lease.registration == 1000);
-    Ok(last && none && held && registry.len() == 2)
+    are_found(alloc, &mut registry)
 }
 
 /// A hash code is pushed into room that is there.

@@ -36,10 +36,19 @@ fn has_vips(alloc: Global, copy: &Copy) -> Result<bool, Fault> {
     Ok(all)
 }
 
+fn has_hash(alloc: Global, copy: &Copy) -> Result<bool, Fault> {
+    let hash = copy.hash(alloc)?;
+    Ok(hash.as_str() == "DOWN_1_UP_1_" && has_hashes(copy))
+}
+
+fn shows(alloc: Global, copy: &mut Copy) -> Result<bool, Fault> {
+    let document = read_document(alloc, SAMPLE.as_bytes())?;
+    copy.full(document)?;
+    Ok(has_hash(alloc, copy)? && has_vips(alloc, copy)?)
+}
+
 /// The copy of a sample has its hash code, and finds its instances.
 pub(crate) fn shows_the_sample(alloc: Global) -> Result<bool, Fault> {
     let mut copy = Copy::new(alloc);
-    copy.full(read_document(alloc, SAMPLE.as_bytes())?)?;
-    let hash = copy.hash(alloc)?;
-    Ok(hash.as_str() == "DOWN_1_UP_1_" && has_hashes(&copy) && has_vips(alloc, &copy)?)
+    shows(alloc, &mut copy)
 }

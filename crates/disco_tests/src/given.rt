@@ -1,5 +1,5 @@
 //! What trials are given: settings, and instances of one app.
-use disco_hub::Settings;
+use disco_hub::{Hub, Settings};
 use disco_instance::{Fault, Key, Record, Text};
 use disco_prog::settings_of;
 use disco_registry::Op;
@@ -23,12 +23,26 @@ pub(crate) fn defaults(alloc: Global) -> Result<Settings, Fault> {
     }
 }
 
+/// An empty hub.
+pub(crate) fn empty_hub(alloc: Global) -> Result<Hub, Fault> {
+    let settings = defaults(alloc)?;
+    Ok(Hub::new(alloc, &settings))
+}
+
 /// The record of the instance of an id, of app A.
 pub(crate) fn record(alloc: Global, id: &str) -> Result<Record, Fault> {
     let text = format!(in alloc;
         r#"{{"instance":{{"instanceId":"{id}","hostName":"h","app":"A","ipAddr":"10.0.0.1","vipAddress":"a,b","dataCenterInfo":{{"name":"MyOwn"}}}}}}"#
     )?;
     read_registration(alloc, text.as_bytes())
+}
+
+/// The key of that instance.
+pub(crate) fn key(alloc: Global, id: &str) -> Result<Key, Fault> {
+    Ok(Key {
+        app: Text::new(alloc, "A")?,
+        id: Text::new(alloc, id)?,
+    })
 }
 
 /// What registers it.
@@ -38,10 +52,7 @@ pub(crate) fn registration(alloc: Global, id: &str) -> Result<Op, Fault> {
 
 /// What cancels it.
 pub(crate) fn cancel(alloc: Global, id: &str) -> Result<Op, Fault> {
-    Ok(Op::Cancel(Key {
-        app: Text::new(alloc, "A")?,
-        id: Text::new(alloc, id)?,
-    }))
+    Ok(Op::Cancel(key(alloc, id)?))
 }
 
 /// The number of a refusal, or 0 where there was none.

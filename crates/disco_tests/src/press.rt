@@ -6,7 +6,6 @@ use disco_cache::DocKey;
 use disco_hub::Copied;
 use disco_instance::{Fault, Form, Text};
 use disco_press::{Desk, Looked, Naming, Opening, Seat, open};
-use disco_registry::Applied;
 use disco_writer::Query;
 use std::alloc::Global;
 use std::sync::{Mutex, MutexGuard, Wait};
@@ -45,8 +44,51 @@ fn copied(answer: Result<Option<Copied>, Fault>) -> Result<u64, Fault> {
     }
 }
 
-fn is_change(answer: Result<Applied, Fault>) -> Result<bool, Fault> {
-    Ok(matches!(answer?, Applied::Changed(_)))
+fn register<J: Naming>(alloc: Global, desk: &mut Desk<J>, id: &str, now: u64) -> Result<(), Fault> {
+    let op = registration(alloc, id)?;
+    desk.write(op, now)?;
+    Ok(())
+}
+
+/// Cancels an instance, and answers the number of the refusal, 0 for none.
+fn cancels<J: Naming>(alloc: Global, desk: &mut Desk<J>, id: &str, now: u64) -> Result<u32, Fault> {
+    let op = cancel(alloc, id)?;
+    Ok(refusal(desk.write(op, now)))
+}
+
+/// The version of a document that is loaded.
+fn loaded<J: Naming>(desk: &mut Desk<J>, key: &DocKey) -> Result<u64, Fault> {
+    Ok(desk.load(key)?.version)
+}
+
+/// A round begins: what is refused before it, how many keys it has, and what is refused then.
+fn begins<J: Naming, R: Wait>(
+    rt: &R,
+    desk: &mut Desk<J>,
+) -> Result<(u32, u32, usize, u32, u32), Fault> {
+    let early = (refusal(desk.copy_one()), refusal(desk.publish(rt)));
+    let keys = desk.begin()?;
+    let open = (refusal(desk.begin()), refusal(desk.publish(rt)));
+    Ok((early.0, early.1, keys, open.0, open.1))
+}
+
+/// Both keys of a round are copied, and what there is is published.
+fn ends<J: Naming, R: Wait>(rt: &R, desk: &mut Desk<J>) -> Result<(u64, u64, usize), Fault> {
+    let first = copied(desk.copy_one())?;
+    let second = copied(desk.copy_one())?;
+    Ok((first, second, desk.publish(rt)?))
+}
+
+/// The only key of a round is copied, an instance registers, and what there is is published.
+fn ends_behind<J: Naming, R: Wait>(
+    rt: &R,
+    alloc: Global,
+    desk: &mut Desk<J>,
+) -> Result<(u64, u64, usize), Fault> {
+    let first = copied(desk.copy_one())?;
+    register(alloc, desk, "2", 2)?;
+    let done = copied(desk.copy_one())?;
+    Ok((first, done, desk.publish(rt)?))
 }
 
 /// A document of all apps is published, and refusals come in their order.
@@ -55,17 +97,12 @@ fn first_round<J: Naming, R: Wait>(
     alloc: Global,
     desk: &mut Desk<J>,
 ) -> Result<(u32, u32, usize, u32, u32, u64, u64, usize), Fault> {
-    desk.write(registration(alloc, "1")?, 1)?;
-    let _ = desk.load(&apps())?;
-    let early = (refusal(desk.copy_one()), refusal(desk.publish(rt)));
-    let keys = desk.begin()?;
-    let open = (refusal(desk.begin()), refusal(desk.publish(rt)));
-    let first = copied(desk.copy_one())?;
-    desk.write(registration(alloc, "2")?, 2)?;
-    let done = copied(desk.copy_one())?;
-    let documents = desk.publish(rt)?;
+    register(alloc, desk, "1", 1)?;
+    let _ = loaded(desk, &apps())?;
+    let begun = begins(rt, desk)?;
+    let ended = ends_behind(rt, alloc, desk)?;
     Ok((
-        early.0, early.1, keys, open.0, open.1, first, done, documents,
+        begun.0, begun.1, begun.2, begun.3, begun.4, ended.0, ended.1, ended.2,
     ))
 }
 
@@ -75,14 +112,12 @@ fn second_round<J: Naming, R: Wait>(
     alloc: Global,
     desk: &mut Desk<J>,
 ) -> Result<(u64, u64, usize, u64, u64, usize), Fault> {
-    let all = desk.load(&apps())?.version;
-    let app = desk.load(&app_a(alloc)?)?.version;
+    let all = loaded(desk, &apps())?;
+    let app = loaded(desk, &app_a(alloc)?)?;
     let keys = desk.begin()?;
-    desk.write(cancel(alloc, "1")?, 3)?;
-    desk.write(cancel(alloc, "2")?, 4)?;
-    let first = copied(desk.copy_one())?;
-    let dropped = copied(desk.copy_one())?;
-    Ok((all, app, keys, first, dropped, desk.publish(rt)?))
+    let _ = (cancels(alloc, desk, "1", 3)?, cancels(alloc, desk, "2", 4)?);
+    let ended = ends(rt, desk)?;
+    Ok((all, app, keys, ended.0, ended.1, ended.2))
 }
 
 /// What was asked of a desk, and how it answered.
@@ -154,12 +189,10 @@ pub(crate) fn a_seat_sees_what_is_published<J: Naming, R: Wait>(
 
 /// Registers an instance, and publishes the document of all apps.
 fn fill<J: Naming, R: Wait>(rt: &R, alloc: Global, desk: &mut Desk<J>) -> Result<(), Fault> {
-    desk.write(registration(alloc, "1")?, 1)?;
-    let _ = desk.load(&apps())?;
+    register(alloc, desk, "1", 1)?;
+    let _ = loaded(desk, &apps())?;
     desk.begin()?;
-    let _ = desk.copy_one()?;
-    desk.write(registration(alloc, "2")?, 2)?;
-    desk.publish(rt)?;
+    let _ = ends_behind(rt, alloc, desk)?;
     Ok(())
 }
 
@@ -189,26 +222,54 @@ fn see<J: Naming, R: Wait>(rt: &R, desk: &Mutex<Desk<J>>, mut seat: Seat<J>) -> 
     (seen, seat)
 }
 
-/// What a seat counts when it cancels an instance, and the same once more.
+/// Cancels an instance for a seat, and answers the number of the refusal, 0 for none.
+fn cancels_as<J: Naming>(
+    alloc: Global,
+    desk: &mut Desk<J>,
+    seat: &mut Seat<J>,
+    now: u64,
+) -> Result<u32, Fault> {
+    let op = cancel(alloc, "1")?;
+    Ok(refusal(desk.write_as(seat, op, now)))
+}
+
+/// How a seat is answered that cancels an instance twice, and how many changes it counts.
 fn counts<J: Naming, R: Wait>(
     rt: &R,
     alloc: Global,
     desk: &Mutex<Desk<J>>,
     seat: &mut Seat<J>,
-) -> Result<(u32, u64), Fault> {
-    let (first, again) = (cancel(alloc, "1")?, cancel(alloc, "1")?);
+) -> Result<(u32, u32, u64), Fault> {
     let mut guard = desk.lock(rt);
-    let gone = is_change(guard.write_as(seat, first, 3));
-    let refused = refusal(guard.write_as(seat, again, 4));
+    let first = cancels_as(alloc, &mut *guard, seat, 3);
+    let again = cancels_as(alloc, &mut *guard, seat, 4);
     MutexGuard::unlock(guard);
-    Ok((if gone? { refused } else { 0 }, seat.changes()))
+    Ok((first?, again?, seat.changes()))
+}
+
+/// One thread publishes, and another one looks; then a seat cancels.
+fn at_once<J: Naming + Send + Sync, R: Threads + Wait + Sync>(
+    rt: &R,
+    alloc: Global,
+    desk: &Mutex<Desk<J>>,
+    one: &mut Seat<J>,
+    two: Seat<J>,
+) -> Result<(u64, (u32, u32, u64)), Fault> {
+    let (filled, (seen, _two)) = join(
+        rt,
+        move || fill_locked(rt, alloc, desk),
+        move || see(rt, desk, two),
+    );
+    let counted = counts(rt, alloc, desk, one);
+    filled?;
+    Ok((seen, counted?))
 }
 
 fn two_threads<J: Naming + Send + Sync, R: Threads + Wait + Sync>(
     rt: &R,
     alloc: Global,
     opening: Opening,
-) -> Result<(u64, u32, u64), Fault>
+) -> Result<(u64, (u32, u32, u64)), Fault>
     requires marks { opening.marks.name ≡ J.list }
     requires name { opening.blank.name ≡ J.name }
     requires parts { opening.blank.parts ≡ J.parts }
@@ -218,17 +279,9 @@ fn two_threads<J: Naming + Send + Sync, R: Threads + Wait + Sync>(
     let two = seats.pop().unwrap();
     let mut one = seats.pop().unwrap();
     let desk = Mutex::new(desk);
-    let shared = &desk;
-    let (filled, (seen, _two)) = join(
-        rt,
-        move || fill_locked(rt, alloc, shared),
-        move || see(rt, shared, two),
-    );
-    let counted = counts(rt, alloc, &desk, &mut one);
+    let came = at_once(rt, alloc, &desk, &mut one, two);
     desk.into_inner().close(rt);
-    filled?;
-    let (refused, changes) = counted?;
-    Ok((seen, refused, changes))
+    came
 }
 
 /// Another thread sees what was published, and a seat counts what was changed for it.
@@ -242,5 +295,5 @@ pub(crate) fn another_thread_sees_it<J: Naming + Send + Sync, R: Threads + Wait 
     requires parts { opening.blank.parts ≡ J.parts }
 {
     let came = two_threads::<J, R>(rt, alloc, opening)?;
-    Ok(came == (1, 5, 1))
+    Ok(came == (1, (0, 5, 1)))
 }

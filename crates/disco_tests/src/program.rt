@@ -13,19 +13,28 @@ fn push_registration(input: &mut String, id: u32) -> Result<(), AllocError> {
     )
 }
 
-/// 65,536 instances are held, and no more.
-pub(crate) fn holds_its_most(alloc: Global) -> Result<bool, Fault> {
-    let words = strings(alloc, &["replay"])?;
-    let (mut input, mut want) = (String::new(alloc), String::new(alloc));
+/// Registrations of one instance more than are held, and what they are answered.
+fn push_most(input: &mut String, want: &mut String) -> Result<(), AllocError> {
     for id in 1..65537u32 {
-        push_registration(&mut input, id)?;
+        push_registration(input, id)?;
         writeln!(want, "ok {id}")?;
     }
-    push_registration(&mut input, 65537)?;
-    want.push_str("fault 8\n")?;
+    push_registration(input, 65537)?;
+    want.push_str("fault 8\n")
+}
+
+fn answers(alloc: Global, input: &str, want: &str) -> Result<bool, Fault> {
+    let words = strings(alloc, &["replay"])?;
     let (mut reader, mut out, mut errors) = (input.as_bytes(), Vec::new(alloc), Vec::new(alloc));
     let status = replay(alloc, &mut reader, &mut out, &mut errors, words.as_slice());
     Ok(status == 0 && out.as_slice() == want.as_bytes())
+}
+
+/// 65,536 instances are held, and no more.
+pub(crate) fn holds_its_most(alloc: Global) -> Result<bool, Fault> {
+    let (mut input, mut want) = (String::new(alloc), String::new(alloc));
+    push_most(&mut input, &mut want)?;
+    answers(alloc, input.as_str(), want.as_str())
 }
 
 /// A reader that fails where its bytes end.

@@ -122,6 +122,21 @@ fn comes_to(client: &mut Client<Script<'_>>, came: Result<Refreshed, Fault>, hel
     refreshed == came && client.copy().is_some_and(|copy| copy.len() == held)
 }
 
+fn all_come(client: &mut Client<Script<'_>>) -> bool {
+    let mut all = client.copy().is_none();
+    for (came, instances) in WANTED {
+        all = comes_to(client, *came, *instances) && all;
+    }
+    all
+}
+
+fn has_one_up(alloc: Global, client: &Client<Script<'_>>) -> Result<bool, Fault> {
+    match client.copy() {
+        Some(copy) => Ok(copy.up(alloc, "orders")?.len() == 1),
+        None => Ok(false),
+    }
+}
+
 /// A client refreshes by deltas and in full.
 pub(crate) fn refreshes(alloc: Global) -> Result<bool, Fault> {
     let script = Script {
@@ -130,14 +145,9 @@ pub(crate) fn refreshes(alloc: Global) -> Result<bool, Fault> {
         failures: 0,
     };
     let mut client = Client::new(alloc, script, Form::Full);
-    let mut all = client.copy().is_none();
-    for (came, instances) in WANTED {
-        all = comes_to(&mut client, *came, *instances) && all;
-    }
-    match client.copy() {
-        Some(copy) => Ok(all && copy.up(alloc, "orders")?.len() == 1),
-        None => Ok(false),
-    }
+    let all = all_come(&mut client);
+    let up = has_one_up(alloc, &client);
+    Ok(up? && all)
 }
 
 fn key(query: Query) -> DocKey

@@ -1,20 +1,19 @@
 //! Rounds of a publisher, by the calls that no event reaches alone.
-use crate::given::{defaults, refusal};
+use crate::given::{empty_hub, refusal};
 use disco_cache::DocKey;
 use disco_hub::{Copied, Hub};
 use disco_instance::{Fault, Form};
 use disco_writer::Query;
 use std::alloc::Global;
 
-/// A hub that keeps one document.
-fn keeping(alloc: Global) -> Result<Hub, Fault> {
-    let settings = defaults(alloc)?;
-    let mut hub = Hub::new(alloc, &settings);
-    let _ = hub.load(&DocKey {
+/// One document is kept.
+fn load(hub: &mut Hub) -> Result<(), Fault> {
+    let all = DocKey {
         query: Query::Apps,
         form: Form::Full,
-    })?;
-    Ok(hub)
+    };
+    let _ = hub.load(&all)?;
+    Ok(())
 }
 
 fn begins(hub: &mut Hub) -> bool {
@@ -47,9 +46,13 @@ fn ends(hub: &mut Hub) -> bool {
     finished && refusal(hub.copy_one()) == 17 && refusal(hub.finish()) == 17
 }
 
+fn leaves(hub: &mut Hub) -> Result<bool, Fault> {
+    load(hub)?;
+    Ok(begins(hub) && stays(hub) && is_left(hub) && is_copied(hub) && ends(hub))
+}
+
 /// A round can be left until a key is copied.
 pub(crate) fn can_be_left(alloc: Global) -> Result<bool, Fault> {
-    let mut hub = keeping(alloc)?;
-    let open = begins(&mut hub) && stays(&mut hub) && is_left(&mut hub);
-    Ok(open && is_copied(&mut hub) && ends(&mut hub))
+    let mut hub = empty_hub(alloc)?;
+    leaves(&mut hub)
 }
