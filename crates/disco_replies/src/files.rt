@@ -10,6 +10,8 @@ use std::{fs, io};
 pub(crate) struct Row {
     pub(crate) settings: Settings,
     pub(crate) request: Vec<u8>,
+    /// Whether the connection ends too early: before each byte of the request in turn.
+    pub(crate) is_cut: bool,
     pub(crate) reply: Vec<u8>,
 }
 
@@ -26,11 +28,23 @@ fn settings<R: Files + AllocGlobal>(rt: &R, name: &str) -> io::Result<Settings> 
     }
 }
 
-/// Reads the row of a name: `NAME.request` and `NAME.reply`, and `NAME.settings` where there is one.
+/// What is sent, and whether it is cut.
+fn request<R: Files + AllocGlobal>(rt: &R, name: &str) -> io::Result<(Vec<u8>, bool)> {
+    match file(rt, name, "request") {
+        Ok(request) => Ok((request, false)),
+        Err(error) if error.kind() == ErrorKind::NotFound => Ok((file(rt, name, "cut")?, true)),
+        Err(error) => Err(error),
+    }
+}
+
+/// Reads the row of a name: `NAME.request` or `NAME.cut`, `NAME.reply`, and `NAME.settings` where there
+/// is one.
 pub(crate) fn read_row<R: Files + AllocGlobal>(rt: &R, name: &str) -> io::Result<Row> {
+    let (request, is_cut) = request(rt, name)?;
     Ok(Row {
         settings: settings(rt, name)?,
-        request: file(rt, name, "request")?,
+        request,
+        is_cut,
         reply: file(rt, name, "reply")?,
     })
 }

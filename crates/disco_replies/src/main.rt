@@ -1,98 +1,28 @@
 //! Runs the connections that lie where it runs, and compares every byte with what has to come out.
 //!
-//! Each is run four times over a hub and four times over a desk under its lock, cut in pieces of 1, 2,
-//! 7 and 1,000 bytes. Of a row that is as it has to be each time the name is printed, of another one
-//! where it differs first, and then the exit status is 1. The README beside `src/` says what the files
-//! of a row hold. With the words `NAME TIMES PIECE` it times a row over a hub.
+//! Each is run four times over a hub and four times over a desk under its lock, in pieces of 1, 2, 7
+//! and 1,000 bytes; one that is cut once over each for every byte that it has. Of a row that is as it
+//! has to be each time the name is printed, of another one where it differs first, and then the exit
+//! status is 1. The README beside `src/` says what the files of a row hold. With the words
+//! `NAME TIMES PIECE` it times a row over a hub.
 #![tactic(auto)]
-
-ghost use Rattle.std.specs.Prelude.{◌≡◌, IfNone};
 
 mod connection;
 mod files;
+mod kept;
 mod names;
 mod pieces;
 mod settings;
 mod ticks;
 mod timing;
 
-use connection::{over_a_desk, over_a_hub};
-use disco_press::Opening;
-use files::Row;
+use kept::is_kept;
 use names::names;
-use std::marker::Brand;
 use std::process::ExitCode;
 use std::rt::{Clock, Files};
 use std::sync::Wait;
 use std::{env, io};
 use timing::Timing;
-
-/// How many bytes a read gives at most, in one run and the next.
-const PIECES: [usize; 4] = [1, 2, 7, 1_000];
-
-/// Where two texts differ first, if they do.
-fn difference(wanted: &[u8], came: &[u8]) -> Option<usize>
-    ensures { IfNone result (wanted.now ≡ came.now) }
-{
-    if wanted == came {
-        return None;
-    }
-    Some(
-        wanted
-            .iter()
-            .zip(came.iter())
-            .take_while(|(wanted, came)| wanted == came)
-            .count(),
-    )
-}
-
-/// Tells whether what came is what is wanted; else it prints where it isn't.
-fn is_wanted<R: Print>(
-    rt: &R,
-    name: &str,
-    over: &str,
-    piece: usize,
-    wanted: &[u8],
-    came: &[u8],
-) -> io::Result<bool> {
-    match difference(wanted, came) {
-        Some(at) => {
-            println!(rt; "{name}: over a {over}, in pieces of {piece}, it differs at byte {at}")?;
-            Ok(false)
-        }
-        None => Ok(true),
-    }
-}
-
-/// Runs a row in pieces of that size, over a hub and over a desk, and tells whether it is as it has
-/// to be.
-fn is_kept_in<R: Files + Wait + AllocGlobal + Print>(
-    rt: &R,
-    name: &str,
-    row: &Row,
-    piece: usize,
-) -> io::Result<bool> {
-    let (alloc, settings) = (rt.alloc(), &row.settings);
-    let (request, reply) = (row.request.as_slice(), row.reply.as_slice());
-    let hub = over_a_hub(alloc, settings, request, piece)?;
-    let desk = over_a_desk::<Brand, R>(rt, alloc, Opening::new(), settings, request, piece)?;
-    Ok(
-        is_wanted(rt, name, "hub", piece, reply, hub.as_slice())?
-            && is_wanted(rt, name, "desk", piece, reply, desk.as_slice())?,
-    )
-}
-
-/// Runs the row of a name, prints it where it is as it has to be, and tells whether it is.
-fn is_kept<R: Files + Wait + AllocGlobal + Print>(rt: &R, name: &str) -> io::Result<bool> {
-    let row = files::read_row(rt, name)?;
-    for piece in PIECES {
-        if !is_kept_in(rt, name, &row, piece)? {
-            return Ok(false);
-        }
-    }
-    println!(rt; "{name}")?;
-    Ok(true)
-}
 
 /// As [`is_kept`]; of a row whose files can't be read, or for which there is no memory, it is printed
 /// why.
