@@ -13,14 +13,14 @@ use Rattle.disco_values.specs.declared.form.Form.{Form}
 use Rattle.disco_values.specs.declared.form.Form.TheVariants.{Full, Compact}
 use Rattle.disco_history.specs.Query.{asks_for, vips}
 use Rattle.disco_history.proofs.Keys.{same_key-parts, same_key-sym}
-use Rattle.disco_writer.specs.Documents.{asked_by}
-use Rattle.disco_writer.specs.declared.query.Query.{Query}
-use Rattle.disco_writer.specs.declared.query.Query.TheVariants as query
+use Rattle.disco_documents.specs.Documents.{asked_by}
+use Rattle.disco_query.specs.declared.query.Query.{Query}
+use Rattle.disco_query.specs.declared.query.Query.TheVariants as query
 use Rattle.disco_cache.specs.Docs.{Docs, Drops}
-use Rattle.disco_cache.specs.Keys.{kind_of, names_in, place_of, same_doc}
+use Rattle.disco_query.specs.Keys.{kind_of, names_in, place_of, same_doc}
 use Rattle.disco_cache.specs.Kept.{doc_of, is_of, is_of_any, query_cmp, vip_query}
-use Rattle.disco_cache.specs.declared.key.DocKey.{DocKey}
-use Rattle.disco_cache.proofs.Orders.{docs_total, then_then}
+use Rattle.disco_query.specs.declared.key.DocKey.{DocKey}
+use Rattle.disco_query.proofs.Orders.{docs_total, then_then}
 
 -- ---- one drop after another
 
@@ -78,9 +78,6 @@ both q u v w first first_max second second_max = record {
 pub record Left (secure : Bool) (all rest : List (List ℕ)) (start now : Docs) : Type 0 where
   pub docs : (k : DocKey) → cond (is_of_any secure rest k) None (map.get now.docs k) ≡ cond (is_of_any secure all k) None (map.get start.docs k)
   pub max : now.max ≡ start.max
-
-pub left_all : (secure : Bool) (all : List (List ℕ)) (start : Docs) → Left secure all all start start
-left_all secure all start = record { docs = λ k. refl; max = refl }
 
 pub left_step : (secure : Bool) (all rest after : List (List ℕ)) (vip : List ℕ) (start now next : Docs) → rest ≡ vip ∷ after → Drops (is_of (vip_query secure vip)) now next
     → Left secure all rest start now → Left secure all after start next

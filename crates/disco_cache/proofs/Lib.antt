@@ -1,3 +1,2 @@
 mod Drops
-pub mod Orders
 mod Puts

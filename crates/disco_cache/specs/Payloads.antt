@@ -1,7 +1,7 @@
 -- True documents.
 use Rattle.std.specs.Prelude.{List}
 use Rattle.disco_history.specs.Change.{Entry}
-use Rattle.disco_writer.specs.Documents.{IsTrueFor}
+use Rattle.disco_documents.specs.Documents.{IsTrueFor}
 use Rattle.disco_cache.specs.declared.payload.Payload.{Payload}
 
 -- the document is true after a history of what it was asked for, in its form

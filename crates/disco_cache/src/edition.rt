@@ -5,9 +5,9 @@ ghost use Rattle.disco_values.specs.declared.fault.Fault.TheVariants.{OutOfMemor
 ghost use Rattle.disco_cache.specs.Shelved.{AreShelved, IsAt, IsGap};
 
 use crate::entry::Entry;
-use crate::key::DocKey;
 use crate::payload::Payload;
-use disco_instance::Fault;
+use disco_query::DocKey;
+use disco_values::Fault;
 use std::alloc::Global;
 use std::marker::Model;
 use std::sync::Arc;
@@ -21,7 +21,7 @@ pub struct Edition {
 impl Model for Edition {
     ghost use Rattle.std.specs.Coded.{codes};
     ghost use Rattle.std.specs.FinMap.{FinMap, code};
-    ghost use Rattle.disco_cache.specs.Keys.{doc_cmp};
+    ghost use Rattle.disco_query.specs.Keys.{doc_cmp};
     ghost use Rattle.disco_cache.specs.Shelved.{AreShelved, map_of};
     ghost use Rattle.disco_cache.specs.declared.payload.Payload.{Payload};
 

@@ -2,9 +2,9 @@
 ghost use Rattle.std.specs.Prelude.{◌≡◌, IfErr, IfOk};
 ghost use Rattle.disco_values.specs.declared.fault.Fault.TheVariants.{OutOfMemory};
 
-use crate::key::DocKey;
 use crate::payload::Payload;
-use disco_instance::Fault;
+use disco_query::DocKey;
+use disco_values::Fault;
 use std::alloc::Global;
 use std::sync::Arc;
 

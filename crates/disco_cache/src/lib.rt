@@ -4,11 +4,10 @@
 mod cache;
 mod edition;
 mod entry;
-mod key;
 mod named;
 mod payload;
 
 pub use cache::DocCache;
+pub use disco_query::DocKey;
 pub use edition::Edition;
-pub use key::DocKey;
 pub use payload::Payload;

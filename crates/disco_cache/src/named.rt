@@ -1,11 +1,10 @@
 //! What a change names.
 ghost use Rattle.std.specs.Prelude.{◌≡◌};
 ghost use Rattle.disco_cache.specs.Kept.{doc_of, query_cmp, query_of, vip_query};
-ghost use Rattle.disco_cache.specs.Keys.{doc_cmp, kind_of, place_of};
+ghost use Rattle.disco_query.specs.Keys.{doc_cmp, kind_of, place_of};
 
-use crate::key::DocKey;
-use disco_instance::{Form, Key};
-use disco_writer::Query;
+use disco_query::{DocKey, Query};
+use disco_values::{Form, Key};
 use std::cmp::Ordering;
 
 /// What a change names: a query whose names are borrowed from a record.

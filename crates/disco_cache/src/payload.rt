@@ -1,6 +1,6 @@
 //! A document as it is served.
-use crate::key::DocKey;
-use disco_instance::Bytes;
+use disco_query::DocKey;
+use disco_values::Bytes;
 
 /// A document as it is served.
 #[derive(Debug, Drop)]

@@ -10,7 +10,7 @@ ghost use Rattle.disco_client.specs.Steps.{after, after_all};
 
 use disco_history::{Held, RecordList};
 use disco_index::Counts;
-use disco_instance::{Action, Fault, Key, Text};
+use disco_values::{Action, Fault, Key, Text};
 use std::alloc::{AllocError, Global};
 use std::marker::Model;
 

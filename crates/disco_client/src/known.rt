@@ -1,5 +1,5 @@
 //! Where a copy is known.
-use disco_instance::Form;
+use disco_values::Form;
 
 /// A form and a version at which a copy is known.
 #[derive(Clone, Copy, Debug, PartialEq, Eq)]

@@ -7,7 +7,8 @@ ghost use Rattle.disco_history.specs.Mentions.{known};
 ghost use Rattle.disco_wire.specs.Wire.{tell_all};
 
 use disco_history::Held;
-use disco_instance::{Action, Record};
+use disco_instance::Record;
+use disco_values::Action;
 use disco_wire::Mentions;
 use std::alloc::{AllocError, Global};
 use std::sync::Arc;

@@ -7,7 +7,8 @@ ghost use Rattle.disco_values.specs.Text.{in_upper_case};
 ghost use Rattle.disco_history.specs.Query.{vips};
 ghost use Rattle.disco_client.specs.Copies.{is_up_under};
 
-use disco_instance::{Record, Status};
+use disco_instance::Record;
+use disco_values::Status;
 
 /// Whether two texts are one, but for the case of ASCII letters.
 fn is_alike(text: &str, other: &str) -> bool

@@ -8,13 +8,15 @@ ghost use Rattle.disco_index.specs.Vips.{IsIndexOf};
 ghost use Rattle.disco_queue.specs.Queue.{Keeps};
 ghost use Rattle.disco_queue.specs.Timed.{Timed, changes};
 ghost use Rattle.disco_registry.specs.State.{StandsFor};
-ghost use Rattle.disco_writer.specs.Documents.{IsWritten, is_delta};
+ghost use Rattle.disco_documents.specs.Documents.{IsWritten};
+ghost use Rattle.disco_query.specs.Query.{is_delta};
 
 use disco_index::{Counts, VipIndex};
-use disco_instance::{Fault, Form};
+use disco_query::Query;
 use disco_queue::ChangedQueue;
 use disco_registry::Registry;
-use disco_writer::{Query, write_document};
+use disco_values::{Fault, Form};
+use disco_writer::write_document;
 use std::alloc::Global;
 
 /// The document that a query asks for in the compact form, as [`write_document`] gives it.

@@ -5,7 +5,8 @@ ghost use Rattle.disco_values.specs.declared.fault.Fault.TheVariants.{OutOfMemor
 ghost use Rattle.disco_values.specs.declared.form.Form.TheVariants.{Compact};
 ghost use Rattle.disco_history.specs.Forms.{default_lease, formed};
 
-use disco_instance::{Entries, Fault, Lease, Record, Text};
+use disco_instance::{Lease, Record};
+use disco_values::{Entries, Fault, Text};
 use std::alloc::Global;
 
 /// The lease of an instance that says nothing of it.

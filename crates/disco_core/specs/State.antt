@@ -18,7 +18,7 @@ use Rattle.disco_registry.specs.Op.{Ask, asked_key}
 use Rattle.disco_core.specs.Moves.{step_for}
 use Rattle.disco_core.specs.Past.{Past, history}
 use Rattle.disco_core.specs.declared.registered.Ready.{Ready}
-use Rattle.disco_core.specs.declared.settings.Settings.{Settings}
+use Rattle.disco_settings.specs.declared.settings.Settings.{Settings}
 
 abbrev pub limits : Settings → Limits
 limits s = record { versions = s.versions; instances = s.instances }

@@ -7,8 +7,8 @@ ghost use Rattle.disco_registry.specs.Commit.{held_after};
 
 use disco_history::Change;
 use disco_index::Counts;
-use disco_instance::{Action, Key};
 use disco_registry::Registry;
+use disco_values::{Action, Key};
 
 /// Counts no more what the registry has at a key.
 #[tactic(auto, using(disco_index::proofs::Changes::held_law))]

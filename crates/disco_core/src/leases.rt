@@ -6,9 +6,10 @@ ghost use Rattle.disco_registry.specs.Op.{ask_of};
 ghost use Rattle.disco_core.specs.Moves.{Follows, GoesOn, step_for};
 
 use disco_history::Change;
-use disco_instance::{Action, Key, Record};
+use disco_instance::Record;
 use disco_lease::LeaseBook;
 use disco_registry::Op;
+use disco_values::{Action, Key};
 
 /// What an accepted operation does to the lease of an instance whose record stays as it is.
 #[derive(Clone, Copy, Debug)]

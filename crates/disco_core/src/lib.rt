@@ -5,9 +5,6 @@ mod counts;
 mod leases;
 mod recent;
 mod registered;
-mod settings;
 mod vips;
 
-pub use disco_lease::Minute;
 pub use registered::{Core, Ready};
-pub use settings::Settings;

@@ -16,7 +16,8 @@ ghost use Rattle.disco_registry.specs.Commit as commit;
 ghost use Rattle.disco_registry.specs.Commit.{Takes, changes_properly, done_by, held_after};
 ghost use Rattle.disco_registry.specs.Op.{Ask, ask_of, asked_key};
 ghost use Rattle.disco_registry.specs.State as registry;
-ghost use Rattle.disco_writer.specs.Documents.{IsWritten, asked_by, is_delta};
+ghost use Rattle.disco_documents.specs.Documents.{IsWritten, asked_by};
+ghost use Rattle.disco_query.specs.Query.{is_delta};
 ghost use Rattle.disco_cache.specs.Payloads.{IsTrue};
 ghost use Rattle.disco_core.specs.Past.{Past, cleaned, history, minute_closed, nothing, taken_in, with_done};
 ghost use Rattle.disco_core.specs.Refusals.{doc_of_id, doc_of_key, refusal_of, refusal_of_id};
@@ -26,17 +27,18 @@ ghost use Rattle.disco_core.specs.State.{AddsNoPlaces, HasPlacesFor, HasRoomFor,
 use crate::counts::count;
 use crate::leases::{Step, keep, step_of};
 use crate::recent::{remember, shared};
-use crate::settings::Settings;
 use crate::{leases, vips};
-use disco_cache::{DocKey, Payload};
-use disco_compact::write_compact;
+use disco_cache::Payload;
 use disco_history::Change;
 use disco_index::{Counts, VipIndex};
-use disco_instance::{Bytes, Fault, Form, Key, Record};
+use disco_instance::Record;
 use disco_lease::{LeaseBook, Minute};
+use disco_query::{DocKey, Query};
 use disco_queue::ChangedQueue;
 use disco_registry::{Applied, Op, Registry};
-use disco_writer::{Query, write_full};
+use disco_settings::Settings;
+use disco_values::{Bytes, Fault, Form, Key};
+use disco_writer::write_document;
 use std::alloc::Global;
 use std::marker::Model;
 use std::sync::Arc;
@@ -383,13 +385,15 @@ impl Core {
             → (p : Past) → StandsFor self.now p → IsWritten key.now.form key.now.query (history p) self.now.queue.base (option_map (λ v. v.items) o)) }
         ensures memory { IfErr result (λ e. e ≡ OutOfMemory) }
     {
-        let (registry, vips, queue) = (&self.registry, &self.vips, &self.queue);
-        match key.form {
-            Form::Full => write_full(self.alloc, &key.query, registry, vips, queue, &self.counts),
-            Form::Compact => {
-                write_compact(self.alloc, &key.query, registry, vips, queue, &self.counts)
-            }
-        }
+        write_document(
+            self.alloc,
+            key.form,
+            &key.query,
+            &self.registry,
+            &self.vips,
+            &self.queue,
+            &self.counts,
+        )
     }
 
     /// The document that is asked for, written anew: none exactly where an app, a vip, a secure vip

@@ -12,8 +12,8 @@ ghost use Rattle.disco_core.specs.State.{AddsAny, HasVipPlaces, IsSwept};
 
 use disco_history::{Change, Held};
 use disco_index::VipIndex;
-use disco_instance::{Action, Fault};
 use disco_registry::Registry;
+use disco_values::{Action, Fault};
 
 /// Makes the places that a change needs. Refused only as `OutOfMemory`.
 pub(crate) fn open(vips: &mut VipIndex, change: &Change) -> Result<(), Fault>

@@ -5,7 +5,7 @@ use Rattle.std.proofs.lemmas.List.Concat.{flat_map-append}
 use mathlib.Core.List.{IsPrefix}
 use base.Growing.{prefix_refl, prefix_trans}
 use Rattle.disco_history.specs.Change.{seen}
-use Rattle.disco_hub.specs.Press.{Note, begin, change, note_of}
+use Rattle.disco_rounds.specs.Press.{Note, begin, change, note_of}
 use Rattle.disco_editions.specs.declared.mark.Mark.{Mark}
 use Rattle.disco_editions.specs.declared.mark.Mark.TheVariants.{Begun, Changed, Copied, Published}
 use Rattle.disco_editions.specs.Rolls.{Rolled, notes_in, publications, roll_on, rolled, with_note}

@@ -1,10 +1,10 @@
 -- Looks into an edition.
 use Rattle.std.proofs.Common.{◌≡◌, List, [], refl, sym, ap, subst, ◌∙◌}
 use Rattle.std.specs.FinMap.{empty, get}
-use Rattle.disco_cache.specs.declared.key.DocKey.{DocKey}
-use Rattle.disco_hub.specs.Press.{Edition, Note}
-use Rattle.disco_hub.proofs.Levels.{first_pressed}
-use Rattle.disco_hub.proofs.Shown.{shown_stands, true_there}
+use Rattle.disco_query.specs.declared.key.DocKey.{DocKey}
+use Rattle.disco_rounds.specs.Press.{Edition, Note}
+use Rattle.disco_rounds.proofs.Pressed.{first_pressed}
+use Rattle.disco_rounds.proofs.Shown.{shown_stands, true_there}
 use Rattle.disco_editions.specs.Editions.{IsEditionOf}
 use Rattle.disco_editions.specs.Looks.{Finds, Shows}
 use Rattle.disco_editions.specs.Rolls.{notes_in}

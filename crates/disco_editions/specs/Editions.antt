@@ -1,6 +1,6 @@
 -- What readers take: the rule that each step of readers and writer keeps, and that a publish has to show.
 use Rattle.std.specs.Prelude.{◌≡◌, ℕ, List}
-use Rattle.disco_hub.specs.Press.{Edition, IsLegal, IsPublishable, Note, edition_of}
+use Rattle.disco_rounds.specs.Press.{Edition, IsLegal, IsPublishable, Note, edition_of}
 use Rattle.disco_editions.specs.Rolls.{notes_in, publications}
 use Rattle.disco_editions.specs.declared.shown.Shown.{Shown}
 

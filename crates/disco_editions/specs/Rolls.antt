@@ -1,7 +1,7 @@
 -- Press lists by their publications.
 use Rattle.std.specs.Prelude.{List, [], ◌∷◌, ◌++◌, flat_map, fold}
 use Rattle.disco_history.specs.Change.{seen}
-use Rattle.disco_hub.specs.Press.{Note, begin, change, note_of}
+use Rattle.disco_rounds.specs.Press.{Note, begin, change, note_of}
 use Rattle.disco_editions.specs.declared.mark.Mark.{Mark}
 use Rattle.disco_editions.specs.declared.mark.Mark.TheVariants.{Begun, Changed, Copied, Published}
 

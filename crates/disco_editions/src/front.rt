@@ -51,7 +51,7 @@ pub struct Front<J: Naming> {
 
 impl<J: Naming> Model for Front<J> {
     ghost use Rattle.std.specs.Prelude.{◌≡◌, List};
-    ghost use Rattle.disco_hub.specs.Press.{Note};
+    ghost use Rattle.disco_rounds.specs.Press.{Note};
     ghost use Rattle.disco_editions.specs.Rolls.{publications};
 
     ghost Value = { List (List Note) };

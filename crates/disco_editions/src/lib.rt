@@ -9,7 +9,6 @@ mod roll;
 mod shown;
 mod window;
 
-pub use disco_cache::Edition;
 pub use front::{Front, Naming, Page};
 pub use looking::Looked;
 pub use mark::Mark;

@@ -1,5 +1,5 @@
 //! Looks into an edition.
-ghost use Rattle.std.specs.Prelude.{◌≡◌, IfSome};
+ghost use Rattle.std.specs.Prelude.{IfSome};
 ghost use Rattle.std.specs.FinMap.{get};
 ghost use Rattle.disco_editions.specs.Looks.{Finds, Shows};
 ghost use Rattle.disco_editions.specs.Rolls.{notes_in};
@@ -7,7 +7,8 @@ ghost use Rattle.disco_editions.specs.Rolls.{notes_in};
 use crate::front::{Front, Naming};
 use crate::printer::PressReader;
 use crate::shown::Sees;
-use disco_cache::{DocKey, Edition, Payload};
+use disco_cache::{Edition, Payload};
+use disco_query::DocKey;
 use std::alloc::Global;
 use std::sync::Arc;
 

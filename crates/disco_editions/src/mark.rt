@@ -1,6 +1,6 @@
 //! What a press list remembers.
 use disco_history::Change;
-use disco_hub::Copied;
+use disco_rounds::Copied;
 
 /// A note, or that all that was noted so far is published.
 #[derive(Drop)]

@@ -1,6 +1,6 @@
 //! The writer of the editions that readers take.
 ghost use Rattle.std.specs.Prelude.{◌≡◌, ◌^◌, ◌<◌, [], IfOk};
-ghost use Rattle.disco_editions.specs.Editions.{IsEditionOf, IsShown};
+ghost use Rattle.disco_editions.specs.Editions.{IsShown};
 ghost use Rattle.disco_editions.specs.Rolls.{publications};
 
 use crate::front::{Front, Naming, Page};
@@ -25,7 +25,7 @@ pub struct Printer<J: Naming> {
 
 impl<J: Naming> Model for Printer<J> {
     ghost use Rattle.std.specs.Prelude.{List};
-    ghost use Rattle.disco_hub.specs.Press.{Note};
+    ghost use Rattle.disco_rounds.specs.Press.{Note};
     ghost use Rattle.disco_editions.specs.Rolls.{publications};
 
     ghost Value = { List (List Note) };

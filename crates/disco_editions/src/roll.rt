@@ -2,13 +2,13 @@
 ghost use Rattle.std.specs.Prelude.{◌≡◌, [], ◌∷◌, ◌++◌};
 ghost use mathlib.Core.List.{IsPrefix};
 ghost use Rattle.disco_history.specs.Change.{seen};
-ghost use Rattle.disco_hub.specs.Press as press;
-ghost use Rattle.disco_hub.specs.Press.{note_of};
+ghost use Rattle.disco_rounds.specs.Press as press;
+ghost use Rattle.disco_rounds.specs.Press.{note_of};
 
 use crate::front::{Front, Naming, Page};
 use crate::mark::Mark;
 use disco_history::Change;
-use disco_hub::Copied;
+use disco_rounds::Copied;
 use scroll::Scroll;
 use std::marker::{Model, PhantomData};
 

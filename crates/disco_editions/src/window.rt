@@ -1,5 +1,5 @@
 //! Windows through which readers look into what is published.
-ghost use Rattle.std.specs.Prelude.{◌≡◌, IfSome};
+ghost use Rattle.std.specs.Prelude.{◌≡◌};
 ghost use mathlib.Core.List.{IsPrefix};
 ghost use Rattle.disco_editions.specs.Looks.{Shows};
 ghost use Rattle.disco_editions.specs.Rolls.{notes_in};
@@ -8,7 +8,7 @@ use crate::front::{Front, Naming};
 use crate::looking::{Looked, look_in};
 use crate::printer::PressReader;
 use core::mem::replace_with;
-use disco_cache::DocKey;
+use disco_query::DocKey;
 use std::marker::Model;
 
 /// The place from which one reader looks into the editions of the desk of this name. Contracts see
@@ -21,7 +21,7 @@ pub struct Window<J: Naming> {
 
 impl<J: Naming> Model for Window<J> {
     ghost use Rattle.std.specs.Prelude.{List};
-    ghost use Rattle.disco_hub.specs.Press.{Note};
+    ghost use Rattle.disco_rounds.specs.Press.{Note};
 
     ghost Value = { List (List Note) };
 

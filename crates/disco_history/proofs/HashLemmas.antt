@@ -6,7 +6,8 @@ use Rattle.std.proofs.lemmas.Bool.Decides.{nat_tests}
 use Rattle.std.proofs.lemmas.Int.Digits.{all_below_base_digits_of, same_from_digits_of}
 use Rattle.disco_values.specs.declared.status.Status.{Status}
 use Rattle.disco_values.specs.declared.status.Status.TheVariants.{Up, Down, Starting, OutOfService, Unknown}
-use Rattle.disco_history.specs.Hash.{digits, then_piece, hash_by, count_of}
+use Rattle.disco_history.specs.Hash.{then_piece, hash_by, count_of}
+use Rattle.disco_digits.specs.Digits.{digits}
 use Rattle.disco_history.specs.Laws.{HashLaw}
 
 same_head : (x y : ℕ) (xs ys : List ℕ) → x ∷ xs ≡ y ∷ ys → x ≡ y

@@ -1,6 +1,6 @@
 -- The hash code: how many records have each status (Eureka's apps__hashcode).
-use Rattle.std.specs.Prelude.{ℕ, ◌+◌, ◌==◌, List, [], ◌∷◌, ◌++◌, map, count_by, if◌then◌else◌}
-use Rattle.std.specs.Int.Digits.{digits_of}
+use Rattle.std.specs.Prelude.{ℕ, ◌+◌, ◌==◌, List, [], ◌∷◌, ◌++◌, count_by, if◌then◌else◌}
+use Rattle.disco_digits.specs.Digits.{digits}
 use Rattle.disco_instance.specs.Row.{Row}
 use Rattle.disco_values.specs.Status.{is_same, status_name}
 use Rattle.disco_values.specs.declared.status.Status.{Status}
@@ -9,10 +9,6 @@ use Rattle.disco_values.specs.declared.status.Status.TheVariants.{Up, Down, Star
 -- how many records have the status
 abbrev pub count_of : List Row → Status → ℕ
 count_of rows status = count_by (λ r. is_same r.status status) rows
-
--- a number in decimal digits
-unfoldable pub digits : ℕ → List ℕ
-digits n = map (λ d. 48 + d) (digits_of 10 n)
 
 -- a name, an underscore, a number and an underscore, where the number isn't 0; and then the rest
 abbrev pub then_piece : List ℕ → ℕ → List ℕ → List ℕ

@@ -9,7 +9,8 @@ use Rattle.disco_values.specs.declared.status.Status.{Status}
 use Rattle.disco_values.specs.declared.status.Status.TheVariants.{Up, Down, Unknown}
 use Rattle.disco_history.specs.Change.{Entry, front}
 use Rattle.disco_history.specs.Forms.{default_lease, formed}
-use Rattle.disco_history.specs.Hash.{digits, hash}
+use Rattle.disco_history.specs.Hash.{hash}
+use Rattle.disco_digits.specs.Digits.{digits}
 use Rattle.disco_history.specs.Mentions.{delta, mention_of, overlay}
 use Rattle.disco_history.specs.Query.{of_app, of_vip, restrict, vips}
 use Rattle.disco_history.specs.Registry.{reg, said}

@@ -8,7 +8,7 @@ ghost use Rattle.disco_history.specs.Held.{entry_of};
 ghost use Rattle.disco_history.specs.List.{AreSorted};
 
 use crate::held::Held;
-use disco_instance::Text;
+use disco_values::Text;
 
 fn comes_before(held: &Held, app: &Text) -> bool
     ensures { result ≡ comes_before app.now held.now }

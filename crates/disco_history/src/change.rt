@@ -2,7 +2,8 @@
 ghost use Rattle.std.specs.Prelude.{◌≡◌, ◌+◌, ◌<◌, None, IfOk, IfSome, MatchOption, drop, length, map, slice_get, option_map};
 ghost use Rattle.disco_history.specs.Change.{is_proper, key_of, last, seen};
 
-use disco_instance::{Action, Key, Record};
+use disco_instance::Record;
+use disco_values::{Action, Key};
 use std::alloc::{AllocError, Global};
 use std::sync::Arc;
 

@@ -4,7 +4,8 @@ ghost use Rattle.disco_history.specs.Change.{seen};
 ghost use Rattle.disco_history.specs.Held.{entry_of};
 
 use crate::change::Change;
-use disco_instance::{Action, Record};
+use disco_instance::Record;
+use disco_values::Action;
 use std::alloc::{AllocError, Global};
 use std::sync::Arc;
 

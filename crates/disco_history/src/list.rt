@@ -9,7 +9,8 @@ ghost use Rattle.disco_history.specs.List.{AreSorted, IsAt, IsGap};
 
 use crate::apps::{first_of_id, run_of_app};
 use crate::held::Held;
-use disco_instance::{Key, Record, Text};
+use disco_instance::Record;
+use disco_values::{Key, Text};
 use std::alloc::{AllocError, Global};
 use std::marker::Model;
 

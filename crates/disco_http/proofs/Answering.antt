@@ -29,9 +29,6 @@ open-more : (replies : List Answer) (r : Answer) → open_texts (replies ++ r �
 open-more [] r = append-nil (reply_text r false)
 open-more (s ∷ replies) r = ap (λ xs. reply_text s false ++ xs) (open-more replies r) ∙ sym (append_assoc (reply_text s false) (open_texts replies) (reply_text r false))
 
-some_is : (a b : End) → Some a ≡ Some b → a ≡ b
-some_is a b h = cc h
-
 -- nothing is written behind a last reply
 silent : (closes last : Bool) (end : End) → Closing (end_behind closes last) end → end_text end ≡ []
 silent closes true end h = rw h refl

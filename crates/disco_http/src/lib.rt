@@ -7,7 +7,8 @@ mod service;
 mod serving;
 mod writer;
 
-pub use disco_reader::{Counted, Failed, Reader, ReceivedReply, Sink, Source};
+pub use disco_message::Limits;
+pub use disco_reader::{Counted, Reader, Sink, Source};
 pub use replying::write_reply;
 pub use service::Service;
 pub use serving::{End, Served, serve};

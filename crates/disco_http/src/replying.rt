@@ -7,9 +7,9 @@ ghost use Rattle.disco_reader.specs.Causes.{Raises};
 ghost use Rattle.disco_http.specs.Sinks.{AppendsFront, sink_of};
 
 use crate::writer::{SMALL_BODY, Writer};
-use disco_instance::Fault;
 use disco_message::{Document, Reply, StatusLine};
 use disco_reader::{Failed, Sink};
+use disco_values::Fault;
 
 /// Writes all of these bytes.
 pub(crate) fn write_all<W: Sink>(sink: &mut W, bytes: &[u8]) -> Result<(), Failed>

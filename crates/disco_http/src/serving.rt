@@ -10,9 +10,9 @@ ghost use Rattle.disco_http.specs.Sinks.{sink_of};
 use crate::replying::write_reply;
 use crate::service::Service;
 use crate::writer::Writer;
-use disco_instance::Fault;
 use disco_message::{Document, Reply, Request, refusal};
 use disco_reader::{Reader, Sink, Source};
+use disco_values::Fault;
 use std::alloc::Global;
 
 /// Why a connection ended.

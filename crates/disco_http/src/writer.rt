@@ -4,9 +4,9 @@ ghost use Rattle.std.specs.Vec.{vec_capacity};
 ghost use Rattle.disco_values.specs.declared.fault.Fault.TheVariants.{WriteFailed};
 
 use crate::replying::write_all;
-use disco_instance::Fault;
 use disco_message::{Allow, HEAD_ROOM, StatusLine, push_bytes, push_head};
 use disco_reader::{Failed, Sink};
+use disco_values::Fault;
 use std::alloc::{AllocError, Global};
 
 /// Bodies up to this size are written together with their head, in bytes.

@@ -1,5 +1,5 @@
 -- The vips of an address, piece by piece.
-use Rattle.std.proofs.Common.{◌≡◌, ℕ, ◌<◌, ◌==◌, Bool, true, false, not, cond, List, [], ◌∷◌, length, filter, refl, sym, ap, ◌∙◌, arith}
+use Rattle.std.proofs.Common.{◌≡◌, ℕ, ◌<◌, ◌==◌, Bool, false, not, cond, List, [], ◌∷◌, length, filter, refl, sym, ap, ◌∙◌, arith}
 use Rattle.std.specs.List.{slice_split, onto_first, before_first, after_first, position_or_len}
 use Rattle.std.proofs.lemmas.List.Splits.{slice_split_first, slice_split_none}
 use Rattle.std.proofs.lemmas.List.Sums.{fails_before_first}
@@ -29,12 +29,6 @@ cut_full s piece after has p a full =
     cut s has
     ∙ ap (λ b. cond (not b) (before_first is_comma s ∷ vips (after_first is_comma s)) (vips (after_first is_comma s))) (ap (λ x. length x == 0) (sym p) ∙ full)
     ∙ (λ i. sym p i ∷ vips (sym a i))
-
-pub cut_empty : (s piece after : List ℕ) → position_or_len is_comma s < length s → piece ≡ before_first is_comma s → after ≡ after_first is_comma s → (length piece == 0) ≡ true → vips s ≡ vips after
-cut_empty s piece after has p a none =
-    cut s has
-    ∙ ap (λ b. cond (not b) (before_first is_comma s ∷ vips (after_first is_comma s)) (vips (after_first is_comma s))) (ap (λ x. length x == 0) (sym p) ∙ none)
-    ∙ ap vips (sym a)
 
 -- an address with no comma is one piece
 pub whole_full : (s : List ℕ) → position_or_len is_comma s ≡ length s → (length s == 0) ≡ false → vips s ≡ s ∷ vips []

@@ -1,14 +1,12 @@
 -- The hash code by pieces.
-use Rattle.std.proofs.Common.{◌≡◌, ℕ, ◌==◌, ◌<◌, ◌≤◌, ◌^◌, ◌+◌, ◌/◌, ◌%◌, Bool, true, false, cond, List, [], ◌∷◌, ◌++◌, map, codes, length, decimal, refl, sym, ap, ◌∙◌, append_assoc, append-nil, arith}
-use Rattle.std.specs.Int.Digits.{digits_of}
+use Rattle.std.proofs.Common.{◌≡◌, ℕ, ◌==◌, ◌<◌, ◌^◌, ◌+◌, Bool, true, false, cond, List, [], ◌∷◌, ◌++◌, codes, decimal, refl, sym, ap, ◌∙◌, append_assoc, append-nil, arith}
 use Rattle.std.proofs.lemmas.Bool.Decides.{nat_tests}
 use Rattle.std.proofs.lemmas.Fmt.{decimal-digits_of}
-use Rattle.std.proofs.lemmas.Int.Digits.{digits_of_step, length-digits_of-le}
-use Rattle.std.proofs.lemmas.List.{length-map, length-append, map-append}
 use Rattle.disco_values.specs.Status.{status_name}
 use Rattle.disco_values.specs.declared.status.Status.{Status}
 use Rattle.disco_values.specs.declared.status.Status.TheVariants.{Up, Down, Starting, OutOfService, Unknown}
-use Rattle.disco_history.specs.Hash.{digits, hash_by, then_piece}
+use Rattle.disco_history.specs.Hash.{hash_by, then_piece}
+use Rattle.disco_digits.specs.Digits.{digits}
 
 joined : (name ds rest : List ℕ) (b : Bool) → cond b rest (name ++ 95 ∷ (ds ++ 95 ∷ rest)) ≡ cond b [] (name ++ 95 ∷ (ds ++ 95 ∷ [])) ++ rest
 joined name ds rest true = refl
@@ -57,19 +55,3 @@ written name old n lt small = ap (λ ds. (((old ++ name) ++ codes "_") ++ ds) ++
 -- nothing is pushed for 0
 pub not_pushed : (name old : List ℕ) (n : ℕ) → n ≡ 0 → old ≡ old ++ then_piece name n []
 not_pushed name old n e = sym (append-nil old) ∙ ap (λ b. old ++ cond b [] (name ++ 95 ∷ (digits n ++ 95 ∷ []))) (sym (none n e))
-
--- the last digit stands behind those of the tenth
-pub digits-step : (n : ℕ) → 0 < n → digits n ≡ digits (n / 10) ++ (48 + n % 10) ∷ []
-unfolding digits
-digits-step n lt = ap (map (λ d. 48 + d)) (digits_of_step 10 n (omega arith) lt) ∙ map-append (λ d. 48 + d) (digits_of 10 (n / 10)) (n % 10 ∷ [])
-
-pub digits-none : (n : ℕ) → n ≡ 0 → digits n ≡ []
-unfolding digits
-digits-none n e = ap digits e
-
-pub length-digits-step : (n : ℕ) → 0 < n → length (digits n) ≡ length (digits (n / 10)) + 1
-length-digits-step n lt = ap length (digits-step n lt) ∙ length-append (digits (n / 10)) ((48 + n % 10) ∷ [])
-
-pub length-digits-le : (n : ℕ) → n < 2 ^ 64 → length (digits n) ≤ 20
-unfolding digits
-length-digits-le n small = let few = length-digits_of-le 10 20 n (omega arith) (omega arith) in omega (arith, few, length-map (digits_of 10 n) (λ d. 48 + d))

@@ -2,10 +2,11 @@
 ghost use Rattle.std.specs.Prelude.{◌≡◌, ◌∷◌, []};
 ghost use Rattle.std.specs.Option.{option_copied};
 ghost use Rattle.disco_values.specs.Status.{status_name};
-ghost use Rattle.disco_history.specs.Hash.{digits, then_piece};
+ghost use Rattle.disco_history.specs.Hash.{then_piece};
+ghost use Rattle.disco_digits.specs.Digits.{digits};
 ghost use Rattle.disco_index.specs.Behind.{behind};
 
-use disco_instance::Status;
+use disco_values::Status;
 
 /// What stands behind a byte, where a text begins with it.
 fn behind_byte(text: &[u8], byte: u8) -> Option<&[u8]>

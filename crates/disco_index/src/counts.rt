@@ -15,7 +15,7 @@ ghost use Rattle.disco_index.specs.Tally.{count_in, fewer, more, tally_in, tally
 
 use crate::behind::behind_piece;
 use crate::pieces::{push_piece, write_piece};
-use disco_instance::{Fault, Status, Text};
+use disco_values::{Fault, Status, Text};
 use std::alloc::{AllocError, Global};
 use std::marker::Model;
 

@@ -2,9 +2,10 @@
 ghost use Rattle.std.specs.Prelude.{◌≡◌, ◌≤◌, ◌+◌, ◌++◌, [], OnOk, length, string_bytes, vec_len};
 ghost use Rattle.std.specs.Vec.{vec_capacity};
 ghost use Rattle.disco_values.specs.Status.{status_name};
-ghost use Rattle.disco_history.specs.Hash.{digits, then_piece};
+ghost use Rattle.disco_history.specs.Hash.{then_piece};
 
-use disco_instance::Status;
+use disco_digits::push_digits;
+use disco_values::Status;
 use std::alloc::{AllocError, Global};
 
 /// Writes the piece of a status behind a text.
@@ -33,19 +34,6 @@ fn push_text(out: &mut Vec<u8>, text: &str)
 {
     for byte in text.as_bytes() {
         out.push_reserved(*byte);
-    }
-}
-
-/// Pushes a number in decimal digits, none for 0.
-fn push_digits(out: &mut Vec<u8>, number: u64)
-    requires { vec_len out.old + length (digits number) ≤ vec_capacity out.old }
-    ensures text { out.new.items ≡ out.old.items ++ digits number }
-    ensures len { vec_len out.new ≡ vec_len out.old + length (digits number) }
-    ensures capacity { vec_capacity out.new ≡ vec_capacity out.old }
-{
-    if number > 0 {
-        push_digits(out, number / 10);
-        out.push_reserved(48 + (number % 10) as u8);
     }
 }
 

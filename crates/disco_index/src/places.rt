@@ -5,7 +5,7 @@ ghost use Rattle.std.specs.FinMap.{empty};
 ghost use Rattle.disco_values.specs.Key.{key_cmp};
 ghost use Rattle.disco_index.specs.Places.{AltersAt, keys_there, opened, swept, written};
 
-use disco_instance::Key;
+use disco_values::Key;
 use std::alloc::{AllocError, Global};
 use std::collections::BTreeMap;
 use std::marker::Model;

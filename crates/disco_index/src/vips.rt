@@ -16,7 +16,8 @@ ghost use Rattle.disco_index.specs.Vips.{Adds, HasNoneEmpty, HasPlaces, IsIndexO
 
 use crate::address::next_vip;
 use crate::places::Places;
-use disco_instance::{Fault, Key, Record};
+use disco_instance::Record;
+use disco_values::{Fault, Key};
 use std::alloc::{AllocError, Global};
 use std::collections::BTreeMap;
 use std::marker::Model;

@@ -1,4 +1,3 @@
-mod Digits
 mod KeyLemmas
 pub mod Kept
 pub mod Rows

@@ -1,11 +1,9 @@
 -- Members of one kind in a JSON tree. A member of another kind counts as absent (this project's own rule).
-use Rattle.std.specs.Prelude.{ℕ, is_some, ◌^◌, Bool, true, false, not, ◌&&◌, List, [], codes, length, ◌==◌, nat_lt, nat_le, if◌then◌else◌, Option, Some, None, option_and_then, option_map, unwrap_or}
-use Rattle.std.specs.List.{list_all}
-use Rattle.std.specs.Char.{is_ascii_digit}
+use Rattle.std.specs.Prelude.{ℕ, is_some, Bool, true, false, ◌&&◌, List, [], codes, length, ◌==◌, nat_le, if◌then◌else◌, Option, Some, None, option_and_then, option_map, unwrap_or}
 use Rattle.std.specs.Str.{bytes_eq}
-use Rattle.std.specs.Str.Parse.{digits_value}
 use Rattle.serde_json.specs.Data.{Data, null, boolean, number, string}
 use Rattle.serde_json.specs.Find.{get, as_str, as_u64}
+use Rattle.disco_digits.specs.Digits.{digits_number}
 use Rattle.disco_values.specs.Text.{in_upper_case}
 use Rattle.disco_values.specs.Status.{status_named}
 use Rattle.disco_values.specs.declared.status.Status.{Status}
@@ -13,10 +11,6 @@ use Rattle.disco_values.specs.declared.status.Status.TheVariants.{Unknown}
 use Rattle.disco_instance.specs.declared.port.Port.{Port}
 
 -- ---- kinds of value
-
--- the number that a text of digits spells, up to 2 ^ 64 - 1
-abbrev pub digits_number : List ℕ → Option ℕ
-digits_number s = if not (length s == 0) && (list_all is_ascii_digit s && nat_lt (digits_value 10 s) (2 ^ 64)) then Some (digits_value 10 s) else None
 
 -- a whole number, given as a number or as a text of digits
 abbrev pub as_whole : Data → Option ℕ

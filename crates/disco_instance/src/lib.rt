@@ -16,11 +16,11 @@ mod record;
 
 pub use data_center::DataCenter;
 pub use disco_values::{
-    Action, Bytes, Entries, Fault, Field, Form, Key, Status, Text, action_of, status_of, upper,
+    Action, Bytes, Entries, Fault, Field, Form, Key, Status, Text, status_of, upper,
 };
 pub use known::well_formed;
 pub use lease::Lease;
-pub use members::{non_empty_member, number_of_digits, text_member, whole};
+pub use members::{non_empty_member, text_member, whole};
 pub use port::Port;
 pub use reading::action_from_value;
 pub use record::Record;

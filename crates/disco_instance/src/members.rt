@@ -1,32 +1,13 @@
 //! Members of one kind in a JSON value. A member of another kind counts as absent.
-ghost use Rattle.std.specs.Prelude.{◌≡◌, ◌≤◌, [], IfOk, option_map, unwrap_or};
-ghost use Rattle.std.specs.Char.{is_ascii_digit};
-ghost use Rattle.std.specs.List.{list_all};
+ghost use Rattle.std.specs.Prelude.{◌≡◌, ◌≤◌, IfOk, option_map, unwrap_or};
 ghost use Rattle.serde_json.specs.View.{view};
-ghost use Rattle.disco_instance.specs.Members.{as_flag, as_whole, digits_number, flag_at, non_empty_at, number_at, override_at, port_at, status_at, text_at, text_or_empty};
+ghost use Rattle.disco_instance.specs.Members.{as_flag, as_whole, flag_at, non_empty_at, number_at, override_at, port_at, status_at, text_at, text_or_empty};
 
 use crate::port::Port;
+use disco_digits::number_of_digits;
 use disco_values::{Status, Text, status_of, upper_text};
 use serde_json::Value;
 use std::alloc::{AllocError, Global};
-
-fn is_digits(text: &str) -> bool
-    ensures { result ≡ list_all is_ascii_digit text.now }
-{
-    text.as_bytes().iter().all(|b| b.is_ascii_digit())
-}
-
-/// The number that a text spells: one or more ASCII digits of a number up to 2^64 - 1, with no sign.
-/// Zeros may lead.
-pub fn number_of_digits(text: &str) -> Option<u64>
-    ensures { result ≡ digits_number text.now }
-{
-    if is_digits(text) {
-        text.parse::<u64>().ok()
-    } else {
-        None
-    }
-}
 
 /// A whole number, given as a number or as a text of digits, up to 2^64 - 1.
 pub fn whole(value: &Value) -> Option<u64>

@@ -3,7 +3,6 @@ use Rattle.std.proofs.Common.{◌≡◌, ℕ, Bool, true, false, cond, List, [],
 use Rattle.std.specs.declared.cmp.Ordering.{Ordering}
 use Rattle.std.specs.declared.cmp.Ordering.TheVariants.{Less, Equal, Greater}
 use Rattle.std.specs.BTreeMap.{insert_entry}
-use Rattle.std.specs.List.{cons_option}
 use Rattle.std.specs.List.Sorted.{IsStrictlySortedBy}
 use Rattle.std.specs.Map.{keys_of}
 use Rattle.std.specs.Option.{option_or}
@@ -43,16 +42,6 @@ pub get_more : (es fs : List Stored) (k : ℕ × Bor Key) (q : ℕ × Key) → f
 get_more es fs k q e =
     get-from_entries dues_total (map plain fs) q ∙ ap (λ l. find due_cmp q (map plain l)) e ∙ ap (find due_cmp q) (put_seen es k tt) ∙ find-put due_cmp dues_total q (k.0, k.1.now) tt (map plain es)
     ∙ unit_or (eq_by_cmp due_cmp q (k.0, k.1.now)) tt _ ∙ ap (option_or (at_pair q (Some ((k.0, k.1.now), tt)))) (sym (get-from_entries dues_total (map plain es) q))
-
-swapped : (b : Bool) (u : Unit {0}) (f g : Option (Unit {0})) → option_or (cond b (Some u) f) g ≡ option_or f (option_or (cond b (Some tt) None) g)
-swapped true u None g = refl
-swapped true u (Some v) g = refl
-swapped false u f g = refl
-
--- an entry of the rest goes over to what is collected
-pub goes_over : (q : ℕ × Key) (o : Option ((ℕ × Key) × Unit {0})) (rest : List ((ℕ × Key) × Unit {0})) (g : Option (Unit {0})) → option_or (find due_cmp q (cons_option o rest)) g ≡ option_or (find due_cmp q rest) (option_or (at_pair q o) g)
-goes_over q None rest g = refl
-goes_over q (Some e) rest g = swapped (eq_by_cmp due_cmp q e.0) e.1 (find due_cmp q rest) g
 
 -- the pair of a lease that has run out
 pub pair_is : (now : ℕ) (k : Key) (place : Option Lease) (l : Lease) (d : ℕ) → place ≡ Some l → d ≡ due_moment (plain_lease l) → nat_lt d now ≡ true → pair now (k, place) ≡ Some ((d, k), tt)

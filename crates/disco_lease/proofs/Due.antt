@@ -65,9 +65,6 @@ find_overdue : (f : Key → Option ℕ) (ks : List Key) (q : ℕ × Key) → fin
 find_overdue f [] q = refl
 find_overdue f (k ∷ ks) q = more q k (f k) (f q.1) (same_key q.1 k) (list_any (same_key q.1) ks) _ refl (λ e. ap f (same_is q.1 k e)) (find_overdue f ks q)
 
-passed_none : (now : ℕ) (o : Option ℕ) → o ≡ None → passed now o ≡ None
-passed_none now o e = ap (passed now) e
-
 all_there : (b : Bool) (m now : ℕ) (o : Option ℕ) → (b ≡ false → o ≡ None) → cond b (is_due m (passed now o)) None ≡ is_due m (passed now o)
 all_there true m now o absent = refl
 all_there false m now o absent = sym (ap (λ p. is_due m (passed now p)) (absent refl))

@@ -8,7 +8,7 @@ ghost use Rattle.disco_lease.specs.Leases.{HasPlace, IsFilled, IsSameLeases, Kee
 use crate::lease::Lease;
 use crate::minute::{Minute, most_taken};
 use crate::places::Places;
-use disco_instance::{Fault, Key};
+use disco_values::{Fault, Key};
 use std::alloc::Global;
 use std::marker::Model;
 

@@ -10,7 +10,7 @@ ghost use Rattle.disco_values.specs.declared.key.Key.{Key};
 ghost use Rattle.disco_lease.specs.Seen.{at_pair, pair, pairs, has_run_out, seen_due, seen_places, stored_cmp};
 
 use crate::lease::Lease;
-use disco_instance::Key;
+use disco_values::Key;
 use std::alloc::{AllocError, Global};
 use std::collections::BTreeMap;
 

@@ -10,7 +10,7 @@ ghost use Rattle.disco_lease.specs.Seen.{Moved, plain_lease};
 
 use crate::lease::Lease;
 use crate::overdue::{any_overdue, overdue_keys};
-use disco_instance::Key;
+use disco_values::Key;
 use std::alloc::{AllocError, Global};
 use std::collections::BTreeMap;
 use std::marker::Model;

@@ -1,23 +1,9 @@
 //! What the desk is asked.
-use disco_cache::DocKey;
-use disco_hub::Settings;
-use disco_instance::{Fault, Form, Text};
+use disco_query::{DocKey, Query};
 use disco_registry::Op;
+use disco_values::{Fault, Form, Text};
 use disco_wire::read_registration;
-use disco_writer::Query;
 use std::alloc::Global;
-
-/// As many instances, changes and documents as a server has room for by default.
-pub(crate) fn settings() -> Settings {
-    Settings {
-        versions: u64::MAX,
-        instances: 65_536,
-        queue: 65_536,
-        entries: 4_096,
-        retention: 180_000,
-        delta: true,
-    }
-}
 
 /// A registration of the one instance of an app.
 pub(crate) fn registration(alloc: Global, app: u64) -> Result<Op, Fault> {

@@ -6,7 +6,7 @@
 //! publishes where `busy` is 1.
 #![tactic(auto)]
 
-ghost use Rattle.std.specs.Prelude.{◌≡◌};
+ghost use Rattle.disco_press.specs.Openings.{Opens};
 
 mod desks;
 mod looking;
@@ -14,7 +14,8 @@ mod publishing;
 mod timing;
 mod trial;
 
-use disco_press::{Naming, Opening};
+use disco_editions::Naming;
+use disco_press::Opening;
 use std::io;
 use std::marker::Brand;
 use std::process::ExitCode;
@@ -31,9 +32,7 @@ fn words_given<R: Env + AllocGlobal>(rt: &R) -> io::Result<Vec<String>> {
 fn run<J: Naming + Send + Sync, R>(rt: &R, opening: Opening) -> io::Result<bool>
 where
     R: Threads + Wait + Clock + Env + AllocGlobal + Print + Sync + Clone + Drop,
-    requires marks { opening.marks.name ≡ J.list }
-    requires name { opening.blank.name ≡ J.name }
-    requires parts { opening.blank.parts ≡ J.parts }
+    requires opening { Opens J.list J.name J.parts opening }
 {
     let words = words_given(rt)?;
     if words.is_empty() {

@@ -1,12 +1,15 @@
 //! Times looks.
-ghost use Rattle.std.specs.Prelude.{◌≡◌, ◌<◌};
+ghost use Rattle.std.specs.Prelude.{◌<◌};
+ghost use Rattle.disco_press.specs.Openings.{Opens};
 
-use crate::desks::{app, settings};
+use crate::desks::app;
 use crate::looking::{Seen, look_often};
 use crate::publishing::{change_until, fill_locked};
-use disco_cache::DocKey;
-use disco_instance::Fault;
-use disco_press::{Desk, Naming, Opening, Seat, open};
+use disco_editions::Naming;
+use disco_press::{Desk, Opening, Seat, open};
+use disco_query::DocKey;
+use disco_settings::Settings;
+use disco_values::Fault;
 use std::alloc::{AllocError, Global};
 use std::io;
 use std::rt::Clock;
@@ -131,13 +134,11 @@ pub(crate) fn run<J: Naming + Send + Sync, R>(
 ) -> io::Result<bool>
 where
     R: Threads + Wait + Clock + AllocGlobal + Print + Sync + Clone + Drop,
-    requires marks { opening.marks.name ≡ J.list }
-    requires name { opening.blank.name ≡ J.name }
-    requires parts { opening.blank.parts ≡ J.parts }
+    requires opening { Opens J.list J.name J.parts opening }
 {
     let alloc = rt.alloc();
     let seats = timing.seats.clamp(1, 64);
-    let Ok((desk, seats)) = open::<J, R>(rt, alloc, &settings(), seats, opening) else {
+    let Ok((desk, seats)) = open::<J, R>(rt, alloc, &Settings::standard(), seats, opening) else {
         println!(rt; "no memory")?;
         return Ok(false);
     };

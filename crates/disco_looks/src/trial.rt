@@ -1,12 +1,14 @@
 //! Four seats look while a desk publishes 200 times.
-ghost use Rattle.std.specs.Prelude.{◌≡◌};
+ghost use Rattle.disco_press.specs.Openings.{Opens};
 
-use crate::desks::{app, settings};
+use crate::desks::app;
 use crate::looking::{Seen, look_until};
 use crate::publishing::change_often;
-use disco_cache::DocKey;
-use disco_instance::Fault;
-use disco_press::{Desk, Naming, Opening, Seat, open};
+use disco_editions::Naming;
+use disco_press::{Desk, Opening, Seat, open};
+use disco_query::DocKey;
+use disco_settings::Settings;
+use disco_values::Fault;
 use std::alloc::{AllocError, Global};
 use std::io;
 use std::sync::atomic::AtomicU64;
@@ -57,12 +59,10 @@ fn is_well(seen: &[Seen]) -> bool {
 pub(crate) fn run<J: Naming + Send + Sync, R>(rt: &R, opening: Opening) -> io::Result<bool>
 where
     R: Threads + Wait + AllocGlobal + Print + Sync + Clone + Drop,
-    requires marks { opening.marks.name ≡ J.list }
-    requires name { opening.blank.name ≡ J.name }
-    requires parts { opening.blank.parts ≡ J.parts }
+    requires opening { Opens J.list J.name J.parts opening }
 {
     let alloc = rt.alloc();
-    let Ok((desk, seats)) = open::<J, R>(rt, alloc, &settings(), SEATS, opening) else {
+    let Ok((desk, seats)) = open::<J, R>(rt, alloc, &Settings::standard(), SEATS, opening) else {
         println!(rt; "no memory")?;
         return Ok(false);
     };

@@ -2,4 +2,3 @@ pub mod Digits
 pub mod Headings
 pub mod Reading
 pub mod Receiving
-pub mod Texts

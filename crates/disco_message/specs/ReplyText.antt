@@ -1,6 +1,6 @@
 -- The bytes of a reply (RFC 9112, sections 2 to 6).
-use Rattle.std.specs.Prelude.{ℕ, Bool, true, false, List, [], ◌∷◌, ◌++◌, ◌+◌, map, Option, Some, None, option_map, if◌then◌else◌, ◌==◌, length, codes}
-use Rattle.std.specs.Int.Digits.{digits_of}
+use Rattle.std.specs.Prelude.{ℕ, Bool, true, false, List, [], ◌∷◌, ◌++◌, ◌+◌, Option, Some, None, option_map, if◌then◌else◌, ◌==◌, length, codes}
+use Rattle.disco_digits.specs.Digits.{digits}
 use Rattle.disco_message.specs.declared.reply.Reply.{Reply}
 use Rattle.disco_message.specs.declared.status_line.Allow.{Allow}
 use Rattle.disco_message.specs.declared.status_line.StatusLine.{StatusLine}
@@ -16,10 +16,6 @@ pub record Answer : Type 0 where
 -- the same of a reply whose document has these bytes
 abbrev pub answer_of : {D : Type 0} → (D → List ℕ) → Reply D → Answer
 answer_of bytes r = record { status = r.status; allow = r.allow; document = option_map bytes r.document }
-
--- a number in decimal digits, none for 0
-unfoldable pub digits : ℕ → List ℕ
-digits n = map (λ d. 48 + d) (digits_of 10 n)
 
 -- a number in decimal digits
 abbrev pub number_text : ℕ → List ℕ

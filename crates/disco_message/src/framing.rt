@@ -3,13 +3,14 @@ ghost use Rattle.std.specs.Prelude.{◌≡◌, ◌⊎◌, IfErr, ℕ, List, leng
 ghost use Rattle.std.specs.List.{list_all};
 ghost use Rattle.std.specs.Str.{bytes_eq};
 ghost use Rattle.httparse.specs.Spans.{IsHeaderWithin, header_bytes};
-ghost use Rattle.disco_instance.specs.Members.{digits_number};
+ghost use Rattle.disco_digits.specs.Digits.{digits_number};
 ghost use Rattle.disco_message.specs.Fields.{values};
 ghost use Rattle.disco_message.specs.Few.{FewAre};
 ghost use Rattle.disco_message.specs.Framing.{framing_of, has_host, stated, framed};
 
 use crate::fields::{Few, few_values, next_value};
-use disco_instance::{Fault, number_of_digits};
+use disco_digits::number_of_digits;
+use disco_values::Fault;
 use http1::text::eq_ignore_case;
 use httparse::spans::HeaderSpan;
 

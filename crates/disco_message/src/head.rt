@@ -1,8 +1,8 @@
 //! The head of a request, kept.
-ghost use Rattle.std.specs.Prelude.{◌≡◌, ◌⊎◌, ◌≤◌, ℕ, List, length, take, map, All, IfOk, IfErr, IsOk, Err};
+ghost use Rattle.std.specs.Prelude.{◌≡◌, ◌⊎◌, length, take, map, All, IfOk, IfErr, IsOk, Err};
 ghost use Rattle.httparse.specs.Grammar.{RequestHead};
 ghost use Rattle.httparse.specs.Spans.{IsRequestAt, IsRequestWithin, IsHeaderWithin, IsWithin, span_bytes, header_bytes};
-ghost use Rattle.disco_message.specs.Heading.{heading, heading_by, closes};
+ghost use Rattle.disco_message.specs.Heading.{heading, closes};
 ghost use Rattle.disco_values.specs.declared.fault.Fault.TheVariants.{BadRequest, UnsupportedCoding, OutOfMemory};
 
 use crate::fields::Values;
@@ -10,7 +10,7 @@ use crate::framing::{Framing, framed};
 use crate::lists::any_lists;
 use crate::room::{HeadRoom, refill_bytes, refill_spans};
 use crate::target::{Path, path_of};
-use disco_instance::Fault;
+use disco_values::Fault;
 use httparse::spans::{HeaderSpan, RequestSpans};
 use std::alloc::AllocError;
 use std::marker::Model;

@@ -9,7 +9,7 @@ ghost use Rattle.disco_message.specs.Few.{FewAre};
 use crate::fields::{Few, Values, few_values};
 use crate::framing::{Framing, framing_of};
 use crate::head::closes;
-use disco_instance::Fault;
+use disco_values::Fault;
 use httparse::spans::{HeaderSpan, ResponseSpans};
 use std::alloc::{AllocError, Global};
 use std::marker::Model;

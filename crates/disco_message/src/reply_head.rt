@@ -1,9 +1,10 @@
 //! The head of a reply, pushed into room that is there.
 ghost use Rattle.std.specs.Prelude.{◌≡◌, ◌≤◌, ◌+◌, ◌++◌, length, vec_len};
 ghost use Rattle.std.specs.Vec.{vec_capacity};
-ghost use Rattle.disco_message.specs.ReplyText.{digits, number_text, type_line, length_line, allow_line, close_line, body_lines, reply_head};
+ghost use Rattle.disco_message.specs.ReplyText.{number_text, type_line, length_line, allow_line, close_line, body_lines, reply_head};
 
 use crate::status_line::{Allow, StatusLine};
+use disco_digits::push_digits;
 
 /// Room in which the head of any reply fits, in bytes.
 pub const HEAD_ROOM: usize = 256;
@@ -16,19 +17,6 @@ pub fn push_bytes(out: &mut Vec<u8>, bytes: &[u8])
     ensures capacity { vec_capacity out.old ≤ vec_capacity out.new }
 {
     out.extend_from_slice(bytes).unwrap();
-}
-
-/// Pushes the digits of a number above 0, and nothing for 0.
-fn push_digits(out: &mut Vec<u8>, number: u64)
-    requires { vec_len out.old + length (digits number) ≤ vec_capacity out.old }
-    ensures text { out.new.items ≡ out.old.items ++ digits number }
-    ensures len { vec_len out.new ≡ vec_len out.old + length (digits number) }
-    ensures capacity { vec_capacity out.old ≤ vec_capacity out.new }
-{
-    if number > 0 {
-        push_digits(out, number / 10);
-        out.push_reserved(48 + (number % 10) as u8);
-    }
 }
 
 /// Pushes a number in decimal digits.

@@ -2,7 +2,7 @@
 ghost use Rattle.std.specs.Prelude.{◌≡◌, ◌≤◌, length};
 ghost use Rattle.disco_message.specs.StatusLine.{status_line, allowed, refusal};
 
-use disco_instance::Fault;
+use disco_values::Fault;
 
 /// The status lines that replies have (RFC 9110, section 15).
 #[derive(Clone, Copy, Debug, PartialEq, Eq)]

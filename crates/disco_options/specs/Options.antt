@@ -9,8 +9,9 @@ use Rattle.clap.specs.Simple.{on_top}
 use Rattle.clap.specs.declared.builder.ArgAction.TheVariants.{Set, SetTrue}
 use Rattle.clap.specs.declared.builder.value_parser.ValueParser.TheVariants.{Unsigned}
 use Rattle.clap.specs.declared.error.kind.ErrorKind.TheVariants.{MissingSubcommand}
-use Rattle.disco_instance.specs.Members.{digits_number}
-use Rattle.disco_core.specs.declared.settings.Settings.{Settings}
+use Rattle.disco_digits.specs.Digits.{digits_number}
+use Rattle.disco_settings.specs.Limits.{most_versions, most_instances, most_queue, most_entries, retention}
+use Rattle.disco_settings.specs.declared.settings.Settings.{Settings}
 use Rattle.disco_options.specs.declared.verb.Verb.{Verb}
 use Rattle.disco_options.specs.declared.verb.Verb.TheVariants.{Replay, Serve, Fleet}
 
@@ -35,10 +36,10 @@ needed rule = record rule { required = true }
 abbrev pub with_settings : App → App
 with_settings app =
     with_rule (with_rule (with_rule (with_rule (with_rule (with_rule app
-    (number_rule (codes "versions") 1 18446744073709551615))
-    (number_rule (codes "instances") 1 65536))
-    (number_rule (codes "queue") 1 65536))
-    (number_rule (codes "entries") 1 4096))
+    (number_rule (codes "versions") 1 most_versions))
+    (number_rule (codes "instances") 1 most_instances))
+    (number_rule (codes "queue") 1 most_queue))
+    (number_rule (codes "entries") 1 most_entries))
     (number_rule (codes "retention") 0 18446744073709551615))
     (flag_rule (codes "no-delta"))
 
@@ -57,7 +58,7 @@ fleet_app =
     with_rule (with_rule (with_rule (new_app (codes "fleet"))
     (needed (number_rule (codes "writers") 1 64)))
     (needed (number_rule (codes "clients") 1 64)))
-    (needed (number_rule (codes "instances") 1 65536))
+    (needed (number_rule (codes "instances") 1 most_instances))
 
 abbrev pub app_for : Verb → App
 app_for Replay = replay_app
@@ -120,11 +121,11 @@ flag_given name rows = option_map_or (λ text. bytes_eq text (codes "true")) (on
 
 -- the settings are those given, with defaults for the others
 pub record AreGiven (rows : List Row) (s : Settings) : Type 0 where
-  pub versions : s.versions ≡ within 18446744073709551615 18446744073709551615 (number_given (codes "versions") rows)
-  pub instances : s.instances ≡ within 65536 65536 (number_given (codes "instances") rows)
-  pub queue : s.queue ≡ within 65536 65536 (number_given (codes "queue") rows)
-  pub entries : s.entries ≡ within 4096 4096 (number_given (codes "entries") rows)
-  pub retention : s.retention ≡ unwrap_or (number_given (codes "retention") rows) 180000
+  pub versions : s.versions ≡ within most_versions most_versions (number_given (codes "versions") rows)
+  pub instances : s.instances ≡ within most_instances most_instances (number_given (codes "instances") rows)
+  pub queue : s.queue ≡ within most_queue most_queue (number_given (codes "queue") rows)
+  pub entries : s.entries ≡ within most_entries most_entries (number_given (codes "entries") rows)
+  pub retention : s.retention ≡ unwrap_or (number_given (codes "retention") rows) retention
   pub delta : s.delta ≡ not (flag_given (codes "no-delta") rows)
 
 -- the words are a command's word and options, which give these rows

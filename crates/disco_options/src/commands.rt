@@ -3,10 +3,11 @@ ghost use Rattle.std.specs.Prelude.{◌≡◌, IfOk, map, string_bytes};
 ghost use Rattle.clap.specs.Words.{FailsBy, HasKind, app_of, found_of, rows_of};
 ghost use Rattle.disco_options.specs.Options.{AreMatches, app_for, faults_of, faults_of_options, faults_of_others, matches_for, program_app, fleet_app, replay_app, serve_app};
 
-use crate::options::{MOST_INSTANCES, needed, number, with_settings};
+use crate::options::{needed, number, with_settings};
 use crate::verb::Verb;
 use clap::error::ErrorKind;
 use clap::{ArgMatches, Command, Error};
+use disco_settings::{MOST_INSTANCES, most_instances};
 use std::alloc::{AllocError, Global};
 
 fn replay_command<'a>(alloc: Global) -> Result<Command<'a>, AllocError>
@@ -39,7 +40,7 @@ fn fleet_command<'a>(alloc: Global) -> Result<Command<'a>, AllocError>
 {
     let writers = "How many threads register, 1 to 64";
     let clients = "How many clients keep a copy, 1 to 64";
-    let instances = "How many instances are registered, 1 to 65536";
+    let instances = most_instances!(up_to, "How many instances are registered");
     Command::new(alloc, "fleet")
         .about("Shows writers, a server and clients at work in one process")
         .arg(needed(number(alloc, "writers", "W", 1, 64, writers)))?

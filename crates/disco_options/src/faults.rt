@@ -7,7 +7,7 @@ ghost use Rattle.disco_options.specs.Faults.{report_line, status_of_kind, status
 
 use clap::Error;
 use clap::error::ErrorKind;
-use disco_instance::Fault;
+use disco_values::Fault;
 use std::fmt::Display;
 use std::io;
 use std::io::Write;

@@ -5,15 +5,11 @@ ghost use Rattle.disco_options.specs.Options.{flag_given, flag_rule, number_give
 
 use clap::builder::ValueParser;
 use clap::{Arg, ArgAction, ArgMatches, Command};
+use disco_settings::{
+    MOST_ENTRIES, MOST_INSTANCES, MOST_QUEUE, MOST_VERSIONS, most_entries, most_instances,
+    most_queue, most_versions, retention,
+};
 use std::alloc::{AllocError, Global};
-
-pub(crate) const MOST_VERSIONS: u64 = u64::MAX;
-
-pub(crate) const MOST_INSTANCES: u64 = 65_536;
-
-pub(crate) const MOST_QUEUE: u64 = 65_536;
-
-pub(crate) const MOST_ENTRIES: u64 = 4_096;
 
 /// An option that is a number.
 pub(crate) fn number<'a>(
@@ -60,13 +56,17 @@ pub(crate) fn with_settings<'a>(
 ) -> Result<Command<'a>, AllocError>
     ensures { IfOk result (λ c. app_of c ≡ with_settings (app_of command.entry)) }
 {
-    let versions =
-        "How many versions there are at most, 1 to 18446744073709551615 [default: 18446744073709551615]";
-    let instances = "How many instances are held at most, 1 to 65536 [default: 65536]";
-    let queue = "How many recent changes are kept at most, 1 to 65536 [default: 65536]";
-    let entries =
-        "How many documents the cache keeps, and keys a round has, at most, 1 to 4096 [default: 4096]";
-    let retention = "How long a recent change is kept, in milliseconds [default: 180000]";
+    let versions = most_versions!(most_by_default, "How many versions there are at most");
+    let instances = most_instances!(most_by_default, "How many instances are held at most");
+    let queue = most_queue!(most_by_default, "How many recent changes are kept at most");
+    let entries = most_entries!(
+        most_by_default,
+        "How many documents the cache keeps, and keys a round has, at most"
+    );
+    let retention = retention!(
+        by_default,
+        "How long a recent change is kept, in milliseconds"
+    );
     command
         .arg(number(alloc, "versions", "N", 1, MOST_VERSIONS, versions))?
         .arg(number(alloc, "instances", "N", 1, MOST_INSTANCES, instances))?

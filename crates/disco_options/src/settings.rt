@@ -6,16 +6,13 @@ ghost use Rattle.disco_options.specs.Options.{AreGiven, NamedBy, faults_of, verb
 
 use crate::commands::read_words;
 use crate::faults::status_of;
-use crate::options::{
-    MOST_ENTRIES, MOST_INSTANCES, MOST_QUEUE, MOST_VERSIONS, count, flag_given, number_given,
-};
+use crate::options::{count, flag_given, number_given};
 use crate::verb::Verb;
 use clap::{ArgMatches, Error};
-use disco_core::Settings;
+use disco_settings::{
+    MOST_ENTRIES, MOST_INSTANCES, MOST_QUEUE, MOST_VERSIONS, RETENTION, Settings,
+};
 use std::alloc::Global;
-
-/// In milliseconds.
-const RETENTION: u64 = 180_000;
 
 /// The settings that are given, with the default of each that isn't.
 pub fn settings_from(matches: &ArgMatches<'_>) -> Settings

@@ -2,6 +2,7 @@
 ghost use Rattle.std.specs.Prelude.{◌≡◌, ◌≢◌, ◌<◌, ◌≤◌, [], map, string_bytes};
 ghost use Rattle.disco_options.specs.Faults.{IsStatusAmong};
 ghost use Rattle.disco_options.specs.Options.{faults_of};
+ghost use Rattle.disco_press.specs.Openings.{Opens};
 
 mod following;
 mod registering;
@@ -10,12 +11,13 @@ mod showing;
 
 use crate::listening::listen;
 use clap::ArgMatches;
-use disco_core::Settings;
-use disco_instance::Fault;
+use disco_editions::Naming;
 use disco_message::Limits;
 use disco_options::{Verb, count, read_words, refused, report, settings_from};
-use disco_press::{Desk, Naming, Opening, Seat, open};
+use disco_press::{Desk, Opening, Seat, open};
 use disco_server::{Open, SystemClock, start};
+use disco_settings::{MOST_INSTANCES, Settings};
+use disco_values::Fault;
 use following::{Follower, connect_all, refresh_all};
 use registering::register_all;
 use rounds::{publish_round, publish_rounds};
@@ -51,7 +53,7 @@ fn plan_from(matches: &ArgMatches<'_>) -> Plan {
         settings: settings_from(matches),
         writers: count(matches, "writers", 64, 1),
         clients: count(matches, "clients", 64, 1),
-        instances: count(matches, "instances", 65_536, 1),
+        instances: count(matches, "instances", MOST_INSTANCES, 1),
     }
 }
 
@@ -148,9 +150,7 @@ fn listen_and_run<J: Naming + Send + Sync, R, W: Write>(
 ) -> Result<(), Fault>
 where
     R: Net<Listener = TcpListener, Stream = TcpStream> + Threads + Wait + Clock + Sync,
-    requires marks { opening.marks.name ≡ J.list }
-    requires name { opening.blank.name ≡ J.name }
-    requires parts { opening.blank.parts ≡ J.parts }
+    requires opening { Opens J.list J.name J.parts opening }
 {
     let Ok(listener) = listen(rt, 0) else {
         return Err(Fault::ReadFailed);
@@ -181,9 +181,7 @@ pub fn fleet<J: Naming + Send + Sync, R, W: Write, E: Write>(
 ) -> u8
 where
     R: Net<Listener = TcpListener, Stream = TcpStream> + Threads + Wait + Clock + Sync,
-    requires marks { opening.marks.name ≡ J.list }
-    requires name { opening.blank.name ≡ J.name }
-    requires parts { opening.blank.parts ≡ J.parts }
+    requires opening { Opens J.list J.name J.parts opening }
     ensures status { result ≤ 2 }
 
     // Words that are refused, or ask for help, end as what is wrong with them asks, and those that

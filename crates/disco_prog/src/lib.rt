@@ -7,7 +7,7 @@ mod fleets;
 mod listening;
 mod serving;
 
-pub use disco_options::{Verb, settings_of, without_words};
+pub use disco_options::settings_of;
 pub use disco_replay::replay;
 pub use fleets::fleet;
 pub use serving::serve;

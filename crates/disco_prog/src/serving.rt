@@ -2,15 +2,17 @@
 ghost use Rattle.std.specs.Prelude.{◌≡◌, ◌≢◌, ◌<◌, ◌≤◌, [], map, string_bytes};
 ghost use Rattle.disco_options.specs.Faults.{IsStatusAmong};
 ghost use Rattle.disco_options.specs.Options.{faults_of};
+ghost use Rattle.disco_press.specs.Openings.{Opens};
 
 use crate::listening::listen;
 use clap::ArgMatches;
-use disco_core::Settings;
-use disco_instance::Fault;
+use disco_editions::Naming;
 use disco_message::Limits;
 use disco_options::{Verb, count, number_given, read_words, refused, report, settings_from};
-use disco_press::{Desk, Naming, Opening, Seat, open};
+use disco_press::{Desk, Opening, Seat, open};
 use disco_server::{Open, SystemClock, start, timers};
+use disco_settings::Settings;
+use disco_values::Fault;
 use std::alloc::Global;
 use std::io;
 use std::io::Write;
@@ -102,9 +104,7 @@ fn open_and_serve<J: Naming + Send + Sync, R, W: Write>(
 ) -> Result<(), Fault>
 where
     R: Threads + Wait + Clock + Sync,
-    requires marks { opening.marks.name ≡ J.list }
-    requires name { opening.blank.name ≡ J.name }
-    requires parts { opening.blank.parts ≡ J.parts }
+    requires opening { Opens J.list J.name J.parts opening }
 {
     let (desk, seats) = open::<J, R>(rt, alloc, &service.settings, service.workers, opening)?;
     let desk = Mutex::new(desk);
@@ -144,9 +144,7 @@ pub fn serve<J: Naming + Send + Sync, R, W: Write, E: Write>(
 ) -> u8
 where
     R: Net<Listener = TcpListener, Stream = TcpStream> + Threads + Wait + Clock + Sync,
-    requires marks { opening.marks.name ≡ J.list }
-    requires name { opening.blank.name ≡ J.name }
-    requires parts { opening.blank.parts ≡ J.parts }
+    requires opening { Opens J.list J.name J.parts opening }
     ensures status { result ≤ 2 }
 
     // Words that are refused, or ask for help, end as what is wrong with them asks, and those that

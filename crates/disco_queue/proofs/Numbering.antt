@@ -1,5 +1,5 @@
 -- The number of each key's last change, as changes come and leave.
-use Rattle.std.proofs.Common.{◌≡◌, ℕ, zero, suc, ◌+◌, ◌-◌, ◌<◌, ◌==◌, Bool, true, false, cond, T, List, [], ◌∷◌, ◌++◌, length, nat_lt, Option, Some, None, IsSome, option_and_then, refl, sym, ap, subst, ◌∙◌, arith}
+use Rattle.std.proofs.Common.{◌≡◌, ℕ, zero, suc, ◌+◌, ◌-◌, ◌<◌, ◌==◌, Bool, true, false, cond, T, List, [], ◌∷◌, ◌++◌, length, Option, Some, None, IsSome, option_and_then, refl, sym, ap, subst, ◌∙◌, arith}
 use Rattle.std.proofs.Math.Dec.{eqb_refl}
 use Rattle.std.proofs.lemmas.Bool.{le-ltb, lt-ltb, eqb-true}
 use Rattle.std.specs.FinMap.{FinMap, get}
@@ -106,9 +106,6 @@ number_left old new before e es alters are k =
 one_opened : (b : Bool) (o : Option ℕ) → unwrap_or (cond b (opened o) o) 0 ≡ unwrap_or o 0
 one_opened true o = refl
 one_opened false o = refl
-
-pub number_opened : (old new : Places) (before : ℕ) (es : List Entry) (k : Key) → AltersAt opened k old new → AreNumbered old before es → AreNumbered new before es
-number_opened old new before es k alters are q = ap (λ o. unwrap_or o 0) (alters q) ∙ one_opened (same_key q k) (get old q) ∙ are q
 
 -- ---- the change of a number
 

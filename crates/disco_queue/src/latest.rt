@@ -9,7 +9,7 @@ ghost use Rattle.disco_queue.specs.Seen.{change_of};
 
 use crate::kept::Kept;
 use disco_history::Change;
-use disco_instance::Key;
+use disco_values::Key;
 use std::alloc::{AllocError, Global};
 use std::collections::{BTreeMap, VecDeque};
 

@@ -10,7 +10,7 @@ ghost use Rattle.disco_queue.specs.Seen.{change_of};
 use crate::kept::Kept;
 use crate::latest::numbered_in;
 use disco_history::Change;
-use disco_instance::Key;
+use disco_values::Key;
 use std::alloc::{AllocError, Global};
 use std::collections::{BTreeMap, VecDeque};
 use std::marker::Model;

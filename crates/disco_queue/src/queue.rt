@@ -1,5 +1,5 @@
 //! The recently changed queue.
-ghost use Rattle.std.specs.Prelude.{◌≡◌, ℕ, ◌+◌, ◌-◌, ◌^◌, ◌<◌, ◌≤◌, List, [], ◌∷◌, ◌++◌, IfErr, IfOk, OnErr, OnOk, drop, length, map, true, nat_le, nat_lt};
+ghost use Rattle.std.specs.Prelude.{◌≡◌, ◌+◌, ◌-◌, ◌^◌, ◌<◌, ◌≤◌, List, [], ◌∷◌, ◌++◌, IfErr, IfOk, OnErr, OnOk, drop, length, map, true, nat_le, nat_lt};
 ghost use Rattle.std.specs.FinMap.{values};
 ghost use Rattle.std.specs.List.{All};
 ghost use Rattle.std.specs.VecDeque.{deque_capacity, deque_len};
@@ -15,7 +15,7 @@ ghost use Rattle.disco_queue.specs.Timed.{Timed, changes};
 use crate::kept::Kept;
 use crate::numbers::Numbers;
 use disco_history::Change;
-use disco_instance::{Fault, Key};
+use disco_values::{Fault, Key};
 use std::alloc::{AllocError, Global};
 use std::collections::VecDeque;
 use std::marker::Model;

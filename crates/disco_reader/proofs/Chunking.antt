@@ -6,10 +6,8 @@ use Rattle.std.proofs.lemmas.List.{take_at, take-append-drop, length-take}
 use Rattle.httparse.specs.Ascii.{crlf_bytes}
 use Rattle.disco_values.specs.declared.fault.Fault.{Fault}
 use Rattle.disco_values.specs.declared.fault.Fault.TheVariants.{OutOfMemory, HeadTooLarge, BadRequest, ReadFailed}
-use Rattle.disco_message.specs.declared.framing.Framing.TheVariants.{Chunked}
 use Rattle.disco_message.specs.declared.limits.Limits.{Limits}
-use Rattle.disco_reader.specs.Bodies.{ReadsBody}
-use Rattle.disco_reader.specs.Chunks.{HasSize, ReadsChunk, ReadsPieces, ReadsTrailer, LacksChunk, joined, NextRefused, ChunksRefused}
+use Rattle.disco_reader.specs.Chunks.{HasSize, ReadsChunk, ReadsPieces, LacksChunk, joined, NextRefused, ChunksRefused}
 use Rattle.disco_reader.specs.Found.{Turn, PiecesSoFar, DataRefused, TrailerRefused}
 
 pub known_is : (a : Option (List ℕ)) (now : List ℕ) (P : List ℕ → Type 0) → a ≡ Some now → IfSome a P → P now
@@ -64,18 +62,6 @@ pub refused_trailer : (limits : Limits) (have : ℕ) (left now : Option (List �
 refused_trailer limits have None now body new fault turn refused = tt
 refused_trailer limits have (Some input) now body new fault turn refused =
     behind_last limits have fault input turn.0 turn.1 (known_is now turn.0 (TrailerRefused limits fault) turn.3 refused)
-
--- the whole body was read
-pub all_read : (limits : Limits) (first left now rest : Option (List ℕ)) (body new : List ℕ) → IfSome first (λ input. PiecesSoFar limits body input left) → IfSome left (λ input. Turn limits false body new input now) → length new ≤ limits.body
-    → IfSome now (λ input. (more : List ℕ) × ReadsTrailer limits input more × (rest ≡ Some more)) → IfSome first (λ after. (more : List ℕ) × ReadsBody limits Chunked after new more × (rest ≡ Some more))
-all_read limits None left now rest body new so turn fits trailer = tt
-all_read limits (Some input) left now rest body new so turn fits trailer =
-    let t = known_is left so.1 (λ (x : List ℕ). Turn limits false body new x now) so.4 turn in
-    let r = known_is now t.0 (λ (x : List ℕ). (more : List ℕ) × ReadsTrailer limits x more × (rest ≡ Some more)) t.3 trailer in (
-      r.0,
-      (so.0, so.1, so.2, (t.0, t.1, r.1), t.2 ∙ so.3, fits),
-      r.2,
-    )
 
 -- the bytes of a chunk are refused
 pub refused_data : (limits : Limits) (have size : ℕ) (left mid : Option (List ℕ)) (fault : Fault) → IfSome left (λ input. (after : List ℕ) × HasSize limits size input after × (mid ≡ Some after)) → IfSome mid (DataRefused size fault) → IfSome left (NextRefused limits have fault)

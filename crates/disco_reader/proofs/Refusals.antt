@@ -44,11 +44,3 @@ end_refused limits part None front left k end some fits none = tt
 end_refused limits part (Some stream) front None k end some fits none = elim k [ ]
 end_refused limits part (Some stream) front (Some more) k end some fits none =
     inr (subst (λ (xs : List ℕ). EndsInside limits part xs) (whole stream front more k end) (inside limits part front some fits none))
-
--- the input ends before the part
-pub end_none : (part : Part) (first : Option (List ℕ)) (front : List ℕ) (left : Option (List ℕ)) → Keeps first (prepend_known front left) → IsAtEnd left → front ≡ [] → HasNo part front → IfSome first (λ stream. (stream ≡ []) × HasNo part stream)
-end_none part None front left k end nothing none = tt
-end_none part (Some stream) front None k end nothing none = elim k [ ]
-end_none part (Some stream) front (Some more) k end nothing none =
-    let is = whole stream front more k end in
-    (sym is ∙ nothing, subst (λ (xs : List ℕ). HasNo part xs) is none)

@@ -9,7 +9,7 @@ ghost use Rattle.disco_reader.specs.Causes.{Cause, is_of_reading};
 use crate::looking::{Found, Part};
 use crate::reader::Reader;
 use crate::source::Source;
-use disco_instance::Fault;
+use disco_values::Fault;
 
 /// Whether a line end stands from a place on, and nothing behind it.
 fn is_line_end(bytes: &[u8], from: usize) -> bool

@@ -4,7 +4,7 @@ ghost use Rattle.disco_reader.specs.Causes.{is_of_reading};
 ghost use Rattle.disco_reader.specs.Found.{Looked};
 ghost use Rattle.disco_reader.specs.declared.looking.Part.TheVariants.{RequestHead, ReplyHead, SizeLine, Trailer};
 
-use disco_instance::Fault;
+use disco_values::Fault;
 use httparse::spans::{
     HeaderSpan, RequestSpans, ResponseSpans, parse_headers, parse_request, parse_response,
 };

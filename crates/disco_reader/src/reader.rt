@@ -5,8 +5,8 @@ ghost use Rattle.disco_reader.specs.Causes.{Counts, Cause};
 
 use crate::fill::read_from;
 use crate::source::{Failed, Source};
-use disco_instance::Fault;
 use disco_message::{HeadRoom, Limits, Request};
+use disco_values::Fault;
 use httparse::spans::{EMPTY_HEADER_SPAN, HeaderSpan};
 use std::alloc::{AllocError, Global};
 

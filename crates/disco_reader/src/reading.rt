@@ -1,5 +1,5 @@
 //! Requests that are read.
-ghost use Rattle.std.specs.Prelude.{◌≡◌, ◌≤◌, ◌⊎◌, [], ℕ, List, length, IfOk, IfErr, IfNone, IfSome, IsFalse, IsTrue, IsErr, IsOk, is_err, Ok, Err, Some, OnOk, ◌-◌};
+ghost use Rattle.std.specs.Prelude.{◌≡◌, ◌⊎◌, [], ℕ, List, IfOk, IfErr, IfNone, IfSome, IsFalse, IsTrue, IsOk, is_err, Ok, Err, Some, OnOk, ◌-◌};
 ghost use Rattle.httparse.specs.Grammar.{RequestHead};
 ghost use Rattle.httparse.specs.Spans.{IsRequestAt, IsRequestWithin};
 ghost use Rattle.disco_values.specs.declared.fault.Fault.TheVariants.{ReadFailed, OutOfMemory};
@@ -10,8 +10,8 @@ ghost use Rattle.disco_reader.specs.Causes.{Cause, is_of_reading};
 use crate::looking::{Found, Part};
 use crate::reader::Reader;
 use crate::source::Source;
-use disco_instance::Fault;
 use disco_message::{Framing, Head, HeadRoom, Request};
+use disco_values::Fault;
 use httparse::spans::RequestSpans;
 use std::alloc::Global;
 use std::mem;

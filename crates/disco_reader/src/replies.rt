@@ -11,8 +11,8 @@ ghost use Rattle.disco_reader.specs.Causes.{Cause, is_of_reading};
 use crate::looking::{Found, Part};
 use crate::reader::Reader;
 use crate::source::Source;
-use disco_instance::Fault;
 use disco_message::{Extent, ReceivedHead};
+use disco_values::Fault;
 use httparse::spans::ResponseSpans;
 use std::alloc::{AllocError, Global};
 

@@ -9,7 +9,7 @@ use crate::fill::fill_from;
 use crate::looking::{Found, Part, look_at, may_have};
 use crate::reader::Reader;
 use crate::source::{Failed, Source};
-use disco_instance::Fault;
+use disco_values::Fault;
 use std::alloc::{AllocError, Global};
 
 impl<R: Source> Reader<R> {

@@ -13,9 +13,9 @@ use Rattle.disco_history.proofs.Overlays.{copy_law, overlay_law}
 use Rattle.disco_history.proofs.Restrictions.{values-said_all}
 use Rattle.disco_wire.specs.Documents.{document_of}
 use Rattle.disco_wire.specs.Meaning.{Meaning}
-use Rattle.disco_writer.specs.Documents.{mentioned}
-use Rattle.disco_writer.specs.Rows.{mentions_in}
-use Rattle.disco_writer.specs.declared.query.Query.TheVariants as query
+use Rattle.disco_documents.specs.Documents.{mentioned}
+use Rattle.disco_documents.specs.Rows.{mentions_in}
+use Rattle.disco_query.specs.declared.query.Query.TheVariants as query
 use Rattle.disco_client.specs.Tracks.{IsAt, moved}
 use Rattle.disco_client.specs.declared.known.Known.{Known}
 use Rattle.disco_client.proofs.Moves.{Moves, moves}

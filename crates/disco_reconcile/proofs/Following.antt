@@ -6,10 +6,10 @@ use Rattle.disco_values.specs.declared.form.Form.{Form}
 use Rattle.disco_history.specs.Change.{Entry}
 use Rattle.disco_history.specs.Mentions.{overlay}
 use Rattle.disco_wire.specs.Meaning.{Meaning}
-use Rattle.disco_writer.specs.Documents.{is_delta}
-use Rattle.disco_writer.specs.declared.query.Query.{Query}
-use Rattle.disco_writer.specs.declared.query.Query.TheVariants as query
-use Rattle.disco_cache.specs.declared.key.DocKey.{DocKey}
+use Rattle.disco_query.specs.Query.{is_delta}
+use Rattle.disco_query.specs.declared.query.Query.{Query}
+use Rattle.disco_query.specs.declared.query.Query.TheVariants as query
+use Rattle.disco_query.specs.declared.key.DocKey.{DocKey}
 use Rattle.disco_client.specs.declared.known.Known.{Known}
 use Rattle.disco_reader.specs.Causes.{Raises}
 use Rattle.disco_reconcile.proofs.Exactness.{delta_means, full_means}

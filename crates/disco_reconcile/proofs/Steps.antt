@@ -10,10 +10,10 @@ use Rattle.disco_wire.specs.Wire.{wire_meaning}
 use Rattle.disco_wire.specs.declared.wire.Shape.{Shape}
 use Rattle.disco_wire.specs.declared.wire.Shape.TheVariants.{Many, App, One}
 use Rattle.disco_wire.specs.declared.wire.Wire.{Wire}
-use Rattle.disco_writer.specs.Documents.{is_delta}
-use Rattle.disco_writer.specs.declared.query.Query.{Query}
-use Rattle.disco_writer.specs.declared.query.Query.TheVariants as query
-use Rattle.disco_cache.specs.declared.key.DocKey.{DocKey}
+use Rattle.disco_query.specs.Query.{is_delta}
+use Rattle.disco_query.specs.declared.query.Query.{Query}
+use Rattle.disco_query.specs.declared.query.Query.TheVariants as query
+use Rattle.disco_query.specs.declared.key.DocKey.{DocKey}
 use Rattle.disco_reconcile.specs.Courses.{Exchange, Follows, IsFull, IsRest, OfDelta, OfFull, exchange, outcome}
 use Rattle.disco_reconcile.specs.Steps.{Goes, IsAsked, IsStep, StepTo, TakesFull, following}
 use Rattle.disco_reconcile.specs.Told.{Answer, of_shape, told_by, told_of}

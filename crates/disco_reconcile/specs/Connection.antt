@@ -7,8 +7,8 @@ use Rattle.disco_values.specs.declared.form.Form.{Form}
 use Rattle.disco_values.specs.declared.form.Form.TheVariants.{Full, Compact}
 use Rattle.disco_message.specs.Received.{Received}
 use Rattle.disco_message.specs.declared.limits.Limits.{Limits}
-use Rattle.disco_writer.specs.Documents.{is_delta}
-use Rattle.disco_cache.specs.declared.key.DocKey.{DocKey}
+use Rattle.disco_query.specs.Query.{is_delta}
+use Rattle.disco_query.specs.declared.key.DocKey.{DocKey}
 use Rattle.disco_reader.specs.Causes.{Raises}
 use Rattle.disco_reader.specs.Replies.{ReplyRefused, TakesReply}
 use Rattle.disco_reader.specs.Streams as stream

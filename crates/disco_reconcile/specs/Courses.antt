@@ -6,10 +6,10 @@ use Rattle.disco_values.specs.declared.fault.Fault.TheVariants.{NotFetched}
 use Rattle.disco_values.specs.declared.form.Form.{Form}
 use Rattle.disco_history.specs.Mentions.{copied, overlay}
 use Rattle.disco_wire.specs.Meaning.{Meaning}
-use Rattle.disco_writer.specs.Documents.{is_delta}
-use Rattle.disco_writer.specs.declared.query.Query.{Query}
-use Rattle.disco_writer.specs.declared.query.Query.TheVariants as query
-use Rattle.disco_cache.specs.declared.key.DocKey.{DocKey}
+use Rattle.disco_query.specs.Query.{is_delta}
+use Rattle.disco_query.specs.declared.query.Query.{Query}
+use Rattle.disco_query.specs.declared.query.Query.TheVariants as query
+use Rattle.disco_query.specs.declared.key.DocKey.{DocKey}
 use Rattle.disco_client.specs.Copies.{hash_equal}
 use Rattle.disco_reconcile.specs.State.{Rows}
 use Rattle.disco_reconcile.specs.Told.{Answer, told_by}

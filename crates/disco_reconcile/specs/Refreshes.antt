@@ -3,7 +3,7 @@ use Rattle.std.specs.Prelude.{◌≡◌, ◌⊎◌, ℕ, List, [], ◌∷◌, Op
 use Rattle.disco_instance.specs.Mention.{Mention}
 use Rattle.disco_values.specs.declared.fault.Fault.{Fault}
 use Rattle.disco_history.specs.Mentions.{overlay}
-use Rattle.disco_cache.specs.declared.key.DocKey.{DocKey}
+use Rattle.disco_query.specs.declared.key.DocKey.{DocKey}
 use Rattle.disco_reader.specs.Causes.{Raises}
 use Rattle.disco_reconcile.specs.Courses.{AreFetched, Exchange, IsCourse, outcome, plain_delta, plain_full}
 use Rattle.disco_reconcile.specs.Failures.{Gave, IsFailure}

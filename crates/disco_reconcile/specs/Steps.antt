@@ -5,10 +5,10 @@ use Rattle.disco_values.specs.declared.fault.Fault.{Fault}
 use Rattle.disco_values.specs.declared.form.Form.{Form}
 use Rattle.disco_wire.specs.Wire.{wire_meaning}
 use Rattle.disco_wire.specs.declared.wire.Wire.{Wire}
-use Rattle.disco_writer.specs.Documents.{is_delta}
-use Rattle.disco_writer.specs.declared.query.Query.{Query}
-use Rattle.disco_writer.specs.declared.query.Query.TheVariants as query
-use Rattle.disco_cache.specs.declared.key.DocKey.{DocKey}
+use Rattle.disco_query.specs.Query.{is_delta}
+use Rattle.disco_query.specs.declared.query.Query.{Query}
+use Rattle.disco_query.specs.declared.query.Query.TheVariants as query
+use Rattle.disco_query.specs.declared.key.DocKey.{DocKey}
 use Rattle.disco_reconcile.specs.Courses.{AreFetched, Exchange, IsCourse, IsFetched, OfDelta, OfFull, exchange, full_by, key_of, outcome}
 use Rattle.disco_reconcile.specs.Told.{Answer, told_by}
 use Rattle.disco_reconcile.specs.declared.fetch.Fetched.{Fetched}

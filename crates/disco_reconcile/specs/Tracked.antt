@@ -3,8 +3,9 @@ use Rattle.std.specs.Prelude.{◌≡◌, ◌≤◌, ℕ, Bool, true, false, List
 use Rattle.disco_values.specs.declared.form.Form.{Form}
 use Rattle.disco_history.specs.Change.{Entry, front}
 use Rattle.disco_wire.specs.Meaning.{Meaning}
-use Rattle.disco_writer.specs.Documents.{IsTrueFor, is_delta}
-use Rattle.disco_writer.specs.declared.query.Query.{Query}
+use Rattle.disco_documents.specs.Documents.{IsTrueFor}
+use Rattle.disco_query.specs.Query.{is_delta}
+use Rattle.disco_query.specs.declared.query.Query.{Query}
 use Rattle.disco_client.specs.Tracks.{IsAt, moved}
 use Rattle.disco_client.specs.declared.known.Known.{Known}
 use Rattle.disco_reconcile.specs.Courses.{Exchange}

@@ -3,16 +3,15 @@ ghost use Rattle.std.specs.Prelude.{◌≡◌, ◌⊎◌, ◌==◌, ◌||◌, �
 ghost use Rattle.disco_instance.specs.Instance.{Gives};
 ghost use Rattle.disco_wire.specs.Documents.{document_of};
 ghost use Rattle.disco_wire.specs.Wire.{wire_meaning};
-ghost use Rattle.disco_writer.specs.declared.query.Query.TheVariants.{Apps, Delta};
+ghost use Rattle.disco_query.specs.declared.query.Query.TheVariants.{Apps, Delta};
 ghost use Rattle.disco_reconcile.specs.Steps.{IsAsked};
 ghost use Rattle.disco_reconcile.specs.Failures.{Gave};
 ghost use Rattle.disco_reconcile.specs.Told.{is_none, told_by, told_of};
 
 use crate::fetch::{Fetch, Fetched};
-use disco_cache::DocKey;
-use disco_instance::{Fault, Form};
+use disco_query::{DocKey, Query};
+use disco_values::{Fault, Form};
 use disco_wire::{Shape, Wire, read_document};
-use disco_writer::Query;
 use std::alloc::Global;
 
 /// Whether a status says that there is no delta.

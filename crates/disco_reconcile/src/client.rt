@@ -6,7 +6,7 @@ use crate::fetch::Fetch;
 use crate::plain;
 use crate::refreshed::Refreshed;
 use disco_client::Copy;
-use disco_instance::{Fault, Form};
+use disco_values::{Fault, Form};
 use std::alloc::Global;
 use std::marker::Model;
 

@@ -1,14 +1,14 @@
 //! What a client fetches by.
 ghost use Rattle.std.specs.Prelude.{◌≡◌, ◌≤◌, ◌⊎◌, ℕ, Result};
 ghost use Rattle.disco_values.specs.declared.fault.Fault.{Fault};
-ghost use Rattle.disco_writer.specs.declared.query.Query.TheVariants.{Apps, Delta};
-ghost use Rattle.disco_cache.specs.declared.key.DocKey.{DocKey};
+ghost use Rattle.disco_query.specs.declared.query.Query.TheVariants.{Apps, Delta};
+ghost use Rattle.disco_query.specs.declared.key.DocKey.{DocKey};
 ghost use Rattle.disco_reader.specs.Causes.{Raises};
 ghost use Rattle.disco_reconcile.specs.Failures.{IsFailure};
 ghost use Rattle.disco_reconcile.specs.declared.fetch.Fetched.{Fetched};
 
-use disco_cache::DocKey;
-use disco_instance::{Bytes, Fault};
+use disco_query::DocKey;
+use disco_values::{Bytes, Fault};
 
 /// The answer to a request for a document.
 #[derive(Debug, Drop)]

@@ -1,5 +1,4 @@
 //! A refresh of a plain client, as Eureka's.
-ghost use Rattle.std.specs.Prelude.{◌≡◌};
 ghost use Rattle.disco_reconcile.specs.Courses.{plain_delta, plain_full};
 ghost use Rattle.disco_reconcile.specs.Failures.{Gave};
 ghost use Rattle.disco_reconcile.specs.Steps.{Goes, IsStep, TakesFull};
@@ -8,8 +7,8 @@ use crate::asking::ask;
 use crate::fetch::Fetch;
 use crate::refreshed::Refreshed;
 use disco_client::Copy;
-use disco_instance::{Fault, Form};
-use disco_writer::Query;
+use disco_query::Query;
+use disco_values::{Fault, Form};
 use std::alloc::Global;
 
 /// Fetches all apps, which become the copy.

@@ -1,20 +1,16 @@
 -- When an operation is accepted.
-use Rattle.std.proofs.Common.{◌≡◌, ℕ, ◌<◌, ◌≤◌, ◌&&◌, Bool, true, false, not, nat_lt, cond, List, Option, Some, None, option_map, Result, Ok, Err, refl, sym, ap, ◌∙◌, arith}
+use Rattle.std.proofs.Common.{◌≡◌, ℕ, ◌<◌, ◌&&◌, Bool, true, false, not, nat_lt, cond, List, Option, Some, None, option_map, Result, Ok, Err, refl, sym, ap, ◌∙◌, arith}
 use Rattle.std.specs.FinMap.{FinMap, get, len}
 use Rattle.std.proofs.lemmas.Bool.Decides.{nat_tests}
 use Rattle.disco_values.specs.Entries.{with_entries}
 use Rattle.disco_values.specs.Key.{key_cmp}
-use Rattle.disco_instance.specs.Moments.{cancelled_at, modified_at}
 use Rattle.disco_instance.specs.Row.{Row}
-use Rattle.disco_values.specs.Status.{is_same}
-use Rattle.disco_values.specs.declared.action.Action.TheVariants.{Added, Modified, Deleted}
+use Rattle.disco_values.specs.declared.action.Action.TheVariants.{Added}
 use Rattle.disco_values.specs.declared.fault.Fault.{Fault}
-use Rattle.disco_values.specs.declared.fault.Fault.TheVariants.{TooManyInstances, VersionsSpent}
+use Rattle.disco_values.specs.declared.fault.Fault.TheVariants.{TooManyInstances}
 use Rattle.disco_values.specs.declared.key.Key.{Key}
-use Rattle.disco_values.specs.declared.status.Status.{Status}
-use Rattle.disco_values.specs.declared.status.Status.TheVariants.{Unknown}
 use Rattle.disco_history.specs.Change.{Entry}
-use Rattle.disco_registry.specs.Accept.{Limits, accepts, asked, cancelled, if_left, is_new, limits_of, metadata_added, override_dropped, status_set}
+use Rattle.disco_registry.specs.Accept.{Limits, accepts, asked, if_left, is_new, limits_of, metadata_added}
 use Rattle.disco_history.specs.Held.{record_at}
 use Rattle.disco_registry.specs.Op.{register}
 use Rattle.disco_registry.specs.Settle.{settle}
@@ -24,31 +20,11 @@ use Rattle.disco_registry.specs.State.{State}
 pub left_version : (limits : Limits) (version : ℕ) (c : Entry) (a : Result (Option Entry) Fault) → a ≡ Ok (Some c) → version < limits.versions → if_left limits version a ≡ Ok (Some c)
 left_version limits version c a e left = ap (if_left limits version) e ∙ grind (arith, nat_tests, left)
 
-pub spent_version : (limits : Limits) (version : ℕ) (c : Entry) (a : Result (Option Entry) Fault) → a ≡ Ok (Some c) → limits.versions ≤ version → if_left limits version a ≡ Err VersionsSpent
-spent_version limits version c a e spent = ap (if_left limits version) e ∙ grind (arith, nat_tests, spent)
-
 pub accepted_new : (s : State) (p : Row) (now : ℕ) → (is_new (record_at s.held p.key) && not (nat_lt (len s.held) s.instances)) ≡ false → s.version < s.versions
     → accepts s (register p) now ≡ Ok (Some (settle (record_at s.held p.key) p now, Added))
 accepted_new s p now place left =
     left_version (limits_of s) s.version (settle (record_at s.held p.key) p now, Added) (asked (limits_of s) (record_at s.held) (len s.held) (register p) now)
     (ap (λ b. cond b (Err TooManyInstances) (Ok (Some (settle (record_at s.held p.key) p now, Added)))) place) left
-
-pub gone_asked : (o : Option Row) (r : Row) (now : ℕ) → o ≡ Some r → cancelled o now ≡ Ok (Some (cancelled_at r now, Deleted))
-gone_asked o r now is = ap (λ p. cancelled p now) is
-
-pub status_asked : (t : Option Status) (o : Option Row) (status : Status) (r : Row) (now : ℕ) → t ≡ Some status → o ≡ Some r → is_same r.status status ≡ false
-    → status_set t o now ≡ Ok (Some (modified_at r status status now, Modified))
-status_asked t o status r now named is other = (λ i. status_set (named i) (is i) now) ∙ ap (λ b. cond b (Ok None) (Ok (Some (modified_at r status status now, Modified)))) other
-
-pub status_kept : (t : Option Status) (o : Option Row) (status : Status) (r : Row) (now : ℕ) → t ≡ Some status → o ≡ Some r → is_same r.status status ≡ true → status_set t o now ≡ Ok None
-status_kept t o status r now named is same = (λ i. status_set (named i) (is i) now) ∙ ap (λ b. cond b (Ok None) (Ok (Some (modified_at r status status now, Modified)))) same
-
-pub override_asked : (t : Option Status) (o : Option Row) (status : Status) (r : Row) (now : ℕ) → t ≡ Some status → o ≡ Some r → is_same r.overridden_status Unknown ≡ false
-    → override_dropped t o now ≡ Ok (Some (modified_at r status Unknown now, Modified))
-override_asked t o status r now named is other = (λ i. override_dropped (named i) (is i) now) ∙ ap (λ b. cond b (Ok None) (Ok (Some (modified_at r status Unknown now, Modified)))) other
-
-pub override_kept : (t : Option Status) (o : Option Row) (status : Status) (r : Row) (now : ℕ) → t ≡ Some status → o ≡ Some r → is_same r.overridden_status Unknown ≡ true → override_dropped t o now ≡ Ok None
-override_kept t o status r now named is same = (λ i. override_dropped (named i) (is i) now) ∙ ap (λ b. cond b (Ok None) (Ok (Some (modified_at r status Unknown now, Modified)))) same
 
 pub metadata_asked : (o : Option Row) (r : Row) (entries : List (List ℕ × List ℕ)) (now : ℕ) → o ≡ Some r → metadata_added o entries now ≡ Ok (Some (settle (Some r) (record r { metadata = with_entries r.metadata entries }) now, Added))
 metadata_asked o r entries now is = ap (λ p. metadata_added p entries now) is

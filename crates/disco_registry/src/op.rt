@@ -2,7 +2,8 @@
 ghost use Rattle.std.specs.Prelude.{◌≡◌};
 
 use disco_history::Change;
-use disco_instance::{Entries, Key, Record, Text};
+use disco_instance::Record;
+use disco_values::{Entries, Key, Text};
 
 /// What a client asks of the registry.
 #[derive(Debug, Drop)]

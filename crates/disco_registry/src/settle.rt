@@ -1,12 +1,12 @@
 //! What a registration makes of the posted and of the held record.
-ghost use Rattle.std.specs.Prelude.{◌≡◌, IfOk, IfErr, option_map};
-ghost use Rattle.std.specs.Option.{option_copied};
+ghost use Rattle.std.specs.Prelude.{◌≡◌, IfOk, IfErr};
 ghost use Rattle.disco_instance.specs.Row.{row};
 ghost use Rattle.disco_values.specs.declared.fault.Fault.TheVariants.{OutOfMemory};
 ghost use Rattle.disco_history.specs.Held.{seen_record};
 ghost use Rattle.disco_registry.specs.Settle.{held_or, held_up, is_open, known_or, override_of, registrant, settle, settled_status};
 
-use disco_instance::{Fault, Record, Status};
+use disco_instance::Record;
+use disco_values::{Fault, Status};
 
 /// The posted record, or the held one where that was changed later. A held record is copied, since
 /// others share it.

@@ -5,7 +5,7 @@ use Rattle.std.specs.Option.{is_none}
 use Rattle.disco_values.specs.declared.fault.Fault.{Fault}
 use Rattle.disco_values.specs.declared.fault.Fault.TheVariants.{OutOfMemory}
 use Rattle.disco_core.specs.State.{rules}
-use Rattle.disco_core.specs.declared.settings.Settings.{Settings}
+use Rattle.disco_settings.specs.declared.settings.Settings.{Settings}
 use Rattle.disco_world.specs.Answers.{IsFirstBadEvent}
 use Rattle.disco_world.specs.declared.event.Event.{Event}
 use Rattle.disco_lines.specs.Input.{AreRead}

@@ -7,7 +7,7 @@ use Rattle.disco_core.specs.State.{rules}
 use Rattle.disco_world.specs.Answers.{IsFirstBadEvent}
 use Rattle.disco_world.specs.Telling.{AreTold}
 use Rattle.disco_world.specs.declared.event.Event.{Event}
-use Rattle.disco_core.specs.declared.settings.Settings.{Settings}
+use Rattle.disco_settings.specs.declared.settings.Settings.{Settings}
 use Rattle.disco_lines.specs.Answers.{answer_line}
 use Rattle.disco_lines.specs.Input.{AreRead, NamesBadLine}
 use Rattle.disco_options.specs.Options.{NamedBy}

@@ -8,10 +8,11 @@ ghost use Rattle.disco_lines.specs.Lines.{IsFirstBadLine};
 ghost use Rattle.disco_options.specs.Options.{faults_of};
 ghost use Rattle.disco_replay.specs.Replay.{IsAnswered, IsFailed, IsReplayed, IsRunFault};
 
-use disco_instance::Fault;
 use disco_lines::{answer_events, read_events, write_answers};
 use disco_options::{Verb, read_settings, refused, report};
-use disco_world::{Settings, has_takes, run};
+use disco_settings::Settings;
+use disco_values::Fault;
+use disco_world::{has_takes, run};
 use std::alloc::Global;
 use std::io::{Read, Write};
 

@@ -1,13 +1,17 @@
 //! A connection of a row.
-ghost use Rattle.std.specs.Prelude.{◌≡◌};
+ghost use Rattle.disco_press.specs.Openings.{Opens};
 
 use crate::pieces::Pieces;
 use crate::ticks::Ticks;
-use disco_http::{Counted, Reader, Service, Writer, serve};
-use disco_hub::{Hub, Settings};
+use disco_editions::Naming;
+use disco_http::{Service, Writer, serve};
+use disco_hub::Hub;
 use disco_message::Limits;
-use disco_press::{Desk, Naming, Opening, Seat, open};
-use disco_server::{DeskService, HubService, Open, Routes, Shop};
+use disco_press::{Desk, Opening, Seat, open};
+use disco_reader::{Counted, Reader};
+use disco_routes::Routes;
+use disco_server::{DeskService, HubService, Open, Shop};
+use disco_settings::Settings;
 use std::alloc::{AllocError, Global};
 use std::io;
 use std::sync::{Mutex, Wait};
@@ -66,9 +70,7 @@ pub(crate) fn over_a_desk<J: Naming, R: Wait>(
     request: &[u8],
     piece: usize,
 ) -> io::Result<Vec<u8>>
-    requires marks { opening.marks.name ≡ J.list }
-    requires name { opening.blank.name ≡ J.name }
-    requires parts { opening.blank.parts ≡ J.parts }
+    requires opening { Opens J.list J.name J.parts opening }
 {
     let Ok((desk, mut seats)) = open::<J, R>(rt, alloc, settings, 1, opening) else {
         return Err(io::Error::from(io::ErrorKind::OutOfMemory));

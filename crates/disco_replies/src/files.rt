@@ -1,6 +1,6 @@
 //! The files of a row.
 use crate::settings::settings_of;
-use disco_hub::Settings;
+use disco_settings::Settings;
 use std::io::ErrorKind;
 use std::rt::Files;
 use std::{fs, io};

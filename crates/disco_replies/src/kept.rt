@@ -3,8 +3,8 @@ ghost use Rattle.std.specs.Prelude.{◌≡◌, IfNone};
 
 use crate::connection::{over_a_desk, over_a_hub};
 use crate::files::{Row, read_row};
-use disco_hub::Settings;
 use disco_press::Opening;
+use disco_settings::Settings;
 use std::io;
 use std::marker::Brand;
 use std::rt::Files;

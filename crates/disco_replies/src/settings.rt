@@ -1,60 +1,29 @@
 //! The settings of a row.
-ghost use Rattle.std.specs.Prelude.{◌<◌, ◌≤◌};
-
-use disco_hub::Settings;
-use disco_instance::number_of_digits;
+use disco_digits::number_of_digits;
+use disco_settings::{MOST_INSTANCES, Settings};
 use std::io;
 use std::io::ErrorKind;
 
-/// What a row chooses of the settings of a server.
-#[derive(Clone, Copy, Debug)]
-struct Chosen {
-    versions: u64,
-    instances: u64,
-    delta: bool,
-    ghost has_versions: { 0 < versions },
-    ghost has_instances: { 0 < instances },
-    ghost instances_in_range: { instances ≤ 65536 },
-}
-
-/// What is usual.
-fn usual() -> Chosen {
-    Chosen {
-        versions: u64::MAX,
-        instances: 65_536,
-        delta: true,
-    }
-}
-
 /// What is chosen by a line more: `no-delta`, `versions N` or `instances N`.
-fn with_line(chosen: Chosen, line: &str) -> Option<Chosen> {
+fn with_line(mut chosen: Settings, line: &str) -> Option<Settings> {
     if line == "no-delta" {
-        return Some(Chosen {
-            versions: chosen.versions,
-            instances: chosen.instances,
-            delta: false,
-        });
+        chosen.delta = false;
+        return Some(chosen);
     }
     if let Some(word) = line.strip_prefix("versions ") {
         let versions = number_of_digits(word)?;
         if versions == 0 {
             return None;
         }
-        return Some(Chosen {
-            versions,
-            instances: chosen.instances,
-            delta: chosen.delta,
-        });
+        chosen.versions = versions;
+        return Some(chosen);
     }
     let instances = number_of_digits(line.strip_prefix("instances ")?)?;
-    if instances == 0 || instances > 65_536 {
+    if instances == 0 || instances > MOST_INSTANCES {
         return None;
     }
-    Some(Chosen {
-        versions: chosen.versions,
-        instances,
-        delta: chosen.delta,
-    })
+    chosen.instances = instances;
+    Some(chosen)
 }
 
 /// The settings that the lines of a text give.
@@ -62,19 +31,12 @@ pub(crate) fn settings_of(text: &[u8]) -> io::Result<Settings> {
     let Ok(text) = std::str::from_utf8(text) else {
         return Err(io::Error::from(ErrorKind::InvalidData));
     };
-    let mut chosen = usual();
+    let mut chosen = Settings::standard();
     for line in text.lines() {
         match with_line(chosen, line) {
             Some(more) => chosen = more,
             None => return Err(io::Error::from(ErrorKind::InvalidData)),
         }
     }
-    Ok(Settings {
-        versions: chosen.versions,
-        instances: chosen.instances,
-        queue: 65_536,
-        entries: 4_096,
-        retention: 180_000,
-        delta: chosen.delta,
-    })
+    Ok(chosen)
 }

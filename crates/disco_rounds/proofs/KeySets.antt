@@ -8,9 +8,9 @@ use Rattle.std.specs.FinMap.{FinMap, contains_key, contains_key-keys, empty, ent
 use Rattle.std.specs.FinMap.Entries.{below_all}
 use Rattle.std.specs.Ordering.{is_lt}
 use Rattle.disco_cache.specs.Docs.{Docs}
-use Rattle.disco_cache.specs.Keys.{doc_cmp, same_doc}
-use Rattle.disco_cache.specs.declared.key.DocKey.{DocKey}
-use Rattle.disco_cache.proofs.Orders.{docs_total, exact_docs}
+use Rattle.disco_query.specs.Keys.{doc_cmp, same_doc}
+use Rattle.disco_query.specs.declared.key.DocKey.{DocKey}
+use Rattle.disco_query.proofs.Orders.{docs_total, exact_docs}
 use Rattle.disco_rounds.specs.Rounds.{KeySet, add_within, kept_keys, kept_with, round_keys}
 
 -- ---- what one copy more does at a key

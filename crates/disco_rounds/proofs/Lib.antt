@@ -1,2 +1,6 @@
+pub mod InStep
 pub mod KeySets
 mod NewKeys
+pub mod Notes
+pub mod Pressed
+pub mod Shown

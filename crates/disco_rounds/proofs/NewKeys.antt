@@ -8,9 +8,9 @@ use Rattle.std.specs.FinMap.Entries.{below_all}
 use Rattle.std.specs.Ordering.{is_eq, is_lt}
 use Rattle.std.specs.declared.cmp.Ordering.{Ordering}
 use Rattle.std.specs.declared.cmp.Ordering.TheVariants.{Less, Equal, Greater}
-use Rattle.disco_cache.specs.Keys.{doc_cmp, same_doc}
-use Rattle.disco_cache.specs.declared.key.DocKey.{DocKey}
-use Rattle.disco_cache.proofs.Orders.{docs_total, exact_docs}
+use Rattle.disco_query.specs.Keys.{doc_cmp, same_doc}
+use Rattle.disco_query.specs.declared.key.DocKey.{DocKey}
+use Rattle.disco_query.proofs.Orders.{docs_total, exact_docs}
 use Rattle.disco_rounds.specs.Rounds.{KeySet, kept_keys, kept_with}
 use Rattle.disco_rounds.specs.Stored.{AreNew, pair, pairs}
 use Rattle.disco_rounds.specs.declared.round.CopiedKey.{CopiedKey}

@@ -4,8 +4,8 @@ use Rattle.std.specs.FinMap.{FinMap, empty, insert, keys, len, remove}
 use Rattle.disco_values.specs.declared.fault.Fault.{Fault}
 use Rattle.disco_values.specs.declared.fault.Fault.TheVariants.{KeysLeft, NoRound}
 use Rattle.disco_cache.specs.Docs.{Docs}
-use Rattle.disco_cache.specs.Keys.{doc_cmp}
-use Rattle.disco_cache.specs.declared.key.DocKey.{DocKey}
+use Rattle.disco_query.specs.Keys.{doc_cmp}
+use Rattle.disco_query.specs.declared.key.DocKey.{DocKey}
 
 abbrev pub KeySet : Type 0
 KeySet = FinMap doc_cmp (Unit {0})

@@ -3,8 +3,8 @@ use Rattle.std.specs.Prelude.{◌≡◌, ℕ, Bool, false, List, [], ◌∷◌, 
 use Rattle.std.specs.Borrow.{Bor}
 use Rattle.std.specs.FinMap.{contains_key, insert}
 use Rattle.disco_history.specs.SortedBy.{AreSortedBy, IsAtBy, IsGapBy, map_by}
-use Rattle.disco_cache.specs.Keys.{doc_cmp}
-use Rattle.disco_cache.specs.declared.key.DocKey.{DocKey}
+use Rattle.disco_query.specs.Keys.{doc_cmp}
+use Rattle.disco_query.specs.declared.key.DocKey.{DocKey}
 use Rattle.disco_rounds.specs.Rounds.{KeySet}
 use Rattle.disco_rounds.specs.declared.round.CopiedKey.{CopiedKey}
 

@@ -6,8 +6,9 @@ ghost use Rattle.disco_rounds.specs.Rounds.{add_within, kept_keys, kept_with, ro
 ghost use Rattle.disco_rounds.specs.Stored.{AreInOrder, IsAt, IsGap, pair, pairs, seen_keys};
 
 use crate::round::CopiedKey;
-use disco_cache::{DocCache, DocKey};
-use disco_instance::Fault;
+use disco_cache::DocCache;
+use disco_query::DocKey;
+use disco_values::Fault;
 use std::alloc::{AllocError, Global};
 
 /// Keys of documents in their order, of which another is the owner.

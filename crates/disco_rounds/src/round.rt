@@ -4,7 +4,7 @@ ghost use Rattle.std.specs.FinMap as finmap;
 ghost use Rattle.disco_rounds.specs.Rounds.{Marks, kept_keys, new_round};
 ghost use Rattle.disco_rounds.specs.Stored.{AreNew, pairs};
 
-use disco_cache::DocKey;
+use disco_query::DocKey;
 use std::alloc::{AllocError, Global};
 use std::collections::VecDeque;
 use std::marker::Model;

@@ -6,8 +6,9 @@ ghost use Rattle.disco_rounds.specs.Rounds.{Advances, Begins, Ends, StaysOpen, r
 
 use crate::keys::round_keys;
 use crate::round::{CopiedKey, Round};
-use disco_cache::{DocCache, DocKey};
-use disco_instance::Fault;
+use disco_cache::DocCache;
+use disco_query::DocKey;
+use disco_values::Fault;
 use std::alloc::Global;
 use std::marker::Model;
 

@@ -1,5 +1,6 @@
 //! What documents mean, as lines.
-use disco_instance::{Action, Lease, Record};
+use disco_instance::{Lease, Record};
+use disco_values::Action;
 use disco_wire::{Mention, Shape, Wire, read_document};
 use std::alloc::Global;
 use std::io;

@@ -1,10 +1,13 @@
 //! A row, and how it is run.
-ghost use Rattle.std.specs.Prelude.{◌≡◌};
+ghost use Rattle.disco_press.specs.Openings.{Opens};
 
 use crate::meanings::write_meanings;
 use crate::outcome::Outcome;
-use disco_press::{Naming, Opening};
-use disco_prog::{Verb, fleet, replay, serve};
+use disco_editions::Naming;
+use disco_options::Verb;
+use disco_press::Opening;
+use disco_prog::{fleet, serve};
+use disco_replay::replay;
 use std::alloc::Global;
 use std::io;
 use std::io::Write;
@@ -47,9 +50,7 @@ fn run_command<J: Naming + Send + Sync, R>(
 where
     R: Net<Listener = TcpListener, Stream = TcpStream> + Threads + Wait + Clock,
     R: AllocGlobal + Sync,
-    requires marks { opening.marks.name ≡ J.list }
-    requires name { opening.blank.name ≡ J.name }
-    requires parts { opening.blank.parts ≡ J.parts }
+    requires opening { Opens J.list J.name J.parts opening }
 {
     let alloc = rt.alloc();
     let (mut answers, mut faults) = (Vec::new(alloc), Vec::new(alloc));

@@ -3,15 +3,14 @@
 //! Of each trial the name is printed with what came of it. Ends with status 1 where one fails.
 #![tactic(auto)]
 
-ghost use Rattle.std.specs.Prelude.{◌≡◌};
-
 mod client;
 mod holding;
 mod serving;
 mod ticks;
 mod trials;
 
-use disco_press::{Naming, Opening};
+use disco_editions::Naming;
+use disco_press::Opening;
 use std::marker::Brand;
 use std::process::ExitCode;
 

@@ -1,15 +1,16 @@
 //! The server beside its trials.
-ghost use Rattle.std.specs.Prelude.{◌≡◌};
+ghost use Rattle.disco_press.specs.Openings.{Opens};
 
 use crate::holding::Holding;
 use crate::ticks::Ticks;
 use crate::trials;
 use crate::trials::CONNECTIONS;
-use disco_hub::Settings;
-use disco_instance::Fault;
+use disco_editions::Naming;
 use disco_message::Limits;
-use disco_press::{Desk, Naming, Opening, Seat, open};
+use disco_press::{Desk, Opening, Seat, open};
 use disco_server::{start, timers};
+use disco_settings::Settings;
+use disco_values::Fault;
 use std::alloc::Global;
 use std::net::{Net, SocketAddr, TcpListener, TcpStream};
 use std::sync::atomic::{AtomicBool, Ordering};
@@ -19,17 +20,6 @@ use std::{io, rt};
 
 /// Two workers, and one seat for the trials.
 const SEATS: usize = 3;
-
-fn settings() -> Settings {
-    Settings {
-        versions: u64::MAX,
-        instances: 65_536,
-        queue: 65_536,
-        entries: 4_096,
-        retention: 180_000,
-        delta: true,
-    }
-}
 
 /// Prints what came of a trial, and answers it.
 fn told<R: Print>(rt: &R, name: &str, well: bool) -> io::Result<bool> {
@@ -120,13 +110,12 @@ pub(crate) fn run<J: Naming + Send + Sync, R>(rt: &R, opening: Opening) -> io::R
 where
     R: Threads + Wait + rt::Clock + Net<Listener = TcpListener, Stream = TcpStream>,
     R: AllocGlobal + Print + Sync,
-    requires marks { opening.marks.name ≡ J.list }
-    requires name { opening.blank.name ≡ J.name }
-    requires parts { opening.blank.parts ≡ J.parts }
+    requires opening { Opens J.list J.name J.parts opening }
 {
     let alloc = rt.alloc();
     let listener = TcpListener::bind(rt, "127.0.0.1:0")?;
-    let Ok((desk, mut seats)) = open::<J, R>(rt, alloc, &settings(), SEATS, opening) else {
+    let Ok((desk, mut seats)) = open::<J, R>(rt, alloc, &Settings::standard(), SEATS, opening)
+    else {
         return told(rt, "memory", false);
     };
     let desk = Mutex::new(desk);

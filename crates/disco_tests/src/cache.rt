@@ -1,10 +1,10 @@
 //! Kept documents, by the calls that no event reaches alone.
 use crate::given::{empty_hub, key, record, registration};
-use disco_cache::{DocCache, DocKey, Payload};
+use disco_cache::{DocCache, Payload};
 use disco_hub::Hub;
-use disco_instance::{Bytes, Fault, Form, Text};
+use disco_query::{DocKey, Query};
 use disco_registry::Op;
-use disco_writer::Query;
+use disco_values::{Bytes, Fault, Form, Text};
 use std::alloc::Global;
 use std::sync::Arc;
 

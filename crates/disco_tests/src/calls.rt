@@ -2,8 +2,8 @@
 use crate::given::{key, registration};
 use disco_history::{Change, last_of};
 use disco_index::Counts;
-use disco_instance::{Fault, Status};
 use disco_registry::{Applied, Registry};
+use disco_values::{Fault, Status};
 use std::alloc::Global;
 
 fn registered(alloc: Global, registry: &mut Registry, id: &str) -> Result<Change, Fault> {

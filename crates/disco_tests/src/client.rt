@@ -1,6 +1,6 @@
 //! A copy by the documents that it was given: what no event shows of it.
 use disco_client::Copy;
-use disco_instance::Fault;
+use disco_values::Fault;
 use disco_wire::read_document;
 use std::alloc::Global;
 

@@ -1,8 +1,10 @@
 //! What trials are given: settings, and instances of one app.
-use disco_hub::{Hub, Settings};
-use disco_instance::{Fault, Key, Record, Text};
-use disco_prog::settings_of;
+use disco_hub::Hub;
+use disco_instance::Record;
+use disco_options::settings_of;
 use disco_registry::Op;
+use disco_settings::Settings;
+use disco_values::{Fault, Key, Text};
 use disco_wire::read_registration;
 use std::alloc::{AllocError, Global};
 

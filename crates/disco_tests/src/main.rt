@@ -13,8 +13,8 @@ mod program;
 mod refreshing;
 mod rounds;
 
-use disco_instance::Fault;
 use disco_press::Opening;
+use disco_values::Fault;
 use std::alloc::Global;
 use std::io;
 use std::marker::Brand;

@@ -1,12 +1,12 @@
 //! A desk and its seats: rounds and looks on the running objects, and two threads.
-ghost use Rattle.std.specs.Prelude.{◌≡◌};
+ghost use Rattle.disco_press.specs.Openings.{Opens};
 
 use crate::given::{cancel, defaults, refusal, registration};
-use disco_cache::DocKey;
-use disco_hub::Copied;
-use disco_instance::{Fault, Form, Text};
-use disco_press::{Desk, Looked, Naming, Opening, Seat, open};
-use disco_writer::Query;
+use disco_editions::{Looked, Naming};
+use disco_press::{Desk, Opening, Seat, open};
+use disco_query::{DocKey, Query};
+use disco_rounds::Copied;
+use disco_values::{Fault, Form, Text};
 use std::alloc::Global;
 use std::sync::{Mutex, MutexGuard, Wait};
 use std::thread::{Threads, join};
@@ -151,9 +151,7 @@ fn all_rounds<J: Naming, R: Wait>(
     alloc: Global,
     opening: Opening,
 ) -> Result<(Rounds, u64, u64), Fault>
-    requires marks { opening.marks.name ≡ J.list }
-    requires name { opening.blank.name ≡ J.name }
-    requires parts { opening.blank.parts ≡ J.parts }
+    requires opening { Opens J.list J.name J.parts opening }
 {
     let settings = defaults(alloc)?;
     let (mut desk, mut seats) = open::<J, R>(rt, alloc, &settings, 2, opening)?;
@@ -179,9 +177,7 @@ pub(crate) fn a_seat_sees_what_is_published<J: Naming, R: Wait>(
     alloc: Global,
     opening: Opening,
 ) -> Result<bool, Fault>
-    requires marks { opening.marks.name ≡ J.list }
-    requires name { opening.blank.name ≡ J.name }
-    requires parts { opening.blank.parts ≡ J.parts }
+    requires opening { Opens J.list J.name J.parts opening }
 {
     let (rounds, one, two) = all_rounds::<J, R>(rt, alloc, opening)?;
     Ok(rounds == WANTED && (one, two) == (2000, 2000))
@@ -270,9 +266,7 @@ fn two_threads<J: Naming + Send + Sync, R: Threads + Wait + Sync>(
     alloc: Global,
     opening: Opening,
 ) -> Result<(u64, (u32, u32, u64)), Fault>
-    requires marks { opening.marks.name ≡ J.list }
-    requires name { opening.blank.name ≡ J.name }
-    requires parts { opening.blank.parts ≡ J.parts }
+    requires opening { Opens J.list J.name J.parts opening }
 {
     let settings = defaults(alloc)?;
     let (desk, mut seats) = open::<J, R>(rt, alloc, &settings, 2, opening)?;
@@ -290,9 +284,7 @@ pub(crate) fn another_thread_sees_it<J: Naming + Send + Sync, R: Threads + Wait 
     alloc: Global,
     opening: Opening,
 ) -> Result<bool, Fault>
-    requires marks { opening.marks.name ≡ J.list }
-    requires name { opening.blank.name ≡ J.name }
-    requires parts { opening.blank.parts ≡ J.parts }
+    requires opening { Opens J.list J.name J.parts opening }
 {
     let came = two_threads::<J, R>(rt, alloc, opening)?;
     Ok(came == (1, (0, 5, 1)))

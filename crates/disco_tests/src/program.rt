@@ -1,7 +1,7 @@
 //! Runs of the program over streams that fail, and over more instances than it holds.
 use crate::given::strings;
-use disco_instance::Fault;
-use disco_prog::replay;
+use disco_replay::replay;
+use disco_values::Fault;
 use std::alloc::{AllocError, Global};
 use std::io;
 use std::io::{Read, Write};

@@ -4,12 +4,12 @@ ghost use Rattle.disco_values.specs.declared.fault.Fault.TheVariants.{NotFetched
 ghost use Rattle.disco_reader.specs.Causes.{Raises};
 
 use crate::program::{Full, Torn};
-use disco_cache::DocKey;
-use disco_http::{Counted, Reader, Writer};
-use disco_instance::{Bytes, Fault, Form};
+use disco_http::Writer;
 use disco_message::Limits;
+use disco_query::{DocKey, Query};
+use disco_reader::{Counted, Reader};
 use disco_reconcile::{Client, Fetch, Fetched, HttpFetch, Refreshed};
-use disco_writer::Query;
+use disco_values::{Bytes, Fault, Form};
 use std::alloc::Global;
 use std::io::Write;
 

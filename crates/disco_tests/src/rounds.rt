@@ -1,9 +1,9 @@
 //! Rounds of a publisher, by the calls that no event reaches alone.
 use crate::given::{empty_hub, refusal};
-use disco_cache::DocKey;
-use disco_hub::{Copied, Hub};
-use disco_instance::{Fault, Form};
-use disco_writer::Query;
+use disco_hub::Hub;
+use disco_query::{DocKey, Query};
+use disco_rounds::Copied;
+use disco_values::{Fault, Form};
 use std::alloc::Global;
 
 /// One document is kept.

@@ -1,7 +1,7 @@
 //! Reading a document.
 ghost use Rattle.std.specs.Prelude.{◌≡◌, codes, map, option_map, option_and_then, unwrap_or, IfOk, Err, Some};
 ghost use Rattle.std.specs.Option.{ok_or, option_copied};
-ghost use Rattle.serde_json.specs.Data.{Data, null};
+ghost use Rattle.serde_json.specs.Data.{null};
 ghost use Rattle.serde_json.specs.Find.{get};
 ghost use Rattle.serde_json.specs.View.{view};
 ghost use Rattle.disco_instance.specs.Instance.{Gives};
@@ -14,7 +14,8 @@ ghost use Rattle.disco_wire.specs.Wire.{wire_meaning, tell_all};
 
 use crate::tree::{object_member, tree_of};
 use crate::wire::{Mention, Mentions, Shape, Wire};
-use disco_instance::{Fault, Record, Text, action_from_value, text_member, whole};
+use disco_instance::{Record, action_from_value, text_member, whole};
+use disco_values::{Fault, Text};
 use serde_json::Value;
 use std::alloc::{AllocError, Global};
 

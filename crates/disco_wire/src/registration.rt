@@ -7,7 +7,8 @@ ghost use Rattle.disco_instance.specs.Row.{row};
 ghost use Rattle.disco_wire.specs.Registration.{missing_in, registered_by, registration_in, registration_of};
 
 use crate::tree::{object_member, tree_of};
-use disco_instance::{Fault, Field, Record, non_empty_member};
+use disco_instance::{Record, non_empty_member};
+use disco_values::{Fault, Field};
 use serde_json::Value;
 use std::alloc::Global;
 

@@ -1,10 +1,10 @@
 //! The JSON tree of some bytes.
-ghost use Rattle.std.specs.Prelude.{◌≡◌, codes, option_map};
+ghost use Rattle.std.specs.Prelude.{◌≡◌, option_map};
 ghost use Rattle.serde_json.specs.View.{view};
 ghost use Rattle.disco_instance.specs.Instance.{Gives};
 ghost use Rattle.disco_wire.specs.Tree.{json_of, object_at};
 
-use disco_instance::Fault;
+use disco_values::Fault;
 use serde_json::Value;
 use std::alloc::Global;
 

@@ -1,7 +1,8 @@
 //! What a document means, as it was read.
 ghost use Rattle.std.specs.Prelude.{◌≡◌};
 
-use disco_instance::{Action, Record, Text};
+use disco_instance::Record;
+use disco_values::{Action, Text};
 use std::marker::Model;
 
 /// Whether a document is of many apps, of one app, or of one instance.

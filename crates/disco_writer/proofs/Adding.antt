@@ -12,7 +12,7 @@ use Rattle.disco_values.specs.declared.form.Form.TheVariants.{Full, Compact}
 use Rattle.disco_history.specs.Change.{Entry}
 use Rattle.disco_writer.specs.Fields.{entry_fields, from_moments, to_hosts, to_metadata, to_moments, to_urls, to_vips}
 use Rattle.disco_writer.specs.Tokens.{Adds, member_tokens}
-use Rattle.disco_writer.specs.Trees.{in_order, tree, instance_tree}
+use Rattle.disco_documents.specs.Trees.{in_order, tree, instance_tree}
 
 pub then : {a b c : Written} {xs ys : List Token} → Adds a b xs → Adds b c ys → Adds a c (xs ++ ys)
 then {a = a} {xs = xs} {ys = ys} f g = record { tokens = g.tokens ∙ ap (λ ts. ts ++ ys) f.tokens ∙ append_assoc a.tokens xs ys; before = g.before ∙ f.before }

@@ -1,5 +1,5 @@
 -- From the entries that were written to what is asked for after a history.
-use Rattle.std.proofs.Common.{◌≡◌, ℕ, ◌<◌, ◌==◌, ◌&&◌, not, Bool, true, false, cond, List, length, Option, Some, None, Ok, MatchOption, option_map, refl, sym, ap, ◌∙◌, arith}
+use Rattle.std.proofs.Common.{◌≡◌, ℕ, ◌<◌, ◌==◌, ◌&&◌, not, Bool, true, false, cond, List, length, Option, Some, None, Ok, MatchOption, option_map, refl, sym, ap, ◌∙◌, arith, Result, Ok, Err, IfOk}
 use Rattle.std.proofs.lemmas.Bool.Decides.{nat_tests}
 use Rattle.std.specs.FinMap.{len, values}
 use Rattle.serde_json.specs.Written.{compact_text}
@@ -14,20 +14,12 @@ use Rattle.disco_history.proofs.Sets.{values-reg}
 use Rattle.disco_wire.specs.Documents.{document_of}
 use Rattle.disco_wire.specs.Meaning.{meant}
 use Rattle.disco_wire.specs.declared.wire.Shape.TheVariants.{Many}
-use Rattle.disco_writer.specs.Documents.{IsWritten, asked_by, hash_of, if_many, is_delta, kind, mentioned, told}
-use Rattle.disco_writer.specs.Rows.{mentions_in, rows_in}
-use Rattle.disco_writer.specs.Trees.{document_tree, tree_of}
-use Rattle.disco_writer.specs.declared.query.Query.{Query}
-use Rattle.disco_writer.specs.declared.query.Query.TheVariants as query
-
--- one query alone is of what changed
-pub delta_alone : (q : Query) → is_delta q ≡ true → q ≡ query.Delta
-delta_alone query.Apps e = absurd (cc)
-delta_alone query.Delta e = refl
-delta_alone (query.App name) e = absurd (cc)
-delta_alone (query.Vip vip) e = absurd (cc)
-delta_alone (query.Svip vip) e = absurd (cc)
-delta_alone (query.Instance key) e = absurd (cc)
+use Rattle.disco_documents.specs.Documents.{IsWritten, asked_by, hash_of, if_many, kind, mentioned, told}
+use Rattle.disco_query.specs.Query.{is_delta}
+use Rattle.disco_documents.specs.Rows.{mentions_in, rows_in}
+use Rattle.disco_documents.specs.Trees.{document_tree, tree_of}
+use Rattle.disco_query.specs.declared.query.Query.{Query}
+use Rattle.disco_query.specs.declared.query.Query.TheVariants as query
 
 is_some_number : (n : ℕ) → 0 < n → (n == 0) ≡ false
 is_some_number n some = grind (arith, nat_tests, some)
@@ -75,3 +67,8 @@ many_written items f q h base es v n None same held version count must shape tre
 many_written items f q h base es v n (Some x) same held version count must shape tree some =
     some_written f q h base es (hash (rows_in es)) v (items x) (same ∙ ap (λ b. cond b (values (delta h base)) (mentioned (asked_by q) h)) (sym held)) (code_is (asked_by q) h es same) version
     (some_there (asked_by q) h es same (omega (arith, some.0, count))) (some.1 ∙ ap compact_text (sym tree)) (some.2 ∙ ap (λ s. Ok (meant s (if_many s (hash (rows_in es))) (if_many s v) (mentions_in f es))) (sym shape))
+
+-- what holds of a result holds of it under a condition
+pub whenever : {A E : Type 0} (K : Type 0) (P : A → Type 0) (r : Result A E) → IfOk r P → IfOk r (λ a. K → P a)
+whenever K P (Ok a) h = λ k. h
+whenever K P (Err e) h = tt

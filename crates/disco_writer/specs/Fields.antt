@@ -8,7 +8,7 @@ use Rattle.disco_instance.specs.declared.data_center.DataCenter.{DataCenter}
 use Rattle.disco_instance.specs.declared.lease.Lease.{Lease}
 use Rattle.disco_instance.specs.declared.port.Port.{Port}
 use Rattle.disco_history.specs.Change.{Entry}
-use Rattle.disco_writer.specs.Trees.{truth, whole, digits_text, port_tree, data_center_tree, lease_tree, metadata_tree}
+use Rattle.disco_documents.specs.Trees.{truth, whole, digits_text, port_tree, data_center_tree, lease_tree, metadata_tree}
 
 abbrev pub Fields : Type 0
 Fields = List (List ℕ × Data)

@@ -6,7 +6,7 @@ use Rattle.serde_json.specs.Written.{compact_text}
 use Rattle.disco_instance.specs.Row.{IsWellFormed}
 use Rattle.disco_values.specs.declared.form.Form.{Form}
 use Rattle.disco_history.specs.Change.{Entry}
-use Rattle.disco_writer.specs.Trees.{instance_tree}
+use Rattle.disco_documents.specs.Trees.{instance_tree}
 
 -- the text of an instance in a form
 abbrev pub text_in : Form → Entry → List ℕ

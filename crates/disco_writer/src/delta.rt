@@ -6,16 +6,16 @@ ghost use Rattle.disco_index.specs.Tally.{tally_in};
 ghost use Rattle.disco_queue.specs.Queue.{Keeps};
 ghost use Rattle.disco_queue.specs.Timed.{Timed, changes};
 ghost use Rattle.disco_registry.specs.State.{StandsFor};
-ghost use Rattle.disco_writer.specs.Documents.{IsWritten};
-ghost use Rattle.disco_writer.specs.Rows.{held_entries};
-ghost use Rattle.disco_writer.specs.declared.query.Query.TheVariants as query;
+ghost use Rattle.disco_documents.specs.Documents.{IsWritten};
+ghost use Rattle.disco_documents.specs.Rows.{held_entries};
+ghost use Rattle.disco_query.specs.declared.query.Query.TheVariants as query;
 
 use crate::many::many_text;
 use disco_history::{Change, Held};
 use disco_index::Counts;
-use disco_instance::{Fault, Form};
 use disco_queue::ChangedQueue;
 use disco_registry::Registry;
+use disco_values::{Fault, Form};
 use std::alloc::{AllocError, Global};
 
 /// What each of these changes did, and to which record. The records are shared.

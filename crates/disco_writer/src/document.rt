@@ -13,20 +13,21 @@ ghost use Rattle.disco_registry.specs.State.{StandsFor};
 ghost use Rattle.disco_wire.specs.Documents.{document_of};
 ghost use Rattle.disco_wire.specs.Meaning.{meant};
 ghost use Rattle.disco_wire.specs.declared.wire.Shape.TheVariants.{Many};
-ghost use Rattle.disco_writer.specs.Documents.{IsWritten, is_delta};
-ghost use Rattle.disco_writer.specs.Rows.{held_entries, mentions_in, rows_in};
-ghost use Rattle.disco_writer.specs.Trees.{document_tree};
-ghost use Rattle.disco_writer.specs.declared.query.Query.TheVariants as query;
+ghost use Rattle.disco_documents.specs.Documents.{IsWritten};
+ghost use Rattle.disco_query.specs.Query.{is_delta};
+ghost use Rattle.disco_documents.specs.Rows.{held_entries, mentions_in, rows_in};
+ghost use Rattle.disco_documents.specs.Trees.{document_tree};
+ghost use Rattle.disco_query.specs.declared.query.Query.TheVariants as query;
 
 use crate::delta::write_delta;
 use crate::many::{app_text, many_text, one_text};
-use crate::query::Query;
 use crate::selected::{count, held_under_svip, held_under_vip};
 use disco_history::Held;
 use disco_index::{Counts, VipIndex};
-use disco_instance::{Fault, Form, Key, Text};
+use disco_query::Query;
 use disco_queue::ChangedQueue;
 use disco_registry::Registry;
+use disco_values::{Fault, Form, Key, Text};
 use std::alloc::Global;
 
 /// The document that a query asks for in a form, as compact JSON; `None` exactly where the query is
@@ -49,10 +50,14 @@ pub fn write_document(
         → (h : List Timed) → StandsFor registry.now (changes h) → Keeps queue.now h → IsWritten form query.now (changes h) queue.now.base (option_map (λ v. v.items) o)) }
     ensures memory { IfErr result (λ e. e ≡ OutOfMemory) }
 {
-    if query.is_delta() {
-        return Ok(Some(write_delta(alloc, form, registry, queue, counts)?));
+    match query {
+        Query::Apps => Ok(Some(write_apps(alloc, form, registry, counts)?)),
+        Query::Delta => Ok(Some(write_delta(alloc, form, registry, queue, counts)?)),
+        Query::App(name) => write_app(alloc, form, registry, name),
+        Query::Vip(vip) => write_vip(alloc, form, registry, vips, vip),
+        Query::Svip(svip) => write_svip(alloc, form, registry, svip),
+        Query::Instance(key) => write_instance(alloc, form, registry, key),
     }
-    Ok(write_held(alloc, form, query, registry, vips, counts)?)
 }
 
 /// The document that a query asks for in the full form, as [`write_document`] gives it.
@@ -73,31 +78,6 @@ pub fn write_full(
     ensures memory { IfErr result (λ e. e ≡ OutOfMemory) }
 {
     write_document(alloc, Form::Full, query, registry, vips, queue, counts)
-}
-
-/// The document of the held records that a query asks for, where there are any.
-fn write_held(
-    alloc: Global,
-    form: Form,
-    query: &Query,
-    registry: &Registry,
-    vips: &VipIndex,
-    counts: &Counts,
-) -> Result<Option<Vec<u8>>, Fault>
-    requires counts { counts.now ≡ tally_in registry.now.held }
-    requires vips { IsIndexOf vips.now registry.now.held }
-    requires no_delta { is_delta query.now ≡ false }
-    ensures written { IfOk result (λ o. (h : List Entry) → StandsFor registry.now h → IsWritten form query.now h (length h) (option_map (λ v. v.items) o)) }
-    ensures memory { IfErr result (λ e. e ≡ OutOfMemory) }
-{
-    match query {
-        Query::Apps => Ok(Some(write_apps(alloc, form, registry, counts)?)),
-        Query::Delta => Ok(None),
-        Query::App(name) => write_app(alloc, form, registry, name),
-        Query::Vip(vip) => write_vip(alloc, form, registry, vips, vip),
-        Query::Svip(svip) => write_svip(alloc, form, registry, svip),
-        Query::Instance(key) => write_instance(alloc, form, registry, key),
-    }
 }
 
 fn write_apps(

@@ -7,13 +7,14 @@ ghost use Rattle.disco_values.specs.declared.form.Form.TheVariants.{Full, Compac
 ghost use Rattle.disco_writer.specs.Fields.{first_fields, from_moments, host_fields, moment_fields, state_fields, to_hosts, to_metadata, to_moments, to_urls, to_vips};
 ghost use Rattle.disco_writer.specs.Joined.{IsTextOf};
 ghost use Rattle.disco_writer.specs.Tokens.{Adds, Writes};
-ghost use Rattle.disco_writer.specs.Trees.{instance_tree};
+ghost use Rattle.disco_documents.specs.Trees.{instance_tree};
 
 use crate::members::{
     end, put_action, put_data_center, put_digits, put_lease, put_metadata, put_port, put_small,
     put_status, put_text, put_truth, start,
 };
-use disco_instance::{Action, Form, Record, well_formed};
+use disco_instance::{Record, well_formed};
+use disco_values::{Action, Form};
 use json::Writer;
 use std::alloc::AllocError;
 

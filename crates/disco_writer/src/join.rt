@@ -1,5 +1,5 @@
 //! Documents joined from the texts of their instances.
-ghost use Rattle.std.specs.Prelude.{◌≡◌, ◌++◌, ◌∷◌, [], List, IfOk, OnOk, None, Some, Ok, option_map, codes, decimal, false};
+ghost use Rattle.std.specs.Prelude.{◌≡◌, ◌++◌, ◌∷◌, [], IfOk, OnOk, None, Some, Ok, option_map, codes, decimal, false};
 ghost use Rattle.json.specs.Print.{quoted};
 ghost use Rattle.serde_json.specs.Written.{compact_text};
 ghost use Rattle.disco_values.specs.declared.form.Form.{Form};
@@ -7,14 +7,14 @@ ghost use Rattle.disco_history.specs.Change.{Entry};
 ghost use Rattle.disco_history.specs.Held.{entry_of};
 ghost use Rattle.disco_wire.specs.Documents.{document_of};
 ghost use Rattle.disco_wire.specs.Meaning.{meant};
-ghost use Rattle.disco_wire.specs.declared.wire.Shape.TheVariants.{Many, App, One};
-ghost use Rattle.disco_writer.specs.Joined.{AreTextsOf, HaveTexts, IsTextOf, text_in, Pushes, after_last, app_close, app_joined, app_open, before_next, in_apps, in_commas, many_close, many_joined, many_open, one_joined, shown};
-ghost use Rattle.disco_writer.specs.Rows.{held_entries, mentions_in};
-ghost use Rattle.disco_writer.specs.Trees.{app_document, document_tree, instance_document};
+ghost use Rattle.disco_wire.specs.declared.wire.Shape.TheVariants.{One};
+ghost use Rattle.disco_writer.specs.Joined.{HaveTexts, IsTextOf, text_in, Pushes, after_last, app_close, app_joined, app_open, before_next, in_apps, in_commas, many_close, many_joined, many_open, one_joined, shown};
+ghost use Rattle.disco_documents.specs.Rows.{held_entries, mentions_in};
+ghost use Rattle.disco_documents.specs.Trees.{instance_document};
 
 use crate::instance::{instance_text, usual};
 use disco_history::Held;
-use disco_instance::{Form, Text};
+use disco_values::{Form, Text};
 use json::Writer;
 use std::alloc::{AllocError, Global};
 

@@ -7,11 +7,9 @@ mod delta;
 mod document;
 mod instance;
 mod join;
-pub mod laws;
 mod many;
 mod members;
-mod query;
 mod selected;
 
+pub use disco_query::Query;
 pub use document::{write_document, write_full};
-pub use query::Query;

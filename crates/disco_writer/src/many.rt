@@ -5,14 +5,13 @@ ghost use Rattle.disco_history.specs.Held.{entry_of};
 ghost use Rattle.disco_wire.specs.Documents.{document_of};
 ghost use Rattle.disco_wire.specs.Meaning.{meant};
 ghost use Rattle.disco_wire.specs.declared.wire.Shape.TheVariants.{Many, App, One};
-ghost use Rattle.disco_writer.specs.Joined.{AreTextsOf, IsTextOf, shown};
-ghost use Rattle.disco_writer.specs.Rows.{held_entries, mentions_in};
-ghost use Rattle.disco_writer.specs.Trees.{app_document, document_tree, instance_document};
+ghost use Rattle.disco_documents.specs.Rows.{held_entries, mentions_in};
+ghost use Rattle.disco_documents.specs.Trees.{app_document, document_tree, instance_document};
 
 use crate::instance::usual;
 use crate::join::{held_text, join_one, push_app, push_many, room};
 use disco_history::Held;
-use disco_instance::{Form, Text};
+use disco_values::{Form, Text};
 use std::alloc::{AllocError, Global};
 
 /// The text of the document of these instances in a form.

@@ -1,14 +1,15 @@
 //! The members of an instance's text, each written as it comes.
-ghost use Rattle.std.specs.Prelude.{◌≡◌, ◌∷◌, [], OnOk, codes};
+ghost use Rattle.std.specs.Prelude.{◌∷◌, [], OnOk, codes};
 ghost use Rattle.json.specs.Token.{begin_object, end_object, key};
 ghost use Rattle.serde_json.specs.Data.{string};
 ghost use Rattle.disco_values.specs.Action.{action_name};
 ghost use Rattle.disco_values.specs.Status.{status_name};
 ghost use Rattle.disco_writer.specs.Fields.{entry_fields, lease_fields};
 ghost use Rattle.disco_writer.specs.Tokens.{Adds, Writes};
-ghost use Rattle.disco_writer.specs.Trees.{data_center_tree, digits_text, lease_tree, metadata_tree, port_tree, truth, whole};
+ghost use Rattle.disco_documents.specs.Trees.{data_center_tree, digits_text, lease_tree, metadata_tree, port_tree, truth, whole};
 
-use disco_instance::{Action, DataCenter, Entries, Lease, Port, Status, Text};
+use disco_instance::{DataCenter, Lease, Port};
+use disco_values::{Action, Entries, Status, Text};
 use json::Writer;
 use std::alloc::AllocError;
 

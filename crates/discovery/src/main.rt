@@ -2,10 +2,13 @@
 //! that `disco_prog` answers for.
 #![tactic(auto)]
 
-ghost use Rattle.std.specs.Prelude.{◌≡◌};
+ghost use Rattle.disco_press.specs.Openings.{Opens};
 
-use disco_press::{Naming, Opening};
-use disco_prog::{Verb, fleet, replay, serve, without_words};
+use disco_editions::Naming;
+use disco_options::{Verb, without_words};
+use disco_press::Opening;
+use disco_prog::{fleet, serve};
+use disco_replay::replay;
 use std::alloc::Global;
 use std::io::{Read, Write};
 use std::marker::Brand;
@@ -32,9 +35,7 @@ fn run<J: Naming + Send + Sync, R, I: Read, W: Write, E: Write>(
 ) -> u8
 where
     R: Net<Listener = TcpListener, Stream = TcpStream> + Threads + Wait + Clock + Sync,
-    requires marks { opening.marks.name ≡ J.list }
-    requires name { opening.blank.name ≡ J.name }
-    requires parts { opening.blank.parts ≡ J.parts }
+    requires opening { Opens J.list J.name J.parts opening }
 {
     let words = match words {
         Ok(words) => words,

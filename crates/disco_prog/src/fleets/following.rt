@@ -1,8 +1,9 @@
 //! Clients that keep a copy over connections of their own.
-use disco_http::{Counted, Reader, Writer};
-use disco_instance::{Fault, Form};
+use disco_http::Writer;
 use disco_message::Limits;
+use disco_reader::{Counted, Reader};
 use disco_reconcile::{Client, HttpFetch};
+use disco_values::{Fault, Form};
 use std::alloc::Global;
 use std::io;
 use std::net::{Net, SocketAddr, TcpListener, TcpStream};

@@ -1,10 +1,11 @@
 //! Writers that register instances.
-ghost use Rattle.std.specs.Prelude.{◌≡◌, ◌<◌};
+ghost use Rattle.std.specs.Prelude.{◌<◌};
 
-use disco_instance::Fault;
-use disco_press::{Desk, Naming};
+use disco_editions::Naming;
+use disco_press::Desk;
 use disco_registry::Op;
 use disco_server::{Clock, SystemClock};
+use disco_values::Fault;
 use disco_wire::read_registration;
 use std::alloc::Global;
 use std::rt;

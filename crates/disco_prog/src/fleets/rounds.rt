@@ -1,7 +1,8 @@
 //! A publisher.
-use disco_instance::Fault;
-use disco_press::{Desk, Naming};
+use disco_editions::Naming;
+use disco_press::Desk;
 use disco_server::{Step, publish_step_locked};
+use disco_values::Fault;
 use std::sync::{Mutex, Wait};
 
 /// Publishes one round. Others get the lock between its steps.

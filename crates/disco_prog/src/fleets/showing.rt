@@ -1,12 +1,13 @@
 //! What a fleet came to.
 use crate::fleets::following::Follower;
-use disco_cache::DocKey;
 use disco_client::Copy;
+use disco_editions::Naming;
 use disco_history::Held;
-use disco_instance::{Fault, Form, Record};
-use disco_press::{Desk, Naming};
+use disco_instance::Record;
+use disco_press::Desk;
+use disco_query::{DocKey, Query};
+use disco_values::{Fault, Form};
 use disco_wire::read_document;
-use disco_writer::Query;
 use std::alloc::{AllocError, Global};
 use std::io;
 use std::io::Write;

@@ -1,10 +1,10 @@
 use Rattle.std.proofs.Common.{rules, of_calls}
 use Rattle.std.proofs.lemmas.Fn.{always_returns_same}
 use Rattle.disco_history.proofs.SortedBy.{found, absent}
-use Rattle.disco_cache.specs.Keys.{doc_cmp}
+use Rattle.disco_query.specs.Keys.{doc_cmp}
 use Rattle.disco_cache.specs.Shelved.{key_of, doc_in}
 use Rattle.disco_cache.specs.declared.entry.Entry.{Entry}
-use Rattle.disco_cache.proofs.Orders.{docs_total, exact_docs}
+use Rattle.disco_query.proofs.Orders.{docs_total, exact_docs}
 use Rattle.disco_cache.proofs.edition.place.Goals as goal
 
 pub returns-clause-found : goal.returns-clause-found

@@ -1,6 +1,6 @@
 use Rattle.std.proofs.Common.{List, ◌∙◌, sym, ap, subst}
 use Rattle.scroll.specs.declared.Leaf.{Leaf}
-use Rattle.disco_hub.specs.Press.{Note}
+use Rattle.disco_rounds.specs.Press.{Note}
 use Rattle.disco_editions.specs.Editions.{IsEditionOf}
 use Rattle.disco_editions.specs.Rolls.{publications}
 use Rattle.disco_editions.specs.declared.mark.Mark.{Mark}

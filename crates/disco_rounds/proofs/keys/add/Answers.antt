@@ -2,7 +2,7 @@ use Rattle.std.proofs.Common.{ℕ, Bool, true, false, cond, sym, ap, ◌≡◌, 
 use Rattle.std.proofs.lemmas.Bool.{lt-ltb, ltb-true}
 use Rattle.std.specs.FinMap.{insert, len}
 use Rattle.disco_history.proofs.SortedBy.{len_of}
-use Rattle.disco_cache.proofs.Orders.{docs_total, exact_docs}
+use Rattle.disco_query.proofs.Orders.{docs_total, exact_docs}
 use Rattle.disco_rounds.specs.Rounds.{KeySet}
 use Rattle.disco_rounds.specs.Stored.{key_in, mark, seen_keys}
 use Rattle.disco_rounds.proofs.keys.add.Goals as goal

@@ -1,6 +1,6 @@
 use Rattle.std.proofs.Common.{[], sym, ap, subst, ◌∙◌}
 use Rattle.std.specs.FinMap.{empty_of_len}
-use Rattle.disco_cache.proofs.Orders.{docs_total, exact_docs}
+use Rattle.disco_query.proofs.Orders.{docs_total, exact_docs}
 use Rattle.disco_history.proofs.SortedBy.{len_of}
 use Rattle.disco_rounds.specs.Stored.{AreInOrder, key_in, mark, seen_keys}
 use Rattle.disco_rounds.proofs.keys.of_edition.Goals as goal

@@ -1,9 +1,9 @@
 use Rattle.std.proofs.Common.{Bor, rules, of_calls}
 use Rattle.std.proofs.lemmas.Fn.{always_returns_same}
 use Rattle.disco_history.proofs.SortedBy.{found, absent}
-use Rattle.disco_cache.specs.Keys.{doc_cmp}
-use Rattle.disco_cache.specs.declared.key.DocKey.{DocKey}
-use Rattle.disco_cache.proofs.Orders.{docs_total, exact_docs}
+use Rattle.disco_query.specs.Keys.{doc_cmp}
+use Rattle.disco_query.specs.declared.key.DocKey.{DocKey}
+use Rattle.disco_query.proofs.Orders.{docs_total, exact_docs}
 use Rattle.disco_rounds.specs.Stored.{key_in, mark}
 use Rattle.disco_rounds.proofs.keys.place.Goals as goal
 

@@ -1,6 +1,6 @@
 use Rattle.std.proofs.Common.{sym, ap, subst, ◌∙◌}
 use Rattle.disco_history.proofs.SortedBy.{inserted_at, inserted_gap}
-use Rattle.disco_cache.proofs.Orders.{docs_total, exact_docs}
+use Rattle.disco_query.proofs.Orders.{docs_total, exact_docs}
 use Rattle.disco_rounds.specs.Stored.{AreInOrder, key_in, mark, seen_keys}
 use Rattle.disco_rounds.proofs.keys.put.Goals as goal
 

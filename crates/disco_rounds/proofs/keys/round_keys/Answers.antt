@@ -1,6 +1,6 @@
 use Rattle.std.proofs.Common.{fold, map, sym, ap, ◌∙◌}
 use Rattle.std.specs.FinMap as finmap
-use Rattle.disco_cache.proofs.Orders.{docs_total, exact_docs}
+use Rattle.disco_query.proofs.Orders.{docs_total, exact_docs}
 use Rattle.disco_history.proofs.SortedBy.{keys_of}
 use Rattle.disco_rounds.specs.Rounds.{KeySet, add_within, kept_keys}
 use Rattle.disco_rounds.specs.Stored.{key_in, mark, pairs}

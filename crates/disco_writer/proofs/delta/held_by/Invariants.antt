@@ -1,6 +1,6 @@
 use Rattle.std.proofs.Common.{◌≡◌, ◌++◌, drop, map}
 use Rattle.disco_history.specs.Change.{seen}
-use Rattle.disco_writer.specs.Rows.{held_entries}
+use Rattle.disco_documents.specs.Rows.{held_entries}
 use Rattle.disco_writer.proofs.delta.held_by.Given as goal
 
 abbrev pub invariant-loop-change : goal.invariant-loop-change

@@ -10,8 +10,8 @@ use Rattle.disco_history.specs.Registry.{reg}
 use Rattle.disco_history.proofs.Sets.{values-reg}
 use Rattle.disco_index.specs.Tally.{rows_of}
 use Rattle.disco_queue.specs.Timed.{changes}
-use Rattle.disco_writer.specs.Rows.{held_entries}
-use Rattle.disco_writer.specs.declared.query.Query.TheVariants as query
+use Rattle.disco_documents.specs.Rows.{held_entries}
+use Rattle.disco_query.specs.declared.query.Query.TheVariants as query
 use Rattle.disco_writer.proofs.Written.{all_asked, all_there, some_written}
 use Rattle.disco_writer.proofs.delta.write_delta.Goals as goal
 

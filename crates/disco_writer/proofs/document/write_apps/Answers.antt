@@ -6,9 +6,9 @@ use Rattle.disco_history.specs.Hash.{hash}
 use Rattle.disco_history.specs.Query.{all}
 use Rattle.disco_history.proofs.Restrictions.{values-said_all}
 use Rattle.disco_index.specs.Tally.{rows_of}
-use Rattle.disco_writer.specs.Documents.{mentioned}
-use Rattle.disco_writer.specs.Rows.{held_entries, rows_in}
-use Rattle.disco_writer.specs.declared.query.Query.TheVariants as query
+use Rattle.disco_documents.specs.Documents.{mentioned}
+use Rattle.disco_documents.specs.Rows.{held_entries, rows_in}
+use Rattle.disco_query.specs.declared.query.Query.TheVariants as query
 use Rattle.disco_writer.proofs.Written.{all_there, code_is, some_written}
 use Rattle.disco_writer.proofs.document.write_apps.Goals as goal
 

@@ -1,6 +1,6 @@
 use Rattle.std.proofs.Common.{sym, subst, IsUtf8}
 use Rattle.disco_instance.specs.Row.{row}
-use Rattle.disco_writer.specs.Trees.{instance_tree}
+use Rattle.disco_documents.specs.Trees.{instance_tree}
 use Rattle.disco_writer.proofs.Adding.{text_written}
 use Rattle.disco_writer.proofs.instance.instance_text.Goals as goal
 

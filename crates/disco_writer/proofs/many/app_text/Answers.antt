@@ -1,7 +1,7 @@
 use Rattle.std.proofs.Common.{◌++◌, List, ℕ, ap, ◌∙◌, subst, IsUtf8}
 use Rattle.disco_wire.specs.Documents.{document_of}
 use Rattle.disco_writer.specs.Joined.{shown, app_joined}
-use Rattle.disco_writer.specs.Rows.{held_entries}
+use Rattle.disco_documents.specs.Rows.{held_entries}
 use Rattle.disco_writer.proofs.Joins.{app_holds}
 use Rattle.disco_writer.proofs.many.app_text.Goals as goal
 

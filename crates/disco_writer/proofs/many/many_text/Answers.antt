@@ -1,7 +1,7 @@
 use Rattle.std.proofs.Common.{◌++◌, List, ℕ, ap, ◌∙◌, subst, IsUtf8}
 use Rattle.disco_wire.specs.Documents.{document_of}
 use Rattle.disco_writer.specs.Joined.{shown, many_joined}
-use Rattle.disco_writer.specs.Rows.{held_entries}
+use Rattle.disco_documents.specs.Rows.{held_entries}
 use Rattle.disco_writer.proofs.Joins.{many_holds}
 use Rattle.disco_writer.proofs.many.many_text.Goals as goal
 

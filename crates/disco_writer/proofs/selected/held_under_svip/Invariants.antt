@@ -1,6 +1,6 @@
 use Rattle.std.proofs.Common.{◌≡◌, ◌++◌, drop, filter}
 use Rattle.disco_history.specs.Query.{asks_for, of_secure_vip}
-use Rattle.disco_writer.specs.Rows.{held_entries}
+use Rattle.disco_documents.specs.Rows.{held_entries}
 use Rattle.disco_writer.proofs.selected.held_under_svip.Given as goal
 
 abbrev pub invariant-loop-held : goal.invariant-loop-held

@@ -1,6 +1,6 @@
 use Rattle.std.proofs.Common.{◌≡◌, Option, Vec, Global, ℕ, option_map, subst, ap, ◌∙◌, arith}
 use Rattle.disco_queue.specs.Queue.{version}
-use Rattle.disco_writer.specs.Documents.{IsWritten}
+use Rattle.disco_documents.specs.Documents.{IsWritten}
 use Rattle.disco_core.specs.Past.{history}
 use Rattle.disco_core.specs.State.{State}
 use Rattle.disco_core.proofs.Loads.{delta_true, made}

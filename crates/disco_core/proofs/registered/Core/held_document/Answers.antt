@@ -1,5 +1,5 @@
 use Rattle.std.proofs.Common.{length, Option, Vec, Global, ℕ, option_map, subst, ap, ◌∙◌}
-use Rattle.disco_writer.specs.Documents.{IsWritten}
+use Rattle.disco_documents.specs.Documents.{IsWritten}
 use Rattle.disco_core.specs.State.{State}
 use Rattle.disco_core.proofs.Loads.{held_true, made}
 use Rattle.disco_core.proofs.registered.Core.held_document.Goals as goal

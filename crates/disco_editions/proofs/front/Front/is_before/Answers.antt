@@ -1,6 +1,6 @@
 use Rattle.std.proofs.Common.{List, subst}
 use mathlib.Core.List.{IsPrefix}
-use Rattle.disco_hub.specs.Press.{Note}
+use Rattle.disco_rounds.specs.Press.{Note}
 use Rattle.disco_editions.proofs.Publications.{begins_too}
 use Rattle.disco_editions.proofs.front.Front.is_before.Goals as goal
 

@@ -1,7 +1,7 @@
 use Rattle.std.proofs.Common.{List, ◌∙◌, ap, subst}
 use mathlib.Core.List.{IsPrefix}
 use Rattle.scroll.specs.declared.Scroll.{Scroll}
-use Rattle.disco_hub.specs.Press.{Note}
+use Rattle.disco_rounds.specs.Press.{Note}
 use Rattle.disco_editions.specs.Rolls.{Rolled, rolled}
 use Rattle.disco_editions.specs.declared.mark.Mark.{Mark}
 use Rattle.disco_editions.proofs.Publications.{begins_too}

@@ -1,7 +1,7 @@
 use Rattle.std.proofs.Common.{List, subst}
 use base.Growing.{prefix_refl}
 use mathlib.Core.List.{IsPrefix}
-use Rattle.disco_hub.specs.Press.{Note}
+use Rattle.disco_rounds.specs.Press.{Note}
 use Rattle.disco_editions.proofs.window.Window.look.Goals as goal
 
 pub returns-then-not-is_before-clause-known : goal.returns-then-not-is_before-clause-known

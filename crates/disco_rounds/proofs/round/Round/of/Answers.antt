@@ -1,7 +1,7 @@
 use Rattle.std.proofs.Common.{List, sym, ap, subst, ◌∙◌, ◌≡◌, arith}
 use Rattle.std.specs.FinMap.{empty, len, len-empty}
-use Rattle.disco_cache.specs.Keys.{doc_cmp}
-use Rattle.disco_cache.specs.declared.key.DocKey.{DocKey}
+use Rattle.disco_query.specs.Keys.{doc_cmp}
+use Rattle.disco_query.specs.declared.key.DocKey.{DocKey}
 use Rattle.disco_rounds.specs.Rounds.{KeySet, kept_keys}
 use Rattle.disco_rounds.specs.Stored.{AreNew, pairs}
 use Rattle.disco_rounds.proofs.round.Round.of.Goals as goal

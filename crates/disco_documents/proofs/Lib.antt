@@ -1,0 +1,4 @@
+mod Again
+pub mod Back
+pub mod Documents
+pub mod Texts

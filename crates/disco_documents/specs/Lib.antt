@@ -1,0 +1,4 @@
+pub mod Documents
+pub mod Laws
+pub mod Rows
+pub mod Trees
