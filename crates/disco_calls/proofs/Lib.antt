@@ -1,2 +1,1 @@
-mod Spelling
 mod Finding

@@ -1,26 +1,27 @@
 -- What a request asks for, or why it is refused (Eureka's REST operations; the order of refusals is this project's own rule).
 use Rattle.std.specs.Prelude.{ℕ, List, Option, Some, None, Result, Ok, Err, if◌then◌else◌}
 use Rattle.std.specs.Str.{is_utf8}
-use Rattle.disco_cache.specs.declared.key.DocKey.{DocKey}
+use Rattle.disco_query.specs.declared.key.DocKey.{DocKey}
 use Rattle.disco_values.specs.Text.{in_upper_case}
 use Rattle.disco_values.specs.declared.fault.Fault.{Fault}
-use Rattle.disco_values.specs.declared.fault.Fault.TheVariants.{BadMethod, BadRequest, NotAcceptable, NotFound}
+use Rattle.disco_values.specs.declared.fault.Fault.TheVariants.{BadMethod, BadRequest, BadStatus, NotAcceptable, NotFound}
 use Rattle.disco_values.specs.declared.form.Form.{Form}
 use Rattle.disco_values.specs.declared.key.Key.{Key}
 use Rattle.disco_message.specs.Asked.{Asked}
 use Rattle.disco_message.specs.declared.status_line.Allow.{Allow}
-use Rattle.disco_registry.specs.Op.{Ask, ask_of, cancel, renew, drop_status, add_metadata}
+use Rattle.disco_registry.specs.Op.{Ask, ask_of, cancel, renew, set_status, drop_status, add_metadata}
 use Rattle.disco_routes.specs.Paths.{place_at}
 use Rattle.disco_routes.specs.declared.place.Place.{Place}
 use Rattle.disco_routes.specs.declared.place.Place.TheVariants as place
 use Rattle.disco_wire.specs.Registration.{registration_of}
-use Rattle.disco_writer.specs.declared.query.Query.{Query}
-use Rattle.disco_writer.specs.declared.query.Query.TheVariants as query
+use Rattle.disco_query.specs.declared.query.Query.{Query}
+use Rattle.disco_query.specs.declared.query.Query.TheVariants as query
 use Rattle.disco_calls.specs.Accept.{form_of, takes_json}
 use Rattle.disco_calls.specs.Decoding.{decoded}
 use Rattle.disco_calls.specs.Methods.{allow_of, lists, method_of}
-use Rattle.disco_calls.specs.Operations.{key_named, registers, sets}
-use Rattle.disco_calls.specs.Query.{entries_of_query, path_in, query_in, value_of}
+use Rattle.disco_calls.specs.Query.{path_in, query_in}
+use Rattle.disco_operations.specs.Operations.{key_named, registers}
+use Rattle.disco_operations.specs.Query.{entries_of_query, value_of}
 use Rattle.disco_calls.specs.declared.call.Call.{Call}
 use Rattle.disco_calls.specs.declared.call.Call.TheVariants as calls
 use Rattle.disco_calls.specs.declared.method.Method.{Method}
@@ -64,6 +65,11 @@ call_of_get place a = if takes_json a.fields then read_of place (form_of a.field
 abbrev pub post_of : Place (List ℕ) → List ℕ → Result Ask Fault
 post_of (place.App app) body = registers app (registration_of body)
 post_of _ body = Err BadMethod
+
+-- a change of status to the value of a query: one that isn't given is no status
+abbrev pub sets : Key → Option (List ℕ) → Result Ask Fault
+sets key None = Err BadStatus
+sets key (Some value) = Ok (set_status key value)
 
 -- PUT, with a query
 abbrev pub put_of : Place (List ℕ) → List ℕ → Result Ask Fault

@@ -2,5 +2,4 @@ pub mod Methods
 pub mod Decoding
 pub mod Query
 pub mod Accept
-pub mod Operations
 pub mod Calls

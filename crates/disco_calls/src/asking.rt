@@ -1,22 +1,23 @@
 //! From a request to what it asks for.
-ghost use Rattle.std.specs.Prelude.{◌≡◌};
 ghost use Rattle.disco_instance.specs.Instance.{Gives};
 ghost use Rattle.disco_registry.specs.Op.{ask_of};
 ghost use Rattle.disco_routes.specs.Places.{shown};
-ghost use Rattle.disco_calls.specs.Calls.{call, call_by, call_of_get, called, called_in, delete_of, post_of, put_of, read_of, seen};
+ghost use Rattle.disco_calls.specs.Calls.{call, call_by, call_of_get, called, delete_of, post_of, put_of, read_of, seen};
 
 use crate::accept::{form_of, takes_json};
 use crate::call::Call;
 use crate::decoding::decoded;
 use crate::method::{Method, allow_of, lists, method_of};
-use crate::operations::{add_metadata, drop_status, key_named, register, set_status};
 use crate::query::split_target;
-use disco_cache::DocKey;
-use disco_instance::{Fault, Form, Text, upper};
 use disco_message::Request;
+use disco_operations::{
+    add_metadata, cancel, drop_status, entries_of_query, key_named, register, renew, set_status,
+    value_of,
+};
+use disco_query::{DocKey, Query};
 use disco_registry::Op;
 use disco_routes::{Place, Routes};
-use disco_writer::Query;
+use disco_values::{Fault, Form, Text, upper};
 use std::alloc::Global;
 use std::str;
 
@@ -64,9 +65,14 @@ fn put_of(alloc: Global, place: Place<Text>, query: &[u8]) -> Result<Op, Fault>
     ensures { Gives ask_of result (put_of place query.now) }
 {
     match place {
-        Place::Instance { app, id } => Ok(Op::Renew(key_named(alloc, &app, id)?)),
-        Place::Status { app, id } => set_status(alloc, &app, id, query),
-        Place::Metadata { app, id } => add_metadata(alloc, &app, id, query),
+        Place::Instance { app, id } => renew(alloc, &app, id),
+        Place::Status { app, id } => match value_of(alloc, query)? {
+            Some(status) => set_status(alloc, &app, id, status),
+            None => Err(Fault::BadStatus),
+        },
+        Place::Metadata { app, id } => {
+            add_metadata(alloc, &app, id, entries_of_query(alloc, query)?)
+        }
         _ => Err(Fault::BadMethod),
     }
 }
@@ -76,8 +82,8 @@ fn delete_of(alloc: Global, place: Place<Text>, query: &[u8]) -> Result<Op, Faul
     ensures { Gives ask_of result (delete_of place query.now) }
 {
     match place {
-        Place::Instance { app, id } => Ok(Op::Cancel(key_named(alloc, &app, id)?)),
-        Place::Status { app, id } => drop_status(alloc, &app, id, query),
+        Place::Instance { app, id } => cancel(alloc, &app, id),
+        Place::Status { app, id } => drop_status(alloc, &app, id, value_of(alloc, query)?),
         _ => Err(Fault::BadMethod),
     }
 }

@@ -1,9 +1,9 @@
 //! What a request asks for.
 
-use disco_cache::DocKey;
-use disco_instance::{Form, Key, Text};
 use disco_message::Allow;
+use disco_query::DocKey;
 use disco_registry::Op;
+use disco_values::{Form, Key, Text};
 
 /// What a request asks for.
 #[derive(Debug, Drop)]

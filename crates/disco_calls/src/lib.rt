@@ -7,7 +7,6 @@ mod asking;
 mod call;
 mod decoding;
 mod method;
-mod operations;
 mod query;
 
 pub use asking::call_of;

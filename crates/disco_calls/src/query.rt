@@ -1,12 +1,7 @@
 //! The query of a request's target.
-ghost use Rattle.std.specs.Prelude.{◌≡◌, IfOk, IfErr};
-ghost use Rattle.std.specs.List.{after_first, before_first, position};
-ghost use Rattle.disco_values.specs.declared.fault.Fault.TheVariants.{OutOfMemory};
-ghost use Rattle.disco_calls.specs.Query.{entries_of_query, is_question, pairs_of, path_in, query_in, text_of, value_of};
-
-use disco_instance::{Entries, Fault, Text};
-use form_urlencoded::{decode, raw_pairs};
-use std::alloc::{AllocError, Global};
+ghost use Rattle.std.specs.Prelude.{◌≡◌};
+ghost use Rattle.std.specs.List.{position};
+ghost use Rattle.disco_calls.specs.Query.{is_question, path_in, query_in};
 
 fn first_question(target: &[u8]) -> Option<usize>
     ensures { result ≡ position is_question target.now }
@@ -23,44 +18,4 @@ pub(crate) fn split_target(target: &[u8]) -> (&[u8], &[u8])
         Some(at) => (&target[..at], &target[at + 1..]),
         None => (target, &[]),
     }
-}
-
-fn text(alloc: Global, encoded: &[u8]) -> Result<Text, AllocError>
-    ensures { IfOk result (λ t. t ≡ text_of encoded.now) }
-{
-    let decoded = decode(alloc, encoded)?;
-    Text::new(alloc, decoded.as_str())
-}
-
-fn pairs(alloc: Global, query: &[u8]) -> Result<Vec<(Text, Text)>, AllocError>
-    ensures { IfOk result (λ v. v.items ≡ pairs_of query.now) }
-{
-    let mut pairs = Vec::new(alloc);
-    for (name, value) in raw_pairs(query) {
-        pairs.push((text(alloc, name)?, text(alloc, value)?))?;
-    }
-    Ok(pairs)
-}
-
-/// The entries that a query names, as an HTML form encodes them (the URL Standard's
-/// `application/x-www-form-urlencoded`): of equal names the first counts, and one named `@class` is
-/// dropped. Refused only as `OutOfMemory`.
-pub(crate) fn entries_of_query(alloc: Global, query: &[u8]) -> Result<Entries, Fault>
-    ensures value { IfOk result (λ e. e ≡ entries_of_query query.now) }
-    ensures memory { IfErr result (λ e. e ≡ OutOfMemory) }
-{
-    Entries::from_pairs(alloc, pairs(alloc, query)?)
-}
-
-/// What a query gives for `value`, first of all, where it does. Refused only as `OutOfMemory`.
-pub(crate) fn value_of(alloc: Global, query: &[u8]) -> Result<Option<Text>, Fault>
-    ensures value { IfOk result (λ found. found ≡ value_of query.now) }
-    ensures memory { IfErr result (λ e. e ≡ OutOfMemory) }
-{
-    for (name, value) in raw_pairs(query) {
-        if decode(alloc, name)?.as_str() == "value" {
-            return Ok(Some(text(alloc, value)?));
-        }
-    }
-    Ok(None)
 }

@@ -1,3 +1,2 @@
 mod Feeds
-mod Spelling
 mod Split

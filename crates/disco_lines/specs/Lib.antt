@@ -1,7 +1,6 @@
 pub mod Words
 pub mod Lines
 pub mod Loads
-pub mod Query
 pub mod Input
 pub mod Answers
 pub mod Steps

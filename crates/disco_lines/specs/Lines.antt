@@ -8,12 +8,13 @@ use Rattle.disco_values.specs.declared.fault.Fault.TheVariants.{BadEvent}
 use Rattle.disco_world.specs.declared.event.Event.{Event}
 use Rattle.disco_world.specs.declared.event.Event.TheVariants.{Register, Cancel, Renew, SetStatus, DropStatus, Metadata, Clean, Minute, Expire, Begin, Copy, Publish, Take, Show}
 use Rattle.disco_lines.specs.Loads.{load_of, look_for, wanted}
-use Rattle.disco_lines.specs.Query.{entries_of_query}
-use Rattle.disco_lines.specs.Words.{words, joined, text_of_word, moment_of_word, client_of_word}
+use Rattle.disco_operations.specs.Query.{entries_of_query}
+use Rattle.disco_lines.specs.Words.{words, joined, only, only_text, only_moment, moment_of_word, client_of_word}
+use Rattle.disco_operations.specs.Decoding.{decoded_text}
 
 -- `NOW APP JSON`: the JSON is the rest of the line as it stands
 abbrev pub registration : List (List ℕ) → Option Event
-registration (now ∷ app ∷ json ∷ more) = option_and_then (λ n. option_map (λ a. Register n a (joined (json ∷ more))) (text_of_word app)) (moment_of_word now)
+registration (now ∷ app ∷ json ∷ more) = option_and_then (λ n. option_map (λ a. Register n a (joined (json ∷ more))) (decoded_text app)) (moment_of_word now)
 registration _ = None
 
 -- an event behind which no word stands
@@ -23,14 +24,12 @@ alone event _ = None
 
 -- `NOW APP ID STATUS`
 abbrev pub status_change : ℕ → List ℕ → List ℕ → List (List ℕ) → Option Event
-status_change now app id (status ∷ []) = option_map (λ s. SetStatus now app id s) (text_of_word status)
-status_change now app id _ = None
+status_change now app id more = option_map (λ s. SetStatus now app id s) (only_text more)
 
 -- `NOW APP ID`, and a status where one is given
 abbrev pub override_removal : ℕ → List ℕ → List ℕ → List (List ℕ) → Option Event
 override_removal now app id [] = Some (DropStatus now app id None)
-override_removal now app id (status ∷ []) = option_map (λ s. DropStatus now app id (Some s)) (text_of_word status)
-override_removal now app id _ = None
+override_removal now app id more = option_map (λ s. DropStatus now app id (Some s)) (only_text more)
 
 -- `NOW APP ID`, and the query, which is the rest of the line as it stands
 abbrev pub metadata_change : ℕ → List ℕ → List ℕ → List (List ℕ) → Option Event
@@ -47,28 +46,25 @@ event_at keyword now app id more =
 
 -- `NOW APP ID` behind a keyword, and more words
 abbrev pub event_of_instance : List ℕ → List (List ℕ) → Option Event
-event_of_instance keyword (now ∷ app ∷ id ∷ more) = option_and_then (λ n. option_and_then (λ a. option_and_then (λ i. event_at keyword n a i more) (text_of_word id)) (text_of_word app)) (moment_of_word now)
+event_of_instance keyword (now ∷ app ∷ id ∷ more) = option_and_then (λ n. option_and_then (λ a. option_and_then (λ i. event_at keyword n a i more) (decoded_text id)) (decoded_text app)) (moment_of_word now)
 event_of_instance keyword _ = None
 
 -- `NOW`
 abbrev pub cleaning : List (List ℕ) → Option Event
-cleaning (now ∷ []) = option_map (λ n. Clean n) (moment_of_word now)
-cleaning _ = None
+cleaning more = option_map (λ n. Clean n) (only_moment more)
 
 -- `NOW`
 abbrev pub expiring : List (List ℕ) → Option Event
-expiring (now ∷ []) = option_map (λ n. Expire n) (moment_of_word now)
-expiring _ = None
+expiring more = option_map (λ n. Expire n) (only_moment more)
 
 -- `CLIENT EVENT`
 abbrev pub taking : List (List ℕ) → Option Event
-taking (client ∷ event ∷ []) = option_and_then (λ c. option_map (λ e. Take c e) (moment_of_word event)) (client_of_word client)
-taking _ = None
+taking (client ∷ more) = option_and_then (λ c. option_map (λ e. Take c e) (only_moment more)) (client_of_word client)
+taking [] = None
 
 -- `CLIENT`
 abbrev pub showing : List (List ℕ) → Option Event
-showing (client ∷ []) = option_map (λ c. Show c) (client_of_word client)
-showing _ = None
+showing more = option_map (λ c. Show c) (option_and_then client_of_word (only more))
 
 -- what a keyword and the words behind it mean
 abbrev pub event_named : List ℕ → List (List ℕ) → Option Event
@@ -87,7 +83,7 @@ event_named keyword more =
 
 -- what the words of a line mean
 abbrev pub event_of_words : List (List ℕ) → Option Event
-event_of_words (keyword ∷ more) = option_and_then (λ k. event_named k more) (text_of_word keyword)
+event_of_words (keyword ∷ more) = option_and_then (λ k. event_named k more) (decoded_text keyword)
 event_of_words [] = None
 
 -- what a line means, if it means an event

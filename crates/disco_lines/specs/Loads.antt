@@ -3,11 +3,11 @@ use Rattle.std.specs.Prelude.{ℕ, List, [], ◌∷◌, Option, Some, None, if�
 use Rattle.std.specs.Str.{bytes_eq}
 use Rattle.disco_values.specs.declared.form.Form.{Form}
 use Rattle.disco_values.specs.declared.form.Form.TheVariants.{Full, Compact}
-use Rattle.disco_writer.specs.declared.query.Query.{Query}
-use Rattle.disco_writer.specs.declared.query.Query.TheVariants.{Apps, Delta, App, Vip, Svip, Instance}
+use Rattle.disco_query.specs.declared.query.Query.{Query}
+use Rattle.disco_query.specs.declared.query.Query.TheVariants.{Apps, Delta, App, Vip, Svip, Instance}
 use Rattle.disco_world.specs.declared.event.Event.{Event}
 use Rattle.disco_world.specs.declared.event.Event.TheVariants.{Load, LoadById, Look, LookById}
-use Rattle.disco_lines.specs.Words.{text_of_word}
+use Rattle.disco_operations.specs.Decoding.{decoded_text}
 use Rattle.disco_lines.specs.declared.load.Wanted.{Wanted}
 use Rattle.disco_lines.specs.declared.load.Wanted.TheVariants.{ByKey, ById}
 
@@ -38,13 +38,13 @@ instance form kind app id = if bytes_eq kind (codes "one") then Some (wanted_by 
 -- what a kind of query and the words behind it ask for
 abbrev pub wanted_of_kind : Form → List ℕ → List (List ℕ) → Option Wanted
 wanted_of_kind form kind [] = whole form kind
-wanted_of_kind form kind (word ∷ []) = option_and_then (named form kind) (text_of_word word)
-wanted_of_kind form kind (app ∷ id ∷ []) = option_and_then (λ a. option_and_then (instance form kind a) (text_of_word id)) (text_of_word app)
+wanted_of_kind form kind (word ∷ []) = option_and_then (named form kind) (decoded_text word)
+wanted_of_kind form kind (app ∷ id ∷ []) = option_and_then (λ a. option_and_then (instance form kind a) (decoded_text id)) (decoded_text app)
 wanted_of_kind form kind _ = None
 
 -- `FORM QUERY`
 abbrev pub wanted : List (List ℕ) → Option Wanted
-wanted (form ∷ kind ∷ more) = option_and_then (λ f. option_and_then (λ k. wanted_of_kind f k more) (text_of_word kind)) (option_and_then form_named (text_of_word form))
+wanted (form ∷ kind ∷ more) = option_and_then (λ f. option_and_then (λ k. wanted_of_kind f k more) (decoded_text kind)) (option_and_then form_named (decoded_text form))
 wanted _ = None
 
 -- the load of what is asked for

@@ -8,8 +8,12 @@ ghost use Rattle.std.specs.List.{flat_map};
 ghost use Rattle.disco_world.specs.declared.event.Reply.TheVariants as reply;
 ghost use Rattle.disco_world.specs.declared.event.Reply.TheVariants.{Taken, Held};
 
-use disco_instance::Fault;
-use disco_world::{Copied, Expired, Holding, Minute, Payload, Reply};
+use disco_cache::Payload;
+use disco_hub::Expired;
+use disco_lease::Minute;
+use disco_rounds::Copied;
+use disco_values::Fault;
+use disco_world::{Holding, Reply};
 use std::alloc::Global;
 use std::io;
 use std::io::{ErrorKind, Write};

@@ -7,7 +7,6 @@ mod answers;
 mod line;
 mod lines;
 mod load;
-mod query;
 mod telling;
 mod words;
 

@@ -1,13 +1,14 @@
 //! The event that a line means. `None` stands for a line that can't be read.
 ghost use Rattle.std.specs.Prelude.{◌≡◌, IfOk, IfErr, Some};
 ghost use Rattle.disco_values.specs.declared.fault.Fault.TheVariants.{OutOfMemory};
-ghost use Rattle.disco_lines.specs.Lines.{alone, cleaning, event_at, event_named, event_of, event_of_instance, expiring, metadata_change, override_removal, registration, showing, status_change, taking};
-ghost use Rattle.disco_lines.specs.Words.{client_of_word, moment_of_word};
+ghost use Rattle.disco_lines.specs.Lines.{alone, event_at, event_named, event_of, event_of_instance, metadata_change, override_removal, registration, showing, taking};
+ghost use Rattle.disco_lines.specs.Words.{client_of_word, moment_of_word, only_moment, only_text};
 
 use crate::load::{load_of, look_for, wanted_of};
-use crate::query::entries_of_query;
-use crate::words::{Words, decoded, text_of_word};
-use disco_instance::{Bytes, Fault, Text, number_of_digits};
+use crate::words::Words;
+use disco_digits::number_of_digits;
+use disco_operations::{decoded, decoded_text, entries_of_query};
+use disco_values::{Bytes, Fault, Text};
 use disco_world::Event;
 use std::alloc::Global;
 
@@ -51,9 +52,9 @@ fn event_named(alloc: Global, keyword: &str, words: Words) -> Result<Option<Even
 {
     match keyword {
         "register" => register_of(alloc, words),
-        "clean" => clean_of(alloc, words),
+        "clean" => Ok(only_moment(alloc, words)?.map(|now| Event::Clean { now })),
         "minute" => Ok(alone(Event::Minute, &words)),
-        "expire" => expire_of(alloc, words),
+        "expire" => Ok(only_moment(alloc, words)?.map(|now| Event::Expire { now })),
         "begin" => Ok(alone(Event::Begin, &words)),
         "copy" => Ok(alone(Event::Copy, &words)),
         "publish" => Ok(alone(Event::Publish, &words)),
@@ -85,6 +86,28 @@ fn moment_of_word(alloc: Global, word: &[u8]) -> Result<Option<u64>, Fault>
     }
 }
 
+/// What the one word that is left spells, `None` where none is, more are, or it spells no text.
+fn only_text(alloc: Global, words: Words) -> Result<Option<Text>, Fault>
+    ensures value { IfOk result (λ found. found ≡ only_text words.entry) }
+    ensures memory { IfErr result (λ e. e ≡ OutOfMemory) }
+{
+    match words.only() {
+        Some(word) => decoded_text(alloc, word),
+        None => Ok(None),
+    }
+}
+
+/// The moment that the one word which is left names.
+fn only_moment(alloc: Global, words: Words) -> Result<Option<u64>, Fault>
+    ensures value { IfOk result (λ found. found ≡ only_moment words.entry) }
+    ensures memory { IfErr result (λ e. e ≡ OutOfMemory) }
+{
+    match words.only() {
+        Some(word) => moment_of_word(alloc, word),
+        None => Ok(None),
+    }
+}
+
 fn register_of(alloc: Global, words: Words) -> Result<Option<Event>, Fault>
     ensures value { IfOk result (λ found. found ≡ registration words.entry) }
     ensures memory { IfErr result (λ e. e ≡ OutOfMemory) }
@@ -102,7 +125,7 @@ fn register_of(alloc: Global, words: Words) -> Result<Option<Event>, Fault>
     let Some(now) = moment_of_word(alloc, now)? else {
         return Ok(None);
     };
-    let Some(app) = text_of_word(alloc, app)? else {
+    let Some(app) = decoded_text(alloc, app)? else {
         return Ok(None);
     };
     let json = Bytes::from_vec(json.to_vec(alloc)?);
@@ -126,10 +149,10 @@ fn event_of_instance(alloc: Global, keyword: &str, words: Words) -> Result<Optio
     let Some(now) = moment_of_word(alloc, now)? else {
         return Ok(None);
     };
-    let Some(app) = text_of_word(alloc, app)? else {
+    let Some(app) = decoded_text(alloc, app)? else {
         return Ok(None);
     };
-    let Some(id) = text_of_word(alloc, id)? else {
+    let Some(id) = decoded_text(alloc, id)? else {
         return Ok(None);
     };
     event_at(alloc, keyword, now, app, id, words)
@@ -150,37 +173,18 @@ fn event_at(
     match keyword {
         "cancel" => Ok(alone(Event::Cancel { now, app, id }, &words)),
         "renew" => Ok(alone(Event::Renew { now, app, id }, &words)),
-        "status" => status_of(alloc, now, app, id, words),
+        "status" => match only_text(alloc, words)? {
+            Some(status) => Ok(Some(Event::SetStatus {
+                now,
+                app,
+                id,
+                status,
+            })),
+            None => Ok(None),
+        },
         "unstatus" => unstatus_of(alloc, now, app, id, words),
         "metadata" => metadata_of(alloc, now, app, id, words),
         _ => Ok(None),
-    }
-}
-
-fn status_of(
-    alloc: Global,
-    now: u64,
-    app: Text,
-    id: Text,
-    words: Words,
-) -> Result<Option<Event>, Fault>
-    ensures value { IfOk result (λ found. found ≡ status_change now app id words.entry) }
-    ensures memory { IfErr result (λ e. e ≡ OutOfMemory) }
-{
-    let Some((status, words)) = words.split() else {
-        return Ok(None);
-    };
-    if words.split().is_some() {
-        return Ok(None);
-    }
-    match text_of_word(alloc, status)? {
-        Some(status) => Ok(Some(Event::SetStatus {
-            now,
-            app,
-            id,
-            status,
-        })),
-        None => Ok(None),
     }
 }
 
@@ -194,7 +198,8 @@ fn unstatus_of(
     ensures value { IfOk result (λ found. found ≡ override_removal now app id words.entry) }
     ensures memory { IfErr result (λ e. e ≡ OutOfMemory) }
 {
-    let Some((status, words)) = words.split() else {
+    let without_status = words.is_empty();
+    if without_status {
         let status = None;
         return Ok(Some(Event::DropStatus {
             now,
@@ -202,11 +207,8 @@ fn unstatus_of(
             id,
             status,
         }));
-    };
-    if words.split().is_some() {
-        return Ok(None);
     }
-    match text_of_word(alloc, status)? {
+    match only_text(alloc, words)? {
         Some(status) => Ok(Some(Event::DropStatus {
             now,
             app,
@@ -236,38 +238,6 @@ fn metadata_of(
     }))
 }
 
-fn clean_of(alloc: Global, words: Words) -> Result<Option<Event>, Fault>
-    ensures value { IfOk result (λ found. found ≡ cleaning words.entry) }
-    ensures memory { IfErr result (λ e. e ≡ OutOfMemory) }
-{
-    let Some((now, words)) = words.split() else {
-        return Ok(None);
-    };
-    if words.split().is_some() {
-        return Ok(None);
-    }
-    match moment_of_word(alloc, now)? {
-        Some(now) => Ok(Some(Event::Clean { now })),
-        None => Ok(None),
-    }
-}
-
-fn expire_of(alloc: Global, words: Words) -> Result<Option<Event>, Fault>
-    ensures value { IfOk result (λ found. found ≡ expiring words.entry) }
-    ensures memory { IfErr result (λ e. e ≡ OutOfMemory) }
-{
-    let Some((now, words)) = words.split() else {
-        return Ok(None);
-    };
-    if words.split().is_some() {
-        return Ok(None);
-    }
-    match moment_of_word(alloc, now)? {
-        Some(now) => Ok(Some(Event::Expire { now })),
-        None => Ok(None),
-    }
-}
-
 /// The number of a client.
 fn client_of_word(alloc: Global, word: &[u8]) -> Result<Option<u32>, Fault>
     ensures value { IfOk result (λ found. found ≡ client_of_word word.now) }
@@ -286,16 +256,10 @@ fn take_of(alloc: Global, words: Words) -> Result<Option<Event>, Fault>
     let Some((client, words)) = words.split() else {
         return Ok(None);
     };
-    let Some((event, words)) = words.split() else {
-        return Ok(None);
-    };
-    if words.split().is_some() {
-        return Ok(None);
-    }
     let Some(client) = client_of_word(alloc, client)? else {
         return Ok(None);
     };
-    match moment_of_word(alloc, event)? {
+    match only_moment(alloc, words)? {
         Some(event) => Ok(Some(Event::Take { client, event })),
         None => Ok(None),
     }
@@ -305,14 +269,8 @@ fn show_of(alloc: Global, words: Words) -> Result<Option<Event>, Fault>
     ensures value { IfOk result (λ found. found ≡ showing words.entry) }
     ensures memory { IfErr result (λ e. e ≡ OutOfMemory) }
 {
-    let Some((client, words)) = words.split() else {
-        return Ok(None);
-    };
-    if words.split().is_some() {
-        return Ok(None);
-    }
-    match client_of_word(alloc, client)? {
-        Some(client) => Ok(Some(Event::Show { client })),
+    match words.only() {
+        Some(client) => Ok(client_of_word(alloc, client)?.map(|client| Event::Show { client })),
         None => Ok(None),
     }
 }

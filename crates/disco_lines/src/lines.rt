@@ -8,7 +8,7 @@ ghost use Rattle.disco_lines.specs.Lines.{IsFirstBadLine, is_feed, meanings};
 ghost use Rattle.disco_lines.specs.Input.{AreRead, NamesBadLine, read_fault};
 
 use crate::line::event_of;
-use disco_instance::Fault;
+use disco_values::Fault;
 use disco_world::Event;
 use std::alloc::Global;
 use std::io;

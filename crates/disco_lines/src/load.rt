@@ -2,11 +2,13 @@
 ghost use Rattle.std.specs.Prelude.{◌≡◌, IfOk, IfErr, option_and_then};
 ghost use Rattle.disco_values.specs.declared.fault.Fault.TheVariants.{OutOfMemory};
 ghost use Rattle.disco_lines.specs.Loads.{form_named, instance, load_of, look_for, named, wanted, wanted_by, wanted_of_kind, whole};
-ghost use Rattle.disco_lines.specs.Words.{text_of_word};
+ghost use Rattle.disco_operations.specs.Decoding.{decoded_text};
 
-use crate::words::{Words, decoded, text_of_word};
-use disco_instance::{Fault, Form, Key, Text};
-use disco_world::{DocKey, Event, Query};
+use crate::words::Words;
+use disco_operations::{decoded, decoded_text};
+use disco_query::{DocKey, Query};
+use disco_values::{Fault, Form, Key, Text};
+use disco_world::Event;
 use std::alloc::Global;
 
 /// The document that a reader asks for.
@@ -29,7 +31,7 @@ fn form_named(name: &str) -> Option<Form>
 }
 
 fn form_of_word(alloc: Global, word: &[u8]) -> Result<Option<Form>, Fault>
-    ensures value { IfOk result (λ found. found ≡ option_and_then form_named (text_of_word word.now)) }
+    ensures value { IfOk result (λ found. found ≡ option_and_then form_named (decoded_text word.now)) }
     ensures memory { IfErr result (λ e. e ≡ OutOfMemory) }
 {
     match decoded(alloc, word)? {
@@ -91,7 +93,7 @@ fn wanted_of_kind(
         return Ok(whole(form, kind));
     };
     let second = words.split();
-    let Some(first) = text_of_word(alloc, first)? else {
+    let Some(first) = decoded_text(alloc, first)? else {
         return Ok(None);
     };
     let Some((second, words)) = second else {
@@ -100,7 +102,7 @@ fn wanted_of_kind(
     if words.split().is_some() {
         return Ok(None);
     }
-    match text_of_word(alloc, second)? {
+    match decoded_text(alloc, second)? {
         Some(second) => Ok(instance(form, kind, first, second)),
         None => Ok(None),
     }

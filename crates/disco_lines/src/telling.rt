@@ -1,6 +1,6 @@
 //! Answer lines of a run, written as its replies come.
 ghost use Rattle.std.specs.Prelude.{◌≡◌, ◌⊎◌, IfErr, OnOk, false};
-ghost use Rattle.std.specs.Io.KnownBytes.{Appends, append_known};
+ghost use Rattle.std.specs.Io.KnownBytes.{append_known};
 ghost use Rattle.std.specs.List.{list_any};
 ghost use Rattle.disco_values.specs.declared.fault.Fault.TheVariants.{OutOfMemory, WriteFailed};
 ghost use Rattle.disco_core.specs.State.{rules};
@@ -8,8 +8,9 @@ ghost use Rattle.disco_lines.specs.Answers.{answer_line};
 ghost use Rattle.disco_world.specs.Telling.{AreTold, is_take};
 
 use crate::answers::{ROOM, gather_answer, write_fault, write_last};
-use disco_instance::Fault;
-use disco_world::{Event, Reply, Settings, Tell, run_to};
+use disco_settings::Settings;
+use disco_values::Fault;
+use disco_world::{Event, Reply, Tell, run_to};
 use std::alloc::Global;
 use std::io::Write;
 

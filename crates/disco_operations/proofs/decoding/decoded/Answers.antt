@@ -1,6 +1,6 @@
 use Rattle.std.proofs.Common.{rules, sym, ◌∙◌}
-use Rattle.disco_lines.proofs.Spelling.{plainly, spelled, misspelled}
-use Rattle.disco_lines.proofs.words.decoded.Goals as goal
+use Rattle.disco_operations.proofs.Spelling.{plainly, spelled, misspelled}
+use Rattle.disco_operations.proofs.decoding.decoded.Goals as goal
 
 pub returns-then-not-contains-clause-text : goal.returns-then-not-contains-clause-text
 returns-then-not-contains-clause-text c = c.plain.ensures ∙ plainly _ (sym c.contains.ensures.value ∙ c.if-not-contains.true)

@@ -1,9 +1,9 @@
-//! The query of a change of metadata.
+//! The names and values of a query.
 ghost use Rattle.std.specs.Prelude.{◌≡◌, IfOk, IfErr};
 ghost use Rattle.disco_values.specs.declared.fault.Fault.TheVariants.{OutOfMemory};
-ghost use Rattle.disco_lines.specs.Query.{entries_of_query, pairs_of, text_of};
+ghost use Rattle.disco_operations.specs.Query.{entries_of_query, pairs_of, text_of, value_of};
 
-use disco_instance::{Entries, Fault, Text};
+use disco_values::{Entries, Fault, Text};
 use form_urlencoded::{decode, raw_pairs};
 use std::alloc::{AllocError, Global};
 
@@ -27,9 +27,22 @@ fn pairs(alloc: Global, query: &[u8]) -> Result<Vec<(Text, Text)>, AllocError>
 /// The entries that a query names, as an HTML form encodes them (the URL Standard's
 /// `application/x-www-form-urlencoded`): of equal names the first counts, and one named `@class` is
 /// dropped. Bytes that aren't UTF-8 become U+FFFD. Refused only as `OutOfMemory`.
-pub(crate) fn entries_of_query(alloc: Global, query: &[u8]) -> Result<Entries, Fault>
+pub fn entries_of_query(alloc: Global, query: &[u8]) -> Result<Entries, Fault>
     ensures value { IfOk result (λ e. e ≡ entries_of_query query.now) }
     ensures memory { IfErr result (λ e. e ≡ OutOfMemory) }
 {
     Entries::from_pairs(alloc, pairs(alloc, query)?)
+}
+
+/// What a query gives for `value`, first of all, where it does. Refused only as `OutOfMemory`.
+pub fn value_of(alloc: Global, query: &[u8]) -> Result<Option<Text>, Fault>
+    ensures value { IfOk result (λ found. found ≡ value_of query.now) }
+    ensures memory { IfErr result (λ e. e ≡ OutOfMemory) }
+{
+    for (name, value) in raw_pairs(query) {
+        if decode(alloc, name)?.as_str() == "value" {
+            return Ok(Some(text(alloc, value)?));
+        }
+    }
+    Ok(None)
 }

@@ -5,8 +5,7 @@ use Rattle.std.specs.List.{list_any}
 use Rattle.std.specs.Str.{IsUtf8, is_utf8}
 use Rattle.std.proofs.lemmas.Str.{IsUtf8-from_is_utf8, is_utf8-from_IsUtf8}
 use Rattle.percent_encoding.specs.Percent.{percent_decode}
-use Rattle.disco_lines.specs.Steps.{text_of_bytes}
-use Rattle.disco_lines.specs.Words.{text_of_word}
+use Rattle.disco_operations.specs.Decoding.{decoded_text, text_of_bytes}
 
 if_true : (b : Bool) (t : List ℕ) → b ≡ true → Some t ≡ (if b then Some t else None)
 if_true b t e = rw e refl
@@ -21,10 +20,10 @@ text_of bytes text e utf8 = rw e (if_true (is_utf8 bytes) bytes (is_utf8-from_Is
 pub no_text : (bytes : List ℕ) → (IsUtf8 bytes → ⊥) → None ≡ text_of_bytes bytes
 no_text bytes refute = if_not (is_utf8 bytes) bytes (λ u. refute (IsUtf8-from_is_utf8 _ u))
 
-pub spelled : (word text bytes : List ℕ) → text ≡ bytes → bytes ≡ percent_decode word → IsUtf8 bytes → Some text ≡ text_of_word word
+pub spelled : (word text bytes : List ℕ) → text ≡ bytes → bytes ≡ percent_decode word → IsUtf8 bytes → Some text ≡ decoded_text word
 spelled word text bytes e f utf8 = rw (e, f) (if_true (is_utf8 (percent_decode word)) (percent_decode word) (is_utf8-from_IsUtf8 _ (rw f at utf8)))
 
-pub misspelled : (word bytes : List ℕ) → bytes ≡ percent_decode word → (IsUtf8 bytes → ⊥) → None ≡ text_of_word word
+pub misspelled : (word bytes : List ℕ) → bytes ≡ percent_decode word → (IsUtf8 bytes → ⊥) → None ≡ decoded_text word
 misspelled word bytes f refute = if_not (is_utf8 (percent_decode word)) (percent_decode word) (λ yes. refute (rw f (IsUtf8-from_is_utf8 _ yes)))
 
 no_escape : (p q r more : Bool) (xs ys : List ℕ) → (p || more) ≡ false → (if p && q && r then xs else ys) ≡ ys
@@ -43,5 +42,5 @@ unescaped (b ∷ c ∷ []) none = refl
 unescaped (b ∷ high ∷ low ∷ rest) none =
     no_escape (nat_eq b 37) _ _ _ _ _ none ∙ (λ i. b ∷ unescaped (high ∷ low ∷ rest) (none_behind (nat_eq b 37) _ none) i)
 
-pub plainly : (word : List ℕ) → list_any (λ b. nat_eq b 37) word ≡ false → text_of_bytes word ≡ text_of_word word
+pub plainly : (word : List ℕ) → list_any (λ b. nat_eq b 37) word ≡ false → text_of_bytes word ≡ decoded_text word
 plainly word none = λ i. text_of_bytes (sym (unescaped word none) i)

@@ -1,0 +1,3 @@
+pub mod Decoding
+pub mod Operations
+pub mod Query

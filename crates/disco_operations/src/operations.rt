@@ -1,0 +1,72 @@
+//! Operations by what names them.
+ghost use Rattle.std.specs.Prelude.{◌≡◌, IfOk, IfErr, Ok};
+ghost use Rattle.disco_instance.specs.Instance.{Gives};
+ghost use Rattle.disco_values.specs.declared.fault.Fault.TheVariants.{OutOfMemory};
+ghost use Rattle.disco_registry.specs.Op as asking;
+ghost use Rattle.disco_registry.specs.Op.{ask_of};
+ghost use Rattle.disco_wire.specs.Registration.{registration_of};
+ghost use Rattle.disco_operations.specs.Operations.{key_named, registers};
+
+use disco_registry::Op;
+use disco_values::{Entries, Fault, Key, Text, upper};
+use disco_wire::read_registration;
+use std::alloc::Global;
+
+/// The key of an app and an id: the app's name counts in upper case. Refused only as `OutOfMemory`.
+pub fn key_named(alloc: Global, app: &Text, id: Text) -> Result<Key, Fault>
+    ensures key { IfOk result (λ k. k ≡ key_named app.now id) }
+    ensures memory { IfErr result (λ e. e ≡ OutOfMemory) }
+{
+    let app = upper(alloc, app.as_str())?;
+    Ok(Key { app, id })
+}
+
+/// A registration under an app's name, with the JSON of its body. Refused as `BadJson` and
+/// `MissingField` where the body is no registration, as `MismatchedApp` where it is one of another
+/// app, and as `OutOfMemory`.
+pub fn register(alloc: Global, app: &Text, body: &[u8]) -> Result<Op, Fault>
+    ensures { Gives ask_of result (registers app.now (registration_of body.now)) }
+{
+    let posted = read_registration(alloc, body)?;
+    if upper(alloc, app.as_str())? != posted.key.app {
+        return Err(Fault::MismatchedApp);
+    }
+    Ok(Op::Register(posted))
+}
+
+/// A cancel of the instance of an app and an id. Refused only as `OutOfMemory`.
+pub fn cancel(alloc: Global, app: &Text, id: Text) -> Result<Op, Fault>
+    ensures { Gives ask_of result (Ok (asking.cancel (key_named app.now id))) }
+{
+    Ok(Op::Cancel(key_named(alloc, app, id)?))
+}
+
+/// A renewal of that instance's lease. Refused only as `OutOfMemory`.
+pub fn renew(alloc: Global, app: &Text, id: Text) -> Result<Op, Fault>
+    ensures { Gives ask_of result (Ok (asking.renew (key_named app.now id))) }
+{
+    Ok(Op::Renew(key_named(alloc, app, id)?))
+}
+
+/// A change of that instance's status. Refused only as `OutOfMemory`: the registry refuses a text
+/// that is no status.
+pub fn set_status(alloc: Global, app: &Text, id: Text, status: Text) -> Result<Op, Fault>
+    ensures { Gives ask_of result (Ok (asking.set_status (key_named app.now id) status)) }
+{
+    Ok(Op::SetStatus(key_named(alloc, app, id)?, status))
+}
+
+/// The removal of that instance's override, with the status that it has then, if one is given.
+/// Refused only as `OutOfMemory`.
+pub fn drop_status(alloc: Global, app: &Text, id: Text, status: Option<Text>) -> Result<Op, Fault>
+    ensures { Gives ask_of result (Ok (asking.drop_status (key_named app.now id) status)) }
+{
+    Ok(Op::DropStatus(key_named(alloc, app, id)?, status))
+}
+
+/// A change of that instance's metadata. Refused only as `OutOfMemory`.
+pub fn add_metadata(alloc: Global, app: &Text, id: Text, entries: Entries) -> Result<Op, Fault>
+    ensures { Gives ask_of result (Ok (asking.add_metadata (key_named app.now id) entries)) }
+{
+    Ok(Op::Metadata(key_named(alloc, app, id)?, entries))
+}
