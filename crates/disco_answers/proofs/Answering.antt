@@ -1,5 +1,5 @@
 -- What a hub does is answered.
-use Rattle.std.proofs.Common.{◌≡◌, ◌≢◌, ◌⊎◌, inl, inr, ℕ, true, List, [], ◌∷◌, ◌++◌, Option, Some, None, Result, Ok, Err, IfOk, IfErr, OnErr, MatchResult, refl, sym, ap, subst, ◌∙◌, arith, append-nil}
+use Rattle.std.proofs.Common.{◌≡◌, ◌≢◌, ◌⊎◌, inl, inr, ℕ, true, List, [], ◌∷◌, ◌++◌, Option, Some, None, Result, Ok, Err, IfOk, IfErr, MatchResult, refl, sym, ap, subst, ◌∙◌, arith, append-nil}
 use Rattle.std.proofs.lemmas.List.{map-append}
 use Rattle.std.specs.declared.alloc.Global.{Global}
 use Rattle.std.specs.declared.sync.Arc.{Arc}
@@ -9,14 +9,14 @@ use Rattle.disco_values.specs.declared.fault.Fault.TheVariants.{OutOfMemory}
 use Rattle.disco_values.specs.declared.form.Form.{Form}
 use Rattle.disco_values.specs.declared.key.Key.{Key}
 use Rattle.disco_history.specs.Change.{Entry}
-use Rattle.disco_cache.specs.declared.key.DocKey.{DocKey}
+use Rattle.disco_query.specs.declared.key.DocKey.{DocKey}
 use Rattle.disco_cache.specs.declared.payload.Payload.{Payload}
 use Rattle.disco_queue.specs.Timed.{Timed}
 use Rattle.disco_core.specs.Past.{Past, history, with_done}
-use Rattle.disco_core.specs.Refusals.{doc_of_id, doc_of_key, refusal_of, refusal_of_id}
+use Rattle.disco_core.specs.Refusals.{doc_of_id, doc_of_key}
 use Rattle.disco_hub.specs.State.{MayServe, StandsFor, State, rules_of}
+use Rattle.disco_hub.specs.Transitions.{Declines, Loads, Serves, ServesId, Withholds, WithholdsId, Writes}
 use Rattle.disco_message.specs.ReplyText.{Answer}
-use Rattle.disco_registry.specs.Accept.{Refuses, accepts}
 use Rattle.disco_registry.specs.Commit.{done_by}
 use Rattle.disco_registry.specs.Op.{Ask}
 use Rattle.disco_registry.specs.declared.op.Applied.{Applied}
@@ -64,21 +64,20 @@ module _ (old new : State) (now : ℕ) (y : Answer) where
     ]
 
   -- an operation
-  pub written : (ask : Ask) (r : Result Applied Fault) → IfOk r (λ a. accepts old.core.registry ask now ≡ Ok (done_by a)) → IfErr r (Refuses old.core.registry ask now)
-      → IfOk r (λ a. (p : Past) → StandsFor old p → StandsFor new (with_done (rules_of old).queue p now ask (done_by a))) → OnErr r ((p : Past) → StandsFor old p → StandsFor new p)
+  pub written : (ask : Ask) (r : Result Applied Fault) → IfOk r (λ a. Writes old new ask now (done_by a)) → IfErr r (Declines old new ask now)
       → MatchResult r (λ a. y ≡ plain (success_of ask)) (λ e. y ≡ refused e) → Follows old new (Ok (writes ask)) now y (changes_by r)
-  written ask (Ok a) done why after stays is = λ p stands.
-      let accepted = sym (accepts_after old.core.registry (history p) stands.core.registry ask now) ∙ done in
+  written ask (Ok a) done why is = λ p stands.
+      let accepted = sym (accepts_after old.core.registry (history p) stands.core.registry ask now) ∙ done.accepted in
       let most = (rules_of old).queue in
       let q = with_done most p now ask (done_by a) in
-      (q, inl (subst (λ r. Does (rules_of old) p ask now r y q) (sym accepted) (is, refl)), history_done most p now ask (done_by a), after p stands)
-  written ask (Err e) done why after stays is = λ p stands.
+      (q, inl (subst (λ r. Does (rules_of old) p ask now r y q) (sym accepted) (is, refl)), history_done most p now ask (done_by a), done.history p stands)
+  written ask (Err e) done why is = λ p stands.
       let none = sym (append-nil (history p)) in
       elim (memory_or e) [
-        | inl memory ↦ (p, inr (is ∙ ap refused memory, refl), none, stays p stands)
+        | inl memory ↦ (p, inr (is ∙ ap refused memory, refl), none, why.history p stands)
         | inr other ↦
-            let refuses = sym (accepts_after old.core.registry (history p) stands.core.registry ask now) ∙ why other in
-            (p, inl (subst (λ r. Does (rules_of old) p ask now r y p) (sym refuses) (is, refl)), none, stays p stands)
+            let refuses = sym (accepts_after old.core.registry (history p) stands.core.registry ask now) ∙ why.cause other in
+            (p, inl (subst (λ r. Does (rules_of old) p ask now r y p) (sym refuses) (is, refl)), none, why.history p stands)
       ]
 
 -- a path that lacks the method
@@ -95,30 +94,27 @@ refused_so s asked e now y why is = λ p stands.
     ]
 
 -- a load of a key
-pub load_so : (old new : State) (key : DocKey) (now : ℕ) (y : Answer) (r : Result (Arc Payload Global) Fault) → IfOk r (λ d. d.value.key ≡ key) → IfOk r (λ d. (p : Past) → StandsFor old p → MayServe d.value p)
-    → IfOk r (λ d. (p : Past) → StandsFor old p → refusal_of (rules_of old).delta key.query (history p) ≡ None) → IfErr r (λ e. e ≢ OutOfMemory → (p : Past) → StandsFor old p → refusal_of (rules_of old).delta key.query (history p) ≡ Some e)
-    → MatchResult r (λ d. y ≡ with_document d.value.text) (λ e. y ≡ refused e) → ((p : Past) → StandsFor old p → StandsFor new p) → IsAnswered old new (Ok (loads key)) now y
-load_so old new key now y (Ok d) is may allowed why shown on =
-    served old new now y (loads key) (λ p. document_of (rules_of old).delta key (history p)) (λ p q so. so) on (Ok d) (λ p stands. ap (unless (Some key)) (allowed p stands) ∙ ap (λ k. Ok k) (sym is)) may tt shown
-load_so old new key now y (Err e) is may allowed why shown on =
-    served old new now y (loads key) (λ p. document_of (rules_of old).delta key (history p)) (λ p q so. so) on (Err e) tt tt (λ other p stands. ap (unless (Some key)) (why other p stands)) shown
+pub load_so : (old new : State) (key : DocKey) (now : ℕ) (y : Answer) (r : Result (Arc Payload Global) Fault) → IfOk r (λ d. Serves old (rules_of old).delta key d.value) → IfErr r (Withholds old (rules_of old).delta key)
+    → MatchResult r (λ d. y ≡ with_document d.value.text) (λ e. y ≡ refused e) → Loads old new → IsAnswered old new (Ok (loads key)) now y
+load_so old new key now y (Ok d) may why shown on =
+    served old new now y (loads key) (λ p. document_of (rules_of old).delta key (history p)) (λ p q so. so) on.history (Ok d) (λ p stands. ap (unless (Some key)) (may.allowed p stands) ∙ ap (λ k. Ok k) (sym may.key)) may.served tt shown
+load_so old new key now y (Err e) may why shown on =
+    served old new now y (loads key) (λ p. document_of (rules_of old).delta key (history p)) (λ p q so. so) on.history (Err e) tt tt (λ other p stands. ap (unless (Some key)) (why other p stands)) shown
 
 -- the document of an instance
-pub instance_so : (s : State) (key : Key) (form : Form) (now : ℕ) (y : Answer) (r : Result (Arc Payload Global) Fault) → IfOk r (λ d. d.value.key ≡ doc_of_key key form) → IfOk r (λ d. (p : Past) → StandsFor s p → MayServe d.value p)
-    → IfOk r (λ d. (p : Past) → StandsFor s p → refusal_of true (doc_of_key key form).query (history p) ≡ None) → IfErr r (λ e. e ≢ OutOfMemory → (p : Past) → StandsFor s p → refusal_of true (doc_of_key key form).query (history p) ≡ Some e)
+pub instance_so : (s : State) (key : Key) (form : Form) (now : ℕ) (y : Answer) (r : Result (Arc Payload Global) Fault) → IfOk r (λ d. Serves s true (doc_of_key key form) d.value) → IfErr r (Withholds s true (doc_of_key key form))
     → MatchResult r (λ d. y ≡ with_document d.value.text) (λ e. y ≡ refused e) → IsAnswered s s (Ok (shows key form)) now y
-instance_so s key form now y (Ok d) is may allowed why shown =
-    served s s now y (shows key form) (λ p. document_of true (doc_of_key key form) (history p)) (λ p q so. so) (λ p stands. stands) (Ok d) (λ p stands. ap (unless (Some (doc_of_key key form))) (allowed p stands) ∙ ap (λ k. Ok k) (sym is)) may tt shown
-instance_so s key form now y (Err e) is may allowed why shown =
+instance_so s key form now y (Ok d) may why shown =
+    served s s now y (shows key form) (λ p. document_of true (doc_of_key key form) (history p)) (λ p q so. so) (λ p stands. stands) (Ok d) (λ p stands. ap (unless (Some (doc_of_key key form))) (may.allowed p stands) ∙ ap (λ k. Ok k) (sym may.key)) may.served tt shown
+instance_so s key form now y (Err e) may why shown =
     served s s now y (shows key form) (λ p. document_of true (doc_of_key key form) (history p)) (λ p q so. so) (λ p stands. stands) (Err e) tt tt (λ other p stands. ap (unless (Some (doc_of_key key form))) (why other p stands)) shown
 
 -- the document of the instance of an id
-pub by_id_so : (s : State) (id : List ℕ) (form : Form) (now : ℕ) (y : Answer) (r : Result (Arc Payload Global) Fault) → IfOk r (λ d. (p : Past) → StandsFor s p → doc_of_id id form (history p) ≡ Some d.value.key) → IfOk r (λ d. (p : Past) → StandsFor s p → MayServe d.value p)
-    → IfOk r (λ d. (p : Past) → StandsFor s p → refusal_of_id id (history p) ≡ None) → IfErr r (λ e. e ≢ OutOfMemory → (p : Past) → StandsFor s p → refusal_of_id id (history p) ≡ Some e)
+pub by_id_so : (s : State) (id : List ℕ) (form : Form) (now : ℕ) (y : Answer) (r : Result (Arc Payload Global) Fault) → IfOk r (λ d. ServesId s id form d.value) → IfErr r (WithholdsId s id)
     → MatchResult r (λ d. y ≡ with_document d.value.text) (λ e. y ≡ refused e) → IsAnswered s s (Ok (shows_id id form)) now y
-by_id_so s id form now y (Ok d) is may allowed why shown =
-    served s s now y (shows_id id form) (λ p. document_of_id id form (history p)) (λ p q so. so) (λ p stands. stands) (Ok d) (λ p stands. ap (unless (doc_of_id id form (history p))) (allowed p stands) ∙ ap (λ k. unless k None) (is p stands)) may tt shown
-by_id_so s id form now y (Err e) is may allowed why shown =
+by_id_so s id form now y (Ok d) may why shown =
+    served s s now y (shows_id id form) (λ p. document_of_id id form (history p)) (λ p q so. so) (λ p stands. stands) (Ok d) (λ p stands. ap (unless (doc_of_id id form (history p))) (may.allowed p stands) ∙ ap (λ k. unless k None) (may.key p stands)) may.served tt shown
+by_id_so s id form now y (Err e) may why shown =
     served s s now y (shows_id id form) (λ p. document_of_id id form (history p)) (λ p q so. so) (λ p stands. stands) (Err e) tt tt (λ other p stands. ap (unless (doc_of_id id form (history p))) (why other p stands) ∙ refused_of (doc_of_id id form (history p)) e) shown
   where
     refused_of : (k : Option DocKey) (e : Fault) → unless k (Some e) ≡ Err e

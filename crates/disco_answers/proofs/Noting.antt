@@ -9,7 +9,7 @@ use Rattle.disco_registry.specs.Commit.{done_by}
 use Rattle.disco_registry.specs.declared.op.Applied.{Applied}
 use Rattle.disco_core.specs.Past.{Past, history}
 use Rattle.disco_core.specs.State.{Rules}
-use Rattle.disco_hub.specs.Press.{Note, change}
+use Rattle.disco_rounds.specs.Press.{Note, change}
 use Rattle.disco_hub.specs.State.{rules_of}
 use Rattle.disco_message.specs.ReplyText.{Answer}
 use Rattle.disco_calls.specs.Calls.{Asks, loads, shows, shows_id, writes, lacks, seen}
@@ -105,20 +105,24 @@ module _ (old new : DeskState) (before after : SeatState) (asked : Result Asks F
 
 -- a look came before
 pub looked_before : (before mid after : SeatState) (asked : Result Asks Fault) (now : ℕ) (y : Answer) → mid.changes ≡ before.changes → IsPrefix before.known mid.known → IsAnsweredBySome mid after asked now y → IsAnsweredBySome before after asked now y
-looked_before before mid after asked now y same knew so = record {
-  old = so.old;
-  new = so.new;
-  valid = so.valid;
-  bound = subst (λ n. n ≤ so.old.hub.core.registry.version) same so.bound;
-  knew = prefix_trans before.known mid.known so.old.published knew so.knew;
-  answered = record {
-    changes = so.answered.changes;
-    noted = so.answered.noted;
-    counted = so.answered.counted ∙ ap (λ n. n + length so.answered.changes) same;
-    replied = so.answered.replied;
-  };
-  knows = so.knows;
-}
+looked_before before mid after asked now y same knew so =
+    let was = so.by in
+    record {
+      old = so.old;
+      new = so.new;
+      by = record {
+        valid = was.valid;
+        bound = subst (λ n. n ≤ so.old.hub.core.registry.version) same was.bound;
+        knew = prefix_trans before.known mid.known so.old.published knew was.knew;
+        answered = record {
+          changes = was.answered.changes;
+          noted = was.answered.noted;
+          counted = was.answered.counted ∙ ap (λ n. n + length was.answered.changes) same;
+          replied = was.answered.replied;
+        };
+        knows = was.knows;
+      };
+    }
 
 -- something that gives this was asked for
 pub some_asked : (called : Result Call Fault) → (asked : Result Asks Fault) × Gives seen called asked

@@ -5,10 +5,10 @@ use Rattle.std.specs.declared.alloc.Global.{Global}
 use Rattle.std.specs.declared.sync.Arc.{Arc}
 use Rattle.disco_values.specs.declared.fault.Fault.{Fault}
 use Rattle.disco_history.specs.Change.{Entry}
-use Rattle.disco_cache.specs.declared.key.DocKey.{DocKey}
+use Rattle.disco_query.specs.declared.key.DocKey.{DocKey}
 use Rattle.disco_cache.specs.declared.payload.Payload.{Payload}
 use Rattle.disco_core.specs.Past.{Past, history}
-use Rattle.disco_hub.specs.Press.{change}
+use Rattle.disco_rounds.specs.Press.{change}
 use Rattle.disco_hub.specs.State.{StandsFor, rules_of}
 use Rattle.disco_press.specs.Desks.{DeskState, IsValid, Notes}
 use Rattle.disco_editions.specs.Looks.{Shows}
@@ -26,15 +26,19 @@ pub record IsAnsweredOn (old new : DeskState) (before after : SeatState) (asked 
   pub counted : after.changes ≡ before.changes + length changes
   pub replied : (p : Past) → StandsFor old.hub p → (q : Past) × IsReply (rules_of old.hub) p asked now y q × (history q ≡ history p ++ changes) × StandsFor new.hub q
 
--- so some desk has answered, which had no fewer changes than the seat and had published what the seat knew; then the seat knows what it has published
-pub record IsAnsweredBySome (before after : SeatState) (asked : Result Asks Fault) (now : ℕ) (y : Answer) : Type 0 where
-  pub old : DeskState
-  pub new : DeskState
+-- and the desk had no fewer changes than the seat and had published what the seat knew; then the seat knows what it has published
+pub record IsAnsweredBy (old new : DeskState) (before after : SeatState) (asked : Result Asks Fault) (now : ℕ) (y : Answer) : Type 0 where
   pub valid : IsValid old
   pub bound : before.changes ≤ old.hub.core.registry.version
   pub knew : IsPrefix before.known old.published
   pub answered : IsAnsweredOn old new before after asked now y
   pub knows : after.known ≡ new.published
+
+-- some desk has answered so
+pub record IsAnsweredBySome (before after : SeatState) (asked : Result Asks Fault) (now : ℕ) (y : Answer) : Type 0 where
+  pub old : DeskState
+  pub new : DeskState
+  pub by : IsAnsweredBy old new before after asked now y
 
 -- a document is asked for, and is shown by what the seat knows then; nothing is counted
 pub record IsLooked (before after : SeatState) (asked : Result Asks Fault) (y : Answer) : Type 0 where

@@ -1,34 +1,32 @@
 //! Answers of a desk to a seat.
-ghost use Rattle.std.specs.Prelude.{◌≡◌, ◌≤◌, Ok, Result};
-ghost use mathlib.Core.List.{IsPrefix};
+ghost use Rattle.std.specs.Prelude.{◌≡◌, Ok, Result};
 ghost use Rattle.disco_instance.specs.Instance.{Gives};
 ghost use Rattle.disco_values.specs.declared.fault.Fault.{Fault};
-ghost use Rattle.disco_hub.specs.State.{rules_of};
+ghost use Rattle.disco_hub.specs.Transitions.{KeepsRest};
 ghost use Rattle.disco_message.specs.ReplyText.{answer_of};
 ghost use Rattle.disco_calls.specs.Calls.{Asks, call, loads, seen, shows, shows_id, writes};
-ghost use Rattle.disco_press.specs.Desks.{IsValid, NotesNothing};
+ghost use Rattle.disco_press.specs.Desks.{NotesNothing};
 ghost use Rattle.disco_registry.specs.Op.{ask_of};
-ghost use Rattle.disco_answers.specs.Desks.{IsAnsweredOn};
+ghost use Rattle.disco_answers.specs.Desks.{IsAnsweredBy, IsAnsweredOn};
 ghost use Rattle.disco_answers.specs.Replies.{IsAnswered, text_in};
 
 use crate::replies::{lacking, refused, showing, success_of, wrote};
 use crate::shared::Shared;
-use disco_cache::DocKey;
 use disco_calls::{Call, call_of};
-use disco_instance::{Fault, Form, Key, Text};
+use disco_editions::Naming;
 use disco_message::{Reply, Request};
-use disco_press::{Desk, Naming, Seat};
+use disco_press::{Desk, Seat};
+use disco_query::DocKey;
 use disco_registry::Op;
 use disco_routes::Routes;
+use disco_values::{Fault, Form, Key, Text};
 use std::alloc::Global;
 
 /// Serves the document of a key.
 fn load<J: Naming>(desk: &mut Desk<J>, key: &DocKey, now: u64) -> Reply<Shared>
     ensures answered { IsAnswered desk.old.hub desk.new.hub (Ok (loads key.now)) now (answer_of text_in result) }
     ensures noted { NotesNothing desk.old desk.new }
-    ensures rules { rules_of desk.new.hub ≡ rules_of desk.old.hub }
-    ensures rounds { desk.new.hub.rounds ≡ desk.old.hub.rounds }
-    ensures room { desk.new.hub.docs.max ≡ desk.old.hub.docs.max }
+    ensures rest { KeepsRest desk.old.hub desk.new.hub }
 {
     showing(desk.load(key))
 }
@@ -51,9 +49,7 @@ fn by_id<J: Naming>(desk: &Desk<J>, id: &Text, form: Form, now: u64) -> Reply<Sh
 fn write<J: Naming>(desk: &mut Desk<J>, seat: &mut Seat<J>, op: Op, now: u64) -> Reply<Shared>
     ensures answered { IsAnsweredOn desk.old desk.new seat.old seat.new (Ok (writes (ask_of op))) now (answer_of text_in result) }
     ensures known { seat.new.known ≡ seat.old.known }
-    ensures rules { rules_of desk.new.hub ≡ rules_of desk.old.hub }
-    ensures rounds { desk.new.hub.rounds ≡ desk.old.hub.rounds }
-    ensures room { desk.new.hub.docs.max ≡ desk.old.hub.docs.max }
+    ensures rest { KeepsRest desk.old.hub desk.new.hub }
 {
     let success = success_of(&op);
     wrote(desk.write_as(seat, op, now), success)
@@ -68,9 +64,7 @@ fn answer_call<J: Naming>(
 ) -> Reply<Shared>
     ensures answered { IsAnsweredOn desk.old desk.new seat.old seat.new (Ok (seen call)) now (answer_of text_in result) }
     ensures known { seat.new.known ≡ seat.old.known }
-    ensures rules { rules_of desk.new.hub ≡ rules_of desk.old.hub }
-    ensures rounds { desk.new.hub.rounds ≡ desk.old.hub.rounds }
-    ensures room { desk.new.hub.docs.max ≡ desk.old.hub.docs.max }
+    ensures rest { KeepsRest desk.old.hub desk.new.hub }
 {
     match call {
         Call::Load(key) => load(desk, &key, now),
@@ -90,9 +84,7 @@ fn answer_called<J: Naming>(
 ) -> Reply<Shared>
     ensures answered { (asked : Result Asks Fault) → Gives seen called asked → IsAnsweredOn desk.old desk.new seat.old seat.new asked now (answer_of text_in result) }
     ensures known { seat.new.known ≡ seat.old.known }
-    ensures rules { rules_of desk.new.hub ≡ rules_of desk.old.hub }
-    ensures rounds { desk.new.hub.rounds ≡ desk.old.hub.rounds }
-    ensures room { desk.new.hub.docs.max ≡ desk.old.hub.docs.max }
+    ensures rest { KeepsRest desk.old.hub desk.new.hub }
 {
     match called {
         Ok(call) => answer_call(desk, seat, call, now),
@@ -107,14 +99,8 @@ pub(crate) fn answer_read<J: Naming>(
     called: Result<Call, Fault>,
     now: u64,
 ) -> Reply<Shared>
-    ensures valid { IsValid desk.old }
-    ensures bound { seat.old.changes ≤ desk.old.hub.core.registry.version }
-    ensures knew { IsPrefix seat.old.known desk.old.published }
-    ensures answered { (asked : Result Asks Fault) → Gives seen called asked → IsAnsweredOn desk.old desk.new seat.old seat.new asked now (answer_of text_in result) }
-    ensures knows { seat.new.known ≡ desk.new.published }
-    ensures rules { rules_of desk.new.hub ≡ rules_of desk.old.hub }
-    ensures rounds { desk.new.hub.rounds ≡ desk.old.hub.rounds }
-    ensures room { desk.new.hub.docs.max ≡ desk.old.hub.docs.max }
+    ensures answered { (asked : Result Asks Fault) → Gives seen called asked → IsAnsweredBy desk.old desk.new seat.old seat.new asked now (answer_of text_in result) }
+    ensures rest { KeepsRest desk.old.hub desk.new.hub }
 {
     desk.check();
     let reply = answer_called(desk, seat, called, now);
@@ -134,14 +120,8 @@ pub fn answer_on<J: Naming>(
     request: &Request,
     now: u64,
 ) -> Reply<Shared>
-    ensures valid { IsValid desk.old }
-    ensures bound { seat.old.changes ≤ desk.old.hub.core.registry.version }
-    ensures knew { IsPrefix seat.old.known desk.old.published }
-    ensures answered { IsAnsweredOn desk.old desk.new seat.old seat.new (call request.now) now (answer_of text_in result) }
-    ensures knows { seat.new.known ≡ desk.new.published }
-    ensures rules { rules_of desk.new.hub ≡ rules_of desk.old.hub }
-    ensures rounds { desk.new.hub.rounds ≡ desk.old.hub.rounds }
-    ensures room { desk.new.hub.docs.max ≡ desk.old.hub.docs.max }
+    ensures answered { IsAnsweredBy desk.old desk.new seat.old seat.new (call request.now) now (answer_of text_in result) }
+    ensures rest { KeepsRest desk.old.hub desk.new.hub }
 {
     answer_read(desk, seat, call_of(alloc, routes, request), now)
 }

@@ -1,7 +1,6 @@
 //! Answers over a hub.
 ghost use Rattle.std.specs.Prelude.{◌≡◌, Ok};
-ghost use Rattle.disco_core.specs.Past.{Past};
-ghost use Rattle.disco_hub.specs.State.{StandsFor, rules_of};
+ghost use Rattle.disco_hub.specs.Transitions.{KeepsRest};
 ghost use Rattle.disco_message.specs.ReplyText.{answer_of};
 ghost use Rattle.disco_calls.specs.Calls.{call, loads, seen, shows, shows_id, writes};
 ghost use Rattle.disco_registry.specs.Op.{ask_of};
@@ -9,20 +8,19 @@ ghost use Rattle.disco_answers.specs.Replies.{IsAnswered, text_in};
 
 use crate::replies::{lacking, refused, showing, success_of, wrote};
 use crate::shared::Shared;
-use disco_cache::DocKey;
 use disco_calls::{Call, call_of};
 use disco_hub::Hub;
-use disco_instance::{Form, Key, Text};
 use disco_message::{Reply, Request};
+use disco_query::DocKey;
 use disco_registry::Op;
 use disco_routes::Routes;
+use disco_values::{Form, Key, Text};
 use std::alloc::Global;
 
 /// Serves the document of a key.
 fn load(hub: &mut Hub, key: &DocKey, now: u64) -> Reply<Shared>
     ensures answered { IsAnswered hub.old hub.new (Ok (loads key.now)) now (answer_of text_in result) }
-    ensures rules { rules_of hub.new ≡ rules_of hub.old }
-    ensures rounds { hub.new.rounds ≡ hub.old.rounds }
+    ensures rest { KeepsRest hub.old hub.new }
 {
     showing(hub.load(key))
 }
@@ -46,8 +44,7 @@ fn by_id(hub: &mut Hub, id: &Text, form: Form, now: u64) -> Reply<Shared>
 /// Does an operation.
 fn write(hub: &mut Hub, op: Op, now: u64) -> Reply<Shared>
     ensures answered { IsAnswered hub.old hub.new (Ok (writes (ask_of op))) now (answer_of text_in result) }
-    ensures rules { rules_of hub.new ≡ rules_of hub.old }
-    ensures rounds { hub.new.rounds ≡ hub.old.rounds }
+    ensures rest { KeepsRest hub.old hub.new }
 {
     let success = success_of(&op);
     wrote(hub.write(op, now), success)
@@ -56,8 +53,7 @@ fn write(hub: &mut Hub, op: Op, now: u64) -> Reply<Shared>
 /// Does what is called for.
 fn answer_call(hub: &mut Hub, call: Call, now: u64) -> Reply<Shared>
     ensures answered { IsAnswered hub.old hub.new (Ok (seen call)) now (answer_of text_in result) }
-    ensures rules { rules_of hub.new ≡ rules_of hub.old }
-    ensures rounds { hub.new.rounds ≡ hub.old.rounds }
+    ensures rest { KeepsRest hub.old hub.new }
 {
     match call {
         Call::Load(key) => load(hub, &key, now),
@@ -79,8 +75,7 @@ pub fn answer_hub(
     now: u64,
 ) -> Reply<Shared>
     ensures answered { IsAnswered hub.old hub.new (call request.now) now (answer_of text_in result) }
-    ensures rules { rules_of hub.new ≡ rules_of hub.old }
-    ensures rounds { hub.new.rounds ≡ hub.old.rounds }
+    ensures rest { KeepsRest hub.old hub.new }
 {
     match call_of(alloc, routes, request) {
         Ok(call) => answer_call(hub, call, now),

@@ -12,10 +12,11 @@ use crate::desk::answer_read;
 use crate::replies::showing;
 use crate::shared::Shared;
 use disco_calls::{Call, call_of};
-use disco_instance::Fault;
+use disco_editions::{Looked, Naming};
 use disco_message::{Reply, Request};
-use disco_press::{Desk, Looked, Naming, Seat};
+use disco_press::{Desk, Seat};
 use disco_routes::Routes;
+use disco_values::Fault;
 use std::alloc::Global;
 use std::sync::{Mutex, MutexGuard, Wait};
 

@@ -6,9 +6,9 @@ ghost use Rattle.disco_answers.specs.Replies.{lacking, plain, refused, success_o
 
 use crate::shared::Shared;
 use disco_cache::Payload;
-use disco_instance::Fault;
 use disco_message::{Allow, Reply, StatusLine, refusal};
 use disco_registry::{Applied, Op};
+use disco_values::Fault;
 use std::alloc::Global;
 use std::sync::Arc;
 

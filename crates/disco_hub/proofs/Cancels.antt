@@ -1,20 +1,21 @@
 -- One cancel after another.
-use Rattle.std.proofs.Common.{◌≡◌, ℕ, zero, suc, ◌+◌, ◌<◌, List, length, Option, Some, None, Result, Ok, Err, IfErr, IfOk, IsOk, OnErr, OnOk, slice_get, refl, sym, ap, subst, ◌∙◌, arith, add-one}
+use Rattle.std.proofs.Common.{◌≡◌, ℕ, zero, suc, ◌+◌, ◌<◌, List, length, Option, Some, Result, Ok, Err, IfErr, IfOk, IsOk, OnOk, slice_get, refl, sym, ap, subst, ◌∙◌, arith, add-one}
 use Rattle.std.proofs.lemmas.Option.{same_Some}
 use Rattle.disco_values.specs.declared.fault.Fault.{Fault}
 use Rattle.disco_values.specs.declared.fault.Fault.TheVariants.{OutOfMemory}
 use Rattle.disco_values.specs.declared.key.Key.{Key}
 use Rattle.disco_history.specs.Change.{Entry}
-use Rattle.disco_registry.specs.Accept.{Refuses, accepts}
+use Rattle.disco_registry.specs.Accept.{accepts}
 use Rattle.disco_registry.specs.Commit.{done_by}
 use Rattle.disco_registry.specs.Op.{cancel}
 use Rattle.disco_registry.specs.declared.op.Applied.{Applied}
 use Rattle.disco_registry.proofs.Histories.{accepts_after}
-use Rattle.disco_hub.specs.Expiry.{Expires, IsExpired, after_next, cancel_of, cancelled}
+use Rattle.disco_hub.specs.Expiry.{Expires, after_next, cancel_of, cancelled}
 use Rattle.disco_core.specs.Past.{Past, after_ask, history, with_done}
 use Rattle.disco_core.specs.State.{Rules}
 use Rattle.disco_hub.specs.State.{State, StandsFor, rules_of}
-use Rattle.disco_hub.specs.Steps.{Cancels, Declines}
+use Rattle.disco_hub.specs.Steps.{Cancels, CancelsNone}
+use Rattle.disco_hub.specs.Transitions.{Declines, Writes}
 
 -- a hub has cancelled the first so many of these keys
 pub record Did (old new : State) (now : ℕ) (ks : List Key) (gone : ℕ) : Type 0 where
@@ -85,7 +86,7 @@ module _ (old mid new : State) (now : ℕ) (ks : List Key) (i : ℕ) (k : Key) (
   }
 
   -- the next cancel is refused
-  pub stopped_at : (e : Fault) → i < length ks → Declines mid new now k e → Expires old new now (λ _. ks) i (Some e)
+  pub stopped_at : (e : Fault) → i < length ks → CancelsNone mid new now k e → Expires old new now (λ _. ks) i (Some e)
   stopped_at e lt declines = λ p stands.
       let none = declines (so_far p) (did.stands p stands) in (
         record {
@@ -96,10 +97,6 @@ module _ (old mid new : State) (now : ℕ) (ks : List Key) (i : ℕ) (k : Key) (
         },
         none.0,
       )
-
--- all of them are cancelled
-pub all_gone : (old new : State) (now : ℕ) (ks : List Key) (i : ℕ) → i ≡ length ks → Did old new now ks i → Expires old new now (λ _. ks) i None
-all_gone old new now ks i is did = λ p stands. (record { accepted = did.accepted p stands; within = omega (arith, is); all = (λ _. is, λ _. refl); next = tt }, did.stands p stands)
 
 -- no list was found
 pub none_gone : (s : State) (now : ℕ) (ks : Past → List Key) (e : Fault) → e ≡ OutOfMemory → ((p : Past) → StandsFor s p → 0 < length (ks p)) → Expires s s now ks 0 (Some e)
@@ -113,31 +110,24 @@ none_gone s now ks e memory some = λ p stands. (
   (did_nothing s now (ks p)).stands p stands,
 )
 
--- the list is the one of each past
-pub with_list : (old new : State) (now : ℕ) (ls : List Key) (ks : Past → List Key) (gone : ℕ) (stopped : Option Fault) → ((p : Past) → StandsFor old p → ls ≡ ks p) → Expires old new now (λ _. ls) gone stopped → Expires old new now ks gone stopped
-with_list old new now ls ks gone stopped same expires = λ p stands.
-    let is = expires p stands in
-    (subst (λ (l : List Key). IsExpired (rules_of old) p now l gone stopped) (same p stands) is.0, subst (λ (l : List Key). StandsFor new (cancelled (rules_of old) p now l gone)) (same p stands) is.1)
-
 -- ---- one cancel
 
 pub at_history : (s : State) (p : Past) (k : Key) (now : ℕ) → StandsFor s p → accepts s.core.registry (cancel k) now ≡ cancel_of (rules_of s) p now k
 at_history s p k now stands = accepts_after s.core.registry (history p) stands.core.registry (cancel k) now
 
-one_gone : (old new : State) (now : ℕ) (k key : Key) (c : Option Entry) → key ≡ k → accepts old.core.registry (cancel key) now ≡ Ok c → ((p : Past) → StandsFor old p → StandsFor new (with_done (rules_of old).queue p now (cancel key) c)) → Cancels old new now k
-one_gone old new now k key c same done stands_on = λ p stands.
+one_gone : (old new : State) (now : ℕ) (k key : Key) (c : Option Entry) → key ≡ k → Writes old new (cancel key) now c → Cancels old new now k
+one_gone old new now k key c same done = λ p stands.
     subst (λ (x : Key). (c : Option Entry) × (cancel_of (rules_of old) p now x ≡ Ok c) × StandsFor new (with_done (rules_of old).queue p now (cancel x) c)) same
-    (c, sym (at_history old p key now stands) ∙ done, stands_on p stands)
+    (c, sym (at_history old p key now stands) ∙ done.accepted, done.history p stands)
 
-one_refused : (old new : State) (now : ℕ) (k key : Key) (e : Fault) → key ≡ k → Refuses old.core.registry (cancel key) now e → ((p : Past) → StandsFor old p → StandsFor new p) → Declines old new now k e
-one_refused old new now k key e same refused stays = λ p stands.
-    (stays p stands, λ other. ap (cancel_of (rules_of old) p now) (sym same) ∙ sym (at_history old p key now stands) ∙ refused other)
+one_refused : (old new : State) (now : ℕ) (k key : Key) (e : Fault) → key ≡ k → Declines old new (cancel key) now e → CancelsNone old new now k e
+one_refused old new now k key e same refused = λ p stands.
+    (refused.history p stands, λ other. ap (cancel_of (rules_of old) p now) (sym same) ∙ sym (at_history old p key now stands) ∙ refused.cause other)
 
-pub all_done : (old new : State) (now : ℕ) (k key : Key) (r : Result Applied Fault) → key ≡ k → IfOk r (λ a. accepts old.core.registry (cancel key) now ≡ Ok (done_by a))
-    → IfOk r (λ a. (p : Past) → StandsFor old p → StandsFor new (with_done (rules_of old).queue p now (cancel key) (done_by a))) → OnOk r (Cancels old new now k)
-all_done old new now k key (Ok a) same done stands_on = one_gone old new now k key (done_by a) same done stands_on
-all_done old new now k key (Err e) same done stands_on = tt
+pub all_done : (old new : State) (now : ℕ) (k key : Key) (r : Result Applied Fault) → key ≡ k → IfOk r (λ a. Writes old new (cancel key) now (done_by a)) → OnOk r (Cancels old new now k)
+all_done old new now k key (Ok a) same done = one_gone old new now k key (done_by a) same done
+all_done old new now k key (Err e) same done = tt
 
-pub all_refused : (old new : State) (now : ℕ) (k key : Key) (r : Result Applied Fault) → key ≡ k → IfErr r (Refuses old.core.registry (cancel key) now) → OnErr r ((p : Past) → StandsFor old p → StandsFor new p) → IfErr r (Declines old new now k)
-all_refused old new now k key (Ok a) same refused stays = tt
-all_refused old new now k key (Err e) same refused stays = one_refused old new now k key e same refused stays
+pub all_refused : (old new : State) (now : ℕ) (k key : Key) (r : Result Applied Fault) → key ≡ k → IfErr r (Declines old new (cancel key) now) → IfErr r (CancelsNone old new now k)
+all_refused old new now k key (Ok a) same refused = tt
+all_refused old new now k key (Err e) same refused = one_refused old new now k key e same refused

@@ -4,72 +4,21 @@ use Rattle.std.specs.FinMap.{empty, insert, len, remove}
 use Rattle.disco_history.specs.Change.{Entry}
 use Rattle.disco_history.specs.Query.{is_absent}
 use Rattle.disco_history.specs.Registry.{reg}
-use Rattle.disco_writer.specs.Documents.{asked_by}
-use Rattle.disco_cache.specs.Docs.{Docs}
-use Rattle.disco_cache.specs.declared.key.DocKey.{DocKey}
+use Rattle.disco_documents.specs.Documents.{asked_by}
+use Rattle.disco_query.specs.declared.key.DocKey.{DocKey}
 use Rattle.disco_core.specs.Past.{Past, history, nothing}
 use Rattle.disco_core.specs.State as core
-use Rattle.disco_hub.specs.Levels.{AreLevels, put_copy}
-use Rattle.disco_hub.specs.Press.{Edition, Fits, IsInStep, IsLegal, IsPressed, IsPublishable, Note, begin, change, changes_in, copied_in, doc, edition_of, gone, note_of, step}
-use Rattle.disco_rounds.specs.Rounds.{Advances, Begins, Ends, KeySet, Round, Rounds, kept_keys, new_round, round_keys}
-use Rattle.disco_hub.specs.State.{AreKept, IsCopied, State, StandsFor, is_doc}
-use Rattle.disco_hub.specs.declared.copied.Copied.{Copied}
-use Rattle.disco_hub.specs.declared.copied.Copied.TheVariants as copied
-use Rattle.disco_hub.proofs.InStep.{begun_law, changes_stay, copied_law, nothing_noted, publishable_law, shown_law, shown_len}
-use Rattle.disco_hub.proofs.Notes.{changes-begin, changes-doc, changes-gone, changes_more, copied-begin, copied-change, copied-doc, copied-gone, legal_changes, legal_more}
-
--- ---- what was noted, one note on
-
-module _ (published pending : List Note) (h : List Entry) (edition : KeySet) where
-  grown : (ns : List Note) → (published ++ pending) ++ ns ≡ published ++ (pending ++ ns)
-  grown ns = append_assoc published pending ns
-
-  pub plain_pressed : (round : Option Round) (cs : List Entry) → IsPressed published pending h edition round → IsPressed published (pending ++ map change cs) (h ++ cs) edition round
-  plain_pressed round cs was = record {
-    changes = ap changes_in (sym (grown (map change cs))) ∙ changes_more (published ++ pending) cs ∙ ap (λ x. x ++ cs) was.changes;
-    legal = subst IsLegal (grown (map change cs)) (legal_changes cs (published ++ pending) was.legal);
-    publishable = was.publishable;
-    in_step = changes_stay published pending edition round cs was.in_step;
-  }
-
-  pub begun_pressed : (kept : Docs) → IsPressed published pending h edition None → IsPressed published (pending ++ begin ∷ []) h edition (Some (new_round (round_keys edition kept)))
-  begun_pressed kept was = record {
-    changes = ap changes_in (sym (grown (begin ∷ []))) ∙ changes-begin (published ++ pending) ∙ was.changes;
-    legal = subst IsLegal (grown (begin ∷ [])) (legal_more (published ++ pending) begin was.legal tt);
-    publishable = was.publishable;
-    in_step = begun_law published pending edition kept was.in_step;
-  }
-
-  -- a note of a copy
-  pub record IsNoted (x : Note) (k : DocKey) (kept : Bool) : Type 0 where
-    pub step_is : step x ≡ Some (k, kept) ∷ []
-    pub fits : Fits h x
-    pub same : changes_in ((published ++ pending) ++ x ∷ []) ≡ changes_in (published ++ pending)
-
-  pub copied_pressed : (x : Note) (done : List (DocKey × Bool)) (k : DocKey) (kept : Bool) (left : List DocKey) → IsNoted x k kept → IsPressed published pending h edition (Some (record { done = done; left = k ∷ left }))
-      → IsPressed published (pending ++ x ∷ []) h edition (Some (record { done = done ++ (k, kept) ∷ []; left = left }))
-  copied_pressed x done k kept left noted was = record {
-    changes = ap changes_in (sym (grown (x ∷ []))) ∙ noted.same ∙ was.changes;
-    legal = subst IsLegal (grown (x ∷ [])) (legal_more (published ++ pending) x was.legal (subst (λ g. Fits g x) (sym was.changes) noted.fits));
-    publishable = was.publishable;
-    in_step = copied_law published pending edition done k kept left x noted.step_is was.in_step;
-  }
-
-  pub published_pressed : (done : List (DocKey × Bool)) → IsPressed published pending h edition (Some (record { done = done; left = [] })) → IsPressed (published ++ pending) [] h (kept_keys done) None
-  published_pressed done was = record {
-    changes = ap changes_in (append-nil (published ++ pending)) ∙ was.changes;
-    legal = subst IsLegal (sym (append-nil (published ++ pending))) was.legal;
-    publishable = publishable_law published pending edition done was.in_step;
-    in_step = shown_law published pending edition done was.in_step;
-  }
-
--- nothing was noted yet
-pub first_pressed : IsPressed [] [] [] empty None
-first_pressed = record { changes = refl; legal = none_legal; publishable = refl; in_step = nothing_noted }
-  where
-    none_legal : IsLegal []
-    none_legal [] n after e = absurd (cc)
-    none_legal (b ∷ before) n after e = absurd (cc)
+use Rattle.disco_hub.specs.Levels.{AreLevels}
+use Rattle.disco_rounds.specs.Press.{put_copy}
+use Rattle.disco_rounds.specs.Press.{Edition, IsLegal, IsPressed, IsPublishable, Note, begin, change, copied_in, doc, edition_of, gone, note_of}
+use Rattle.disco_rounds.specs.Rounds.{Advances, Begins, Ends, Round, Rounds, kept_keys, round_keys}
+use Rattle.disco_hub.specs.State.{AreKept, IsCopied, State, StandsFor}
+use Rattle.disco_rounds.specs.Press.{is_doc}
+use Rattle.disco_rounds.specs.declared.copied.Copied.{Copied}
+use Rattle.disco_rounds.specs.declared.copied.Copied.TheVariants as copied
+use Rattle.disco_rounds.proofs.InStep.{publishable_law, shown_len}
+use Rattle.disco_rounds.proofs.Notes.{changes-doc, changes-gone, copied-begin, copied-change, copied-doc, copied-gone}
+use Rattle.disco_rounds.proofs.Pressed.{IsNoted, begun_pressed, copied_pressed, first_pressed, plain_pressed, published_pressed}
 
 -- ---- the levels, one deed on
 

@@ -1,6 +1,4 @@
 pub mod Cancels
 mod Documents
-pub mod InStep
 pub mod Levels
-pub mod Notes
-pub mod Shown
+pub mod Rests

@@ -5,9 +5,9 @@ use Rattle.disco_values.specs.Key.{key_cmp}
 use Rattle.disco_history.specs.Change.{Entry, key_of}
 use Rattle.disco_history.specs.Held.{record_at}
 use Rattle.disco_history.specs.Query.{is_named}
-use Rattle.disco_writer.specs.Documents.{asked_by}
+use Rattle.disco_documents.specs.Documents.{asked_by}
 use Rattle.disco_cache.specs.Docs.{Docs, Drops}
-use Rattle.disco_cache.specs.declared.key.DocKey.{DocKey}
+use Rattle.disco_query.specs.declared.key.DocKey.{DocKey}
 use Rattle.disco_cache.specs.declared.payload.Payload.{Payload}
 use Rattle.disco_hub.specs.State.{is_cached}
 

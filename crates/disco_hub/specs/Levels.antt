@@ -1,16 +1,10 @@
 -- What a publisher keeps of a hub beside it. Nothing here is to be believed: it serves invariants and private contracts.
-use Rattle.std.specs.Prelude.{◌≡◌, List, ◌++◌, Some, None, IfSome}
-use Rattle.std.specs.FinMap.{insert, remove}
+use Rattle.std.specs.Prelude.{◌≡◌, List, ◌++◌, IfSome}
 use Rattle.disco_core.specs.Past.{Past, history}
-use Rattle.disco_hub.specs.Press.{Edition, IsPressed, Note, copied_in}
+use Rattle.disco_rounds.specs.Press.{Edition, IsPressed, Note, copied_in}
 use Rattle.disco_hub.specs.State.{State, StandsFor}
-use Rattle.disco_hub.specs.declared.copied.Copied.{Copied}
-use Rattle.disco_hub.specs.declared.copied.Copied.TheVariants as copied
-
--- an edition with what was copied of a key
-abbrev pub put_copy : Edition → Copied → Edition
-put_copy m (copied.Doc d) = insert m d.value.key d.value
-put_copy m (copied.Drop k) = remove m k
+use Rattle.disco_rounds.specs.declared.copied.Copied.{Copied}
+use Rattle.disco_rounds.specs.declared.copied.Copied.TheVariants as copied
 
 -- the hub stands for what has happened, which is noted so, and in a round the next edition is what was copied since it began
 pub record AreLevels (hub : State) (next : Edition) (published pending : List Note) (p : Past) : Type 0 where

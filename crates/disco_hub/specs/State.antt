@@ -3,19 +3,20 @@ use Rattle.std.specs.Prelude.{◌≡◌, ◌≤◌, Bool, true, false, Some}
 use Rattle.std.specs.FinMap.{FinMap, get}
 use Rattle.disco_history.specs.Query.{is_absent}
 use Rattle.disco_history.specs.Registry.{reg}
-use Rattle.disco_writer.specs.Documents.{asked_by, is_delta}
-use Rattle.disco_writer.specs.declared.query.Query.{Query}
-use Rattle.disco_writer.specs.declared.query.Query.TheVariants as query
+use Rattle.disco_documents.specs.Documents.{asked_by}
+use Rattle.disco_query.specs.Query.{is_delta}
+use Rattle.disco_query.specs.declared.query.Query.{Query}
+use Rattle.disco_query.specs.declared.query.Query.TheVariants as query
 use Rattle.disco_cache.specs.Docs.{Docs}
-use Rattle.disco_cache.specs.Keys.{doc_cmp}
+use Rattle.disco_query.specs.Keys.{doc_cmp}
 use Rattle.disco_cache.specs.Payloads.{IsTrue}
-use Rattle.disco_cache.specs.declared.key.DocKey.{DocKey}
+use Rattle.disco_query.specs.declared.key.DocKey.{DocKey}
 use Rattle.disco_cache.specs.declared.payload.Payload.{Payload}
 use Rattle.disco_core.specs.Past.{Past, history}
 use Rattle.disco_core.specs.State as core
 use Rattle.disco_rounds.specs.Rounds.{Rounds}
-use Rattle.disco_hub.specs.declared.copied.Copied.{Copied}
-use Rattle.disco_hub.specs.declared.copied.Copied.TheVariants.{Doc, Drop}
+use Rattle.disco_rounds.specs.declared.copied.Copied.{Copied}
+use Rattle.disco_rounds.specs.declared.copied.Copied.TheVariants.{Doc, Drop}
 
 pub record State : Type 0 where
   pub core : core.State
@@ -51,16 +52,7 @@ pub record IsSameHub (old new : State) : Type 0 where
   pub docs : new.docs ≡ old.docs
   pub rounds : new.rounds ≡ old.rounds
 
--- the key of what was copied
-abbrev pub key_of_copy : Copied → DocKey
-key_of_copy (Doc d) = d.value.key
-key_of_copy (Drop k) = k
-
 -- what was copied of a key after what has happened: a document that may be served, or that there is none
 abbrev pub IsCopied : DocKey → Copied → Past → Type 0
 IsCopied k (Doc d) p = (d.value.key ≡ k) × MayServe d.value p
 IsCopied k (Drop j) p = (j ≡ k) × (is_absent (reg (history p)) (asked_by k.query) ≡ true)
-
-abbrev pub is_doc : Copied → Bool
-is_doc (Doc d) = true
-is_doc (Drop k) = false

@@ -7,7 +7,6 @@ use Rattle.disco_history.specs.Change.{Entry}
 use Rattle.disco_registry.specs.Op.{cancel}
 use Rattle.disco_hub.specs.Expiry.{cancel_of}
 use Rattle.disco_core.specs.Past.{Past, with_done}
-use Rattle.disco_rounds.specs.Rounds.{Rounds}
 use Rattle.disco_hub.specs.State.{State, StandsFor, rules_of}
 
 -- one cancel is accepted, and the hub then stands for what has happened with it
@@ -15,9 +14,5 @@ abbrev pub Cancels : State → State → ℕ → Key → Type 0
 Cancels old new now k = (p : Past) → StandsFor old p → (c : Option Entry) × (cancel_of (rules_of old) p now k ≡ Ok c) × StandsFor new (with_done (rules_of old).queue p now (cancel k) c)
 
 -- one cancel is refused, and the hub stands for what it stood for
-abbrev pub Declines : State → State → ℕ → Key → Fault → Type 0
-Declines old new now k e = (p : Past) → StandsFor old p → StandsFor new p × (e ≢ OutOfMemory → cancel_of (rules_of old) p now k ≡ Err e)
-
--- what no operation moves: the rounds, and how many documents may be kept
-abbrev pub beside : State → Rounds × ℕ
-beside s = (s.rounds, s.docs.max)
+abbrev pub CancelsNone : State → State → ℕ → Key → Fault → Type 0
+CancelsNone old new now k e = (p : Past) → StandsFor old p → StandsFor new p × (e ≢ OutOfMemory → cancel_of (rules_of old) p now k ≡ Err e)

@@ -3,12 +3,13 @@ ghost use Rattle.std.specs.Prelude.{◌≡◌, ◌<◌, IfErr, IfOk, OnErr, OnOk
 ghost use Rattle.disco_values.specs.declared.fault.Fault.TheVariants.{OutOfMemory};
 ghost use Rattle.disco_hub.specs.Expiry.{Expires};
 ghost use Rattle.disco_core.specs.Past.{Past, taken_in};
-ghost use Rattle.disco_hub.specs.State.{StandsFor, rules_of};
-ghost use Rattle.disco_hub.specs.Steps.{Cancels, Declines, beside};
+ghost use Rattle.disco_hub.specs.State.{StandsFor};
+ghost use Rattle.disco_hub.specs.Transitions.{KeepsRest};
+ghost use Rattle.disco_hub.specs.Steps.{Cancels, CancelsNone};
 
 use crate::hub::Hub;
-use disco_instance::{Fault, Key};
 use disco_registry::{Applied, Op};
+use disco_values::{Fault, Key};
 use std::alloc::{AllocError, Global};
 
 /// What a run did that cancels instances whose leases ran out.
@@ -33,9 +34,8 @@ fn copies(alloc: Global, keys: &[&Key]) -> Result<Vec<Key>, AllocError>
 
 fn cancel(hub: &mut Hub, key: &Key, now: u64) -> Result<Applied, Fault>
     ensures done { OnOk result (Cancels hub.old hub.new now key.now) }
-    ensures refused { IfErr result (Declines hub.old hub.new now key.now) }
-    ensures rules { rules_of hub.new ≡ rules_of hub.old }
-    ensures beside { beside hub.new ≡ beside hub.old }
+    ensures refused { IfErr result (CancelsNone hub.old hub.new now key.now) }
+    ensures rest { KeepsRest hub.old hub.new }
 {
     let key = key.clone()?;
     hub.write(Op::Cancel(key), now)
@@ -43,8 +43,7 @@ fn cancel(hub: &mut Hub, key: &Key, now: u64) -> Result<Applied, Fault>
 
 fn cancel_all(hub: &mut Hub, keys: &[Key], now: u64) -> Expired
     ensures history { Expires hub.old hub.new now (λ _. keys.now) result.gone result.stopped }
-    ensures rules { rules_of hub.new ≡ rules_of hub.old }
-    ensures beside { beside hub.new ≡ beside hub.old }
+    ensures rest { KeepsRest hub.old hub.new }
 {
     let mut gone = 0;
     for key in keys {
@@ -75,8 +74,7 @@ pub(crate) fn taken(alloc: Global, hub: &Hub, now: u64) -> Result<Vec<Key>, Faul
 /// Does the run at a moment.
 pub(crate) fn expire(alloc: Global, hub: &mut Hub, now: u64) -> Expired
     ensures history { Expires hub.old hub.new now (λ p. taken_in p now) result.gone result.stopped }
-    ensures rules { rules_of hub.new ≡ rules_of hub.old }
-    ensures beside { beside hub.new ≡ beside hub.old }
+    ensures rest { KeepsRest hub.old hub.new }
 {
     match taken(alloc, hub, now) {
         Ok(keys) => cancel_all(hub, keys.as_slice(), now),

@@ -1,29 +1,32 @@
 //! The hub: one state behind all documents, with the documents that are kept.
-ghost use Rattle.std.specs.Prelude.{◌≡◌, ◌≢◌, ◌<◌, List, [], IfErr, IfNone, IfOk, IfSome, OnErr, OnOk, Ok, None, Some, is_some, length, map, option_map, slice_get, true};
+ghost use Rattle.std.specs.Prelude.{◌≡◌, ◌≢◌, ◌<◌, [], IfErr, IfNone, IfOk, IfSome, OnErr, OnOk, Ok, None, Some, is_some, length, map, option_map, slice_get, true};
 ghost use Rattle.std.specs.FinMap as finmap;
-ghost use Rattle.disco_values.specs.declared.fault.Fault.TheVariants.{NoRound, OutOfMemory, RoundOpen};
-ghost use Rattle.disco_history.specs.Change.{Entry};
+ghost use Rattle.disco_values.specs.declared.fault.Fault.TheVariants.{NoRound, OutOfMemory};
 ghost use Rattle.disco_registry.specs.Accept.{Refuses, accepts};
 ghost use Rattle.disco_registry.specs.Commit.{Takes, changes_properly, done_by};
 ghost use Rattle.disco_registry.specs.Op.{Ask, ask_of};
 ghost use Rattle.disco_registry.specs.State as registry;
-ghost use Rattle.disco_writer.specs.Documents.{is_delta};
-ghost use Rattle.disco_cache.specs.Payloads.{IsTrue};
-ghost use Rattle.disco_core.specs.Past.{Past, cleaned, history, minute_closed, nothing, taken_in, with_done};
-ghost use Rattle.disco_core.specs.Refusals.{doc_of_id, doc_of_key, refusal_of, refusal_of_id};
+ghost use Rattle.disco_query.specs.Query.{is_delta};
+ghost use Rattle.disco_core.specs.Past.{Past, history, nothing, taken_in, with_done};
+ghost use Rattle.disco_core.specs.Refusals.{doc_of_key};
 ghost use Rattle.disco_core.specs.State.{AddsNoPlaces, IsFor, IsReady, IsSweptAfter, change_in, moment_in, rules};
 ghost use Rattle.disco_hub.specs.Expiry.{Expires};
-ghost use Rattle.disco_rounds.specs.Rounds.{Advances, Begins, Ends, StaysOpen, round_keys};
-ghost use Rattle.disco_hub.specs.State.{IsCopied, IsSameHub, MayServe, StandsFor, is_doc, rules_of};
+ghost use Rattle.disco_hub.specs.Transitions.{BeginsRound, Cleans, Closes, CopiesOne, Declines, EndsRound, HasNoneLeft, IsNextCopy, KeepsRest, Loads, MovesRounds, RefusesCopy, RefusesRound, Serves, ServesId, Withholds, WithholdsId, Writes};
+ghost use Rattle.disco_rounds.specs.Press.{put_copy};
+ghost use Rattle.disco_rounds.specs.Rounds.{Advances, StaysOpen};
+ghost use Rattle.disco_hub.specs.State.{IsCopied, IsSameHub, StandsFor, rules_of};
+ghost use Rattle.disco_rounds.specs.Press.{is_doc};
 
-use crate::copied::Copied;
 use crate::expiry::{Expired, expire, taken};
 use crate::keeping::{forget, keep};
-use disco_cache::{DocCache, DocKey, Payload};
-use disco_core::{Core, Minute, Ready, Settings};
-use disco_instance::{Fault, Form, Key};
+use disco_cache::{DocCache, Edition, Payload};
+use disco_core::{Core, Ready};
+use disco_lease::Minute;
+use disco_query::DocKey;
 use disco_registry::{Applied, Op};
-use disco_rounds::Rounds;
+use disco_rounds::{Copied, Rounds};
+use disco_settings::Settings;
+use disco_values::{Fault, Form, Key};
 use std::alloc::Global;
 use std::marker::Model;
 use std::sync::Arc;
@@ -97,9 +100,7 @@ impl Hub {
         ensures takes { Takes self.old.core.registry (change_in ready) self.new.core.registry }
         ensures swept { IsSweptAfter self.old.core.registry.held (change_in ready) self.new.core.vips self.new.core.leases }
         ensures history { (p : Past) (ask : Ask) → IsFor self.old.core ready ask → StandsFor self.old p → StandsFor self.new (with_done (rules_of self.old).queue p (moment_in ready) ask (done_by result)) }
-        ensures rules { rules_of self.new ≡ rules_of self.old }
-        ensures rounds { self.new.rounds ≡ self.old.rounds }
-        ensures room { self.new.docs.max ≡ self.old.docs.max }
+        ensures rest { KeepsRest self.old self.new }
     {
         forget(&mut self.cache, &self.core, &ready);
         self.core.commit(ready)
@@ -108,16 +109,10 @@ impl Hub {
     /// Does one operation at a moment in milliseconds, as the registry does it. Places of vips and
     /// leases that it leaves empty are given back, also where it is refused.
     pub fn write(&mut self, op: Op, now: u64) -> Result<Applied, Fault>
-        ensures done { IfOk result (λ a. accepts self.old.core.registry (ask_of op) now ≡ Ok (done_by a)) }
+        ensures done { IfOk result (λ a. Writes self.old self.new (ask_of op) now (done_by a)) }
         ensures proper { IfOk result (λ a. changes_properly a ≡ true) }
-        ensures refused { IfErr result (Refuses self.old.core.registry (ask_of op) now) }
-        ensures rules { rules_of self.new ≡ rules_of self.old }
-        ensures rounds { self.new.rounds ≡ self.old.rounds }
-        ensures room { self.new.docs.max ≡ self.old.docs.max }
-        ensures history { IfOk result (λ a. (p : Past) → StandsFor self.old p → StandsFor self.new (with_done (rules_of self.old).queue p now (ask_of op) (done_by a))) }
-        ensures refused_history { OnErr result ((p : Past) → StandsFor self.old p → StandsFor self.new p) }
-        ensures swept { IfOk result (λ a. IsSweptAfter self.old.core.registry.held (done_by a) self.new.core.vips self.new.core.leases) }
-        ensures given_back { OnErr result (AddsNoPlaces self.old.core self.new.core) }
+        ensures refused { IfErr result (Declines self.old self.new (ask_of op) now) }
+        ensures rest { KeepsRest self.old self.new }
     {
         let ready = self.ready(op, now)?;
         Ok(self.commit(ready))
@@ -127,12 +122,7 @@ impl Hub {
     /// to the first that isn't. Answers the version from which deltas start now. Kept documents stay,
     /// a delta with the base from which it starts. Takes no memory.
     pub fn clean(&mut self, now: u64) -> u64
-        ensures base { result ≡ self.new.core.queue.base }
-        ensures registry { self.new.core.registry ≡ self.old.core.registry }
-        ensures docs { self.new.docs ≡ self.old.docs }
-        ensures rounds { self.new.rounds ≡ self.old.rounds }
-        ensures rules { rules_of self.new ≡ rules_of self.old }
-        ensures history { (p : Past) → StandsFor self.old p → StandsFor self.new (cleaned (rules_of self.old).retention p now) }
+        ensures { Cleans self.old self.new now result }
     {
         self.core.clean(now)
     }
@@ -140,12 +130,7 @@ impl Hub {
     /// Closes a minute: keeps how many renewals were accepted since the last closing, and how many
     /// instances are held. Answers both. Takes no memory.
     pub fn close_minute(&mut self) -> Minute
-        ensures kept { (p : Past) → StandsFor self.old p → result ≡ (minute_closed p).closed }
-        ensures registry { self.new.core.registry ≡ self.old.core.registry }
-        ensures docs { self.new.docs ≡ self.old.docs }
-        ensures rounds { self.new.rounds ≡ self.old.rounds }
-        ensures rules { rules_of self.new ≡ rules_of self.old }
-        ensures history { (p : Past) → StandsFor self.old p → StandsFor self.new (minute_closed p) }
+        ensures { Closes self.old self.new result }
     {
         self.core.close_minute()
     }
@@ -176,9 +161,7 @@ impl Hub {
     /// `VersionsSpent`; what it cancelled until then stays so.
     pub fn expire(&mut self, now: u64) -> Expired
         ensures history { Expires self.old self.new now (λ p. taken_in p now) result.gone result.stopped }
-        ensures rules { rules_of self.new ≡ rules_of self.old }
-        ensures rounds { self.new.rounds ≡ self.old.rounds }
-        ensures room { self.new.docs.max ≡ self.old.docs.max }
+        ensures rest { KeepsRest self.old self.new }
     {
         expire(self.alloc, self, now)
     }
@@ -188,14 +171,9 @@ impl Hub {
     /// `NotFound` exactly where an app, a vip, a secure vip or an instance is asked for and there is
     /// none, as `DeltaDisabled` exactly for a delta where deltas are off, and as `OutOfMemory`.
     pub fn load(&mut self, key: &DocKey) -> Result<Arc<Payload, Global>, Fault>
-        ensures key { IfOk result (λ d. d.value.key ≡ key.now) }
-        ensures served { IfOk result (λ d. (p : Past) → StandsFor self.old p → MayServe d.value p) }
-        ensures allowed { IfOk result (λ _. (p : Past) → StandsFor self.old p → refusal_of (rules_of self.old).delta key.now.query (history p) ≡ None) }
-        ensures refused { IfErr result (λ e. e ≢ OutOfMemory → (p : Past) → StandsFor self.old p → refusal_of (rules_of self.old).delta key.now.query (history p) ≡ Some e) }
-        ensures history { (p : Past) → StandsFor self.old p → StandsFor self.new p }
-        ensures core { self.new.core ≡ self.old.core }
-        ensures room { self.new.docs.max ≡ self.old.docs.max }
-        ensures rounds { self.new.rounds ≡ self.old.rounds }
+        ensures served { IfOk result (λ d. Serves self.old (rules_of self.old).delta key.now d.value) }
+        ensures refused { IfErr result (Withholds self.old (rules_of self.old).delta key.now) }
+        ensures loads { Loads self.old self.new }
     {
         if key.query.is_delta() && !self.core.serves_deltas() {
             return Err(Fault::DeltaDisabled);
@@ -212,10 +190,8 @@ impl Hub {
 
     /// The document of an instance, as [`Hub::load`] gives it. It is not kept.
     pub fn instance(&self, key: &Key, form: Form) -> Result<Arc<Payload, Global>, Fault>
-        ensures key { IfOk result (λ d. d.value.key ≡ doc_of_key key.now form) }
-        ensures served { IfOk result (λ d. (p : Past) → StandsFor self.now p → MayServe d.value p) }
-        ensures allowed { IfOk result (λ _. (p : Past) → StandsFor self.now p → refusal_of true (doc_of_key key.now form).query (history p) ≡ None) }
-        ensures refused { IfErr result (λ e. e ≢ OutOfMemory → (p : Past) → StandsFor self.now p → refusal_of true (doc_of_key key.now form).query (history p) ≡ Some e) }
+        ensures served { IfOk result (λ d. Serves self.now true (doc_of_key key.now form) d.value) }
+        ensures refused { IfErr result (Withholds self.now true (doc_of_key key.now form)) }
     {
         self.core.instance(key, form)
     }
@@ -224,10 +200,8 @@ impl Hub {
     /// with the least app. It is not kept. Refused as `NotFound` exactly where there is none, and as
     /// `OutOfMemory`.
     pub fn by_id(&self, id: &str, form: Form) -> Result<Arc<Payload, Global>, Fault>
-        ensures key { IfOk result (λ d. (p : Past) → StandsFor self.now p → doc_of_id id.now form (history p) ≡ Some d.value.key) }
-        ensures served { IfOk result (λ d. (p : Past) → StandsFor self.now p → MayServe d.value p) }
-        ensures allowed { IfOk result (λ _. (p : Past) → StandsFor self.now p → refusal_of_id id.now (history p) ≡ None) }
-        ensures refused { IfErr result (λ e. e ≢ OutOfMemory → (p : Past) → StandsFor self.now p → refusal_of_id id.now (history p) ≡ Some e) }
+        ensures served { IfOk result (λ d. ServesId self.now id.now form d.value) }
+        ensures refused { IfErr result (WithholdsId self.now id.now) }
     {
         self.core.by_id(id, form)
     }
@@ -236,9 +210,8 @@ impl Hub {
     /// kept documents in their order until there are as many as may be kept. Answers how many keys
     /// it has. Refused as `RoundOpen` in an open round, and as `OutOfMemory`.
     pub fn begin(&mut self) -> Result<usize, Fault>
-        ensures begun { IfOk result (λ n. Begins (round_keys self.old.rounds.edition self.old.docs) n self.old.rounds self.new.rounds) }
-        ensures refused { IfErr result (λ e. e ≢ OutOfMemory → (e ≡ RoundOpen) × (self.old.rounds.round ≢ None)) }
-        ensures rest { self.new ≡ record self.old { rounds = self.new.rounds } }
+        ensures begun { IfOk result (BeginsRound self.old self.new) }
+        ensures refused { IfErr result (RefusesRound self.old) }
         ensures as_before { OnErr result (self.new ≡ self.old) }
     {
         self.rounds.begin(self.alloc, &self.cache)
@@ -249,10 +222,10 @@ impl Hub {
     /// left. The round stays as it was. Refused as `NoRound` where none is open, and as
     /// `OutOfMemory`.
     pub fn next_copy(&self) -> Result<Option<Copied>, Fault>
-        ensures copied { IfOk result (λ o. IfSome o (λ c. (p : Past) → StandsFor self.now p → IfSome self.now.rounds.round (λ r. IfSome (slice_get r.left 0) (λ k. IsCopied k c p)))) }
+        ensures copied { IfOk result (λ o. IfSome o (IsNextCopy self.now)) }
         ensures next { IfOk result (λ o. IfSome self.now.rounds.round (λ r. is_some (slice_get r.left 0) ≡ is_some o)) }
         ensures open { OnOk result (self.now.rounds.round ≢ None) }
-        ensures refused { IfErr result (λ e. e ≢ OutOfMemory → (e ≡ NoRound) × (self.now.rounds.round ≡ None)) }
+        ensures refused { IfErr result (RefusesCopy self.now) }
     {
         match self.rounds.first()? {
             Some(key) => Ok(Some(self.copied(key)?)),
@@ -280,7 +253,7 @@ impl Hub {
     pub fn mark(&mut self, kept: bool) -> Result<(), Fault>
         ensures marked { OnOk result (Advances kept self.old.rounds self.new.rounds) }
         ensures refused { IfErr result (λ e. (e ≡ NoRound) × IfSome self.old.rounds.round (λ r. r.left ≡ [])) }
-        ensures rest { self.new ≡ record self.old { rounds = self.new.rounds } }
+        ensures rest { MovesRounds self.old self.new }
         ensures as_before { OnErr result (self.new ≡ self.old) }
     {
         self.rounds.mark(kept)
@@ -289,17 +262,33 @@ impl Hub {
     /// Copies the first key that is left of the open round, as [`Hub::next_copy`] gives it, and takes
     /// it out, kept where it has a document. Refused as that, and then all is as before.
     pub fn copy_one(&mut self) -> Result<Option<Copied>, Fault>
-        ensures copied { IfOk result (λ o. IfSome o (λ c. (p : Past) → StandsFor self.old p → IfSome self.old.rounds.round (λ r. IfSome (slice_get r.left 0) (λ k. IsCopied k c p)))) }
-        ensures marked { IfOk result (λ o. IfSome o (λ c. Advances (is_doc c) self.old.rounds self.new.rounds)) }
-        ensures none { IfOk result (λ o. IfNone o ((self.new ≡ self.old) × IfSome self.old.rounds.round (λ r. r.left ≡ []) × (self.old.rounds.round ≢ None))) }
-        ensures refused { IfErr result (λ e. e ≢ OutOfMemory → (e ≡ NoRound) × (self.old.rounds.round ≡ None)) }
-        ensures rest { self.new ≡ record self.old { rounds = self.new.rounds } }
+        ensures copied { IfOk result (λ o. IfSome o (CopiesOne self.old self.new)) }
+        ensures none { IfOk result (λ o. IfNone o (HasNoneLeft self.old × (self.new ≡ self.old))) }
+        ensures refused { IfErr result (RefusesCopy self.old) }
         ensures as_before { OnErr result (self.new ≡ self.old) }
     {
         let Some(copied) = self.next_copy()? else {
             return Ok(None);
         };
-        self.mark(matches!(copied, Copied::Doc(_)))?;
+        let kept = copied.is_doc();
+        self.mark(kept)?;
+        Ok(Some(copied))
+    }
+
+    /// Copies as [`Hub::copy_one`] does, and puts what was copied into an edition too. Refused as that,
+    /// and then hub and edition are as before.
+    pub fn copy_into(&mut self, next: &mut Edition) -> Result<Option<Copied>, Fault>
+        ensures copied { IfOk result (λ o. IfSome o (CopiesOne self.old self.new)) }
+        ensures put { IfOk result (λ o. IfSome o (λ c. next.new ≡ put_copy next.old c)) }
+        ensures none { IfOk result (λ o. IfNone o (HasNoneLeft self.old × (self.new ≡ self.old) × (next.new ≡ next.old))) }
+        ensures refused { IfErr result (RefusesCopy self.old) }
+        ensures as_before { OnErr result ((self.new ≡ self.old) × (next.new ≡ next.old)) }
+    {
+        let Some(copied) = self.next_copy()? else {
+            return Ok(None);
+        };
+        copied.put_into(next)?;
+        self.mark(copied.is_doc())?;
         Ok(Some(copied))
     }
 
@@ -308,7 +297,7 @@ impl Hub {
     pub fn abandon(&mut self) -> Result<(), Fault>
         ensures abandoned { OnOk result (IfSome self.old.rounds.round (λ r. r.done ≡ []) × (self.old.rounds.round ≢ None) × (self.new.rounds ≡ record self.old.rounds { round = None })) }
         ensures refused { IfErr result (λ e. (e ≡ NoRound) × IfSome self.old.rounds.round (λ r. r.done ≢ [])) }
-        ensures rest { self.new ≡ record self.old { rounds = self.new.rounds } }
+        ensures rest { MovesRounds self.old self.new }
         ensures as_before { OnErr result (self.new ≡ self.old) }
     {
         self.rounds.abandon()
@@ -325,9 +314,8 @@ impl Hub {
     /// are. Takes no memory. Refused as `NoRound` where no round is open, and as `KeysLeft` where not
     /// all of its keys were copied.
     pub fn finish(&mut self) -> Result<usize, Fault>
-        ensures finished { IfOk result (λ n. Ends n self.old.rounds self.new.rounds) }
+        ensures finished { IfOk result (EndsRound self.old self.new) }
         ensures refused { IfErr result (λ e. StaysOpen e self.old.rounds.round) }
-        ensures rest { self.new ≡ record self.old { rounds = self.new.rounds } }
         ensures as_before { OnErr result (self.new ≡ self.old) }
     {
         self.rounds.finish()

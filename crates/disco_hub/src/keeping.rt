@@ -10,7 +10,7 @@ use disco_cache::{DocCache, Payload};
 use disco_core::{Core, Ready};
 use disco_history::Change;
 use disco_instance::Record;
-use disco_writer::Query;
+use disco_query::Query;
 use std::alloc::Global;
 use std::sync::Arc;
 

@@ -1,13 +1,12 @@
 //! One state behind all documents, with the documents that are kept until a change names them.
 #![tactic(auto)]
 
-mod copied;
 mod expiry;
 mod hub;
 mod keeping;
-pub mod laws;
 
-pub use copied::Copied;
-pub use disco_core::{Minute, Ready, Settings};
+pub use disco_core::Ready;
+pub use disco_rounds::Copied;
+pub use disco_settings::Settings;
 pub use expiry::Expired;
 pub use hub::Hub;

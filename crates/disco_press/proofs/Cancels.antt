@@ -3,15 +3,15 @@ use Rattle.std.proofs.Common.{◌≡◌, ℕ, ◌+◌, List, [], ◌++◌, map, 
 use Rattle.std.proofs.lemmas.List.{map-append}
 use Rattle.disco_values.specs.declared.fault.Fault.{Fault}
 use Rattle.disco_values.specs.declared.key.Key.{Key}
-use Rattle.disco_registry.specs.Accept.{accepts}
 use Rattle.disco_registry.specs.Commit.{done_by}
 use Rattle.disco_registry.specs.Op.{cancel}
 use Rattle.disco_registry.specs.declared.op.Applied.{Applied}
-use Rattle.disco_core.specs.Past.{Past, history, with_done}
+use Rattle.disco_core.specs.Past.{Past, history}
 use Rattle.disco_hub.specs.Expiry.{cancelled}
-use Rattle.disco_hub.specs.Press.{change}
+use Rattle.disco_rounds.specs.Press.{change}
 use Rattle.disco_hub.specs.State.{StandsFor, rules_of}
 use Rattle.disco_hub.specs.Steps.{Cancels}
+use Rattle.disco_hub.specs.Transitions.{Writes}
 use Rattle.disco_hub.proofs.Cancels.{Did, at_history, left, says}
 use Rattle.disco_press.specs.Desks.{DeskState, Notes, NotesCancels, NotesNothing, note_done}
 use Rattle.disco_press.specs.Steps.{CancelsOne}
@@ -19,19 +19,17 @@ use Rattle.disco_press.proofs.Keeping.{changes_done, history_done, noted_is}
 
 -- ---- one cancel
 
-one_gone : (old new : DeskState) (now : ℕ) (k key : Key) (a : Applied) → key ≡ k → accepts old.hub.core.registry (cancel key) now ≡ Ok (done_by a)
-    → ((p : Past) → StandsFor old.hub p → StandsFor new.hub (with_done (rules_of old.hub).queue p now (cancel key) (done_by a))) → Notes (note_done (done_by a)) old new → CancelsOne old new now k
-one_gone old new now k key a same done stands noted = subst (λ (x : Key). CancelsOne old new now x) same (record {
+one_gone : (old new : DeskState) (now : ℕ) (k key : Key) (a : Applied) → key ≡ k → Writes old.hub new.hub (cancel key) now (done_by a) → Notes (note_done (done_by a)) old new → CancelsOne old new now k
+one_gone old new now k key a same done noted = subst (λ (x : Key). CancelsOne old new now x) same (record {
   change = done_by a;
   noted = noted;
-  accepted = λ p s. sym (at_history old.hub p key now s) ∙ done;
-  stands = stands;
+  accepted = λ p s. sym (at_history old.hub p key now s) ∙ done.accepted;
+  stands = done.history;
 })
 
-pub all_done : (old new : DeskState) (now : ℕ) (k key : Key) (r : Result Applied Fault) → key ≡ k → IfOk r (λ a. accepts old.hub.core.registry (cancel key) now ≡ Ok (done_by a))
-    → IfOk r (λ a. (p : Past) → StandsFor old.hub p → StandsFor new.hub (with_done (rules_of old.hub).queue p now (cancel key) (done_by a))) → IfOk r (λ a. Notes (note_done (done_by a)) old new) → OnOk r (CancelsOne old new now k)
-all_done old new now k key (Ok a) same done stands noted = one_gone old new now k key a same done stands noted
-all_done old new now k key (Err e) same done stands noted = tt
+pub all_done : (old new : DeskState) (now : ℕ) (k key : Key) (r : Result Applied Fault) → key ≡ k → IfOk r (λ a. Writes old.hub new.hub (cancel key) now (done_by a)) → IfOk r (λ a. Notes (note_done (done_by a)) old new) → OnOk r (CancelsOne old new now k)
+all_done old new now k key (Ok a) same done noted = one_gone old new now k key a same done noted
+all_done old new now k key (Err e) same done noted = tt
 
 pub cancels : (old new : DeskState) (now : ℕ) (k : Key) → CancelsOne old new now k → Cancels old.hub new.hub now k
 cancels old new now k one = λ p stands. (one.change, one.accepted p stands, one.stands p stands)

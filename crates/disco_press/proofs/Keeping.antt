@@ -1,16 +1,18 @@
 -- What a desk keeps, one call on.
-use Rattle.std.proofs.Common.{◌≡◌, ℕ, ◌+◌, List, [], ◌∷◌, ◌++◌, length, map, Option, Some, None, IfSome, slice_get, refl, sym, ap, subst, ◌∙◌, arith, append-nil, length-append}
+use Rattle.std.proofs.Common.{◌≡◌, ℕ, ◌+◌, List, [], ◌∷◌, ◌++◌, length, map, Option, Some, None, refl, sym, ap, subst, ◌∙◌, arith, append-nil, length-append}
 use Rattle.std.proofs.lemmas.List.{map-append}
 use Rattle.std.specs.FinMap.{empty, len}
 use Rattle.disco_history.specs.Change.{Entry}
 use Rattle.disco_registry.specs.Op.{Ask}
 use Rattle.disco_queue.specs.Timed.{Timed}
 use Rattle.disco_core.specs.Past.{Past, history, nothing, with_done}
-use Rattle.disco_hub.specs.Levels.{AreLevels, put_copy}
-use Rattle.disco_hub.specs.Press.{Edition, IsLegal, IsPublishable, Note, begin, change, edition_of, note_of}
-use Rattle.disco_rounds.specs.Rounds.{Advances, Begins, Ends, round_keys}
-use Rattle.disco_hub.specs.State.{IsCopied, State, StandsFor, is_doc}
-use Rattle.disco_hub.specs.declared.copied.Copied.{Copied}
+use Rattle.disco_hub.specs.Levels.{AreLevels}
+use Rattle.disco_rounds.specs.Press.{put_copy}
+use Rattle.disco_rounds.specs.Press.{Edition, IsLegal, IsPublishable, Note, begin, change, edition_of, note_of}
+use Rattle.disco_rounds.specs.Rounds.{Ends}
+use Rattle.disco_hub.specs.State.{State, StandsFor}
+use Rattle.disco_hub.specs.Transitions.{BeginsRound, CopiesOne}
+use Rattle.disco_rounds.specs.declared.copied.Copied.{Copied}
 use Rattle.disco_hub.proofs.Levels.{begun_levels, copied_levels, ended_edition, ended_legal, ended_len, ended_levels, ended_publishable, first_levels, plain_levels}
 use Rattle.disco_press.specs.Desks.{note_done}
 use Rattle.disco_editions.specs.Editions.{IsEditionOf}
@@ -68,23 +70,23 @@ module _ (printed : List (List Note)) (roll : Rolled) (hub hub' : State) (next n
       quiet_kept (with_done most kept.past now ask None) (history_done most kept.past now ask None ∙ append-nil (history kept.past)) (stands kept.past kept.levels.stands) rounds same
 
   -- a round begins
-  pub begun_kept : (roll' : Rolled) (many : ℕ) → Begins (round_keys hub.rounds.edition hub.docs) many hub.rounds hub'.rounds → hub' ≡ record hub { rounds = hub'.rounds } → next' ≡ empty
+  pub begun_kept : (roll' : Rolled) (many : ℕ) → BeginsRound hub hub' many → next' ≡ empty
       → roll' ≡ record roll { pending = roll.pending ++ begin ∷ [] } → IsKept printed roll' hub' next' n
-  begun_kept roll' many begins rest none is = record {
+  begun_kept roll' many begins none is = record {
     shown = kept.shown ∙ ap (λ (r : Rolled). r.published) (sym is);
     past = kept.past;
-    levels = subst (λ (r : Rolled). AreLevels hub' next' (notes_in r.published) r.pending kept.past) (sym is) (begun_levels hub hub' next next' (notes_in roll.published) roll.pending kept.past kept.levels many begins rest none);
-    version = ap (λ (s : State). s.core.registry.version) rest ∙ kept.version;
+    levels = subst (λ (r : Rolled). AreLevels hub' next' (notes_in r.published) r.pending kept.past) (sym is) (begun_levels hub hub' next next' (notes_in roll.published) roll.pending kept.past kept.levels many begins.begun begins.rest none);
+    version = ap (λ (s : State). s.core.registry.version) begins.rest ∙ kept.version;
   }
 
   -- a key is copied
-  pub copied_kept : (roll' : Rolled) (c : Copied) → ((p : Past) → StandsFor hub p → IfSome hub.rounds.round (λ r. IfSome (slice_get r.left 0) (λ k. IsCopied k c p))) → Advances (is_doc c) hub.rounds hub'.rounds → hub' ≡ record hub { rounds = hub'.rounds } → next' ≡ put_copy next c
+  pub copied_kept : (roll' : Rolled) (c : Copied) → CopiesOne hub hub' c → next' ≡ put_copy next c
       → roll' ≡ record roll { pending = roll.pending ++ note_of c ∷ [] } → IsKept printed roll' hub' next' n
-  copied_kept roll' c copies marks rest put is = record {
+  copied_kept roll' c one put is = record {
     shown = kept.shown ∙ ap (λ (r : Rolled). r.published) (sym is);
     past = kept.past;
-    levels = subst (λ (r : Rolled). AreLevels hub' next' (notes_in r.published) r.pending kept.past) (sym is) (copied_levels hub hub' next next' (notes_in roll.published) roll.pending kept.past kept.levels c copies marks rest put);
-    version = ap (λ (s : State). s.core.registry.version) rest ∙ kept.version;
+    levels = subst (λ (r : Rolled). AreLevels hub' next' (notes_in r.published) r.pending kept.past) (sym is) (copied_levels hub hub' next next' (notes_in roll.published) roll.pending kept.past kept.levels c one.copied one.marked one.rest put);
+    version = ap (λ (s : State). s.core.registry.version) one.rest ∙ kept.version;
   }
 
   -- a round ends, and all that was noted is published

@@ -2,7 +2,7 @@
 use Rattle.std.specs.Prelude.{◌≡◌, List, [], ◌∷◌, ◌++◌, map, Option, Some, None}
 use Rattle.disco_history.specs.Change.{Entry}
 use Rattle.disco_core.specs.Past.{Past, history}
-use Rattle.disco_hub.specs.Press.{IsPressed, Note, change}
+use Rattle.disco_rounds.specs.Press.{IsPressed, Note, change}
 use Rattle.disco_hub.specs.State.{State, StandsFor}
 use Rattle.disco_editions.specs.Rolls.{notes_in}
 

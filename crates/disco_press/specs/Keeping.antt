@@ -2,7 +2,7 @@
 use Rattle.std.specs.Prelude.{◌≡◌, ℕ, List}
 use Rattle.disco_core.specs.Past.{Past}
 use Rattle.disco_hub.specs.Levels.{AreLevels}
-use Rattle.disco_hub.specs.Press.{Edition, Note}
+use Rattle.disco_rounds.specs.Press.{Edition, Note}
 use Rattle.disco_hub.specs.State.{State}
 use Rattle.disco_editions.specs.Rolls.{Rolled, notes_in}
 

@@ -1,4 +1,5 @@
 pub mod Desks
 pub mod Keeping
+pub mod Openings
 pub mod Seats
 pub mod Steps

@@ -1,6 +1,6 @@
 -- What a seat knows.
 use Rattle.std.specs.Prelude.{◌≡◌, ℕ, List}
-use Rattle.disco_hub.specs.Press.{Note}
+use Rattle.disco_rounds.specs.Press.{Note}
 
 -- the publications that it has seen or been told of, and how many changes it has made
 pub record SeatState : Type 0 where

@@ -1,19 +1,22 @@
 //! The desk: what lies under the lock.
-ghost use Rattle.std.specs.Prelude.{◌≡◌, ◌≢◌, ◌≤◌, [], IfErr, IfOk, None, Some, true};
+ghost use Rattle.std.specs.Prelude.{◌≡◌, ◌≤◌, [], IfErr, IfOk, true};
 ghost use Rattle.std.specs.FinMap as finmap;
 ghost use mathlib.Core.List.{IsPrefix};
-ghost use Rattle.disco_values.specs.declared.fault.Fault.TheVariants.{OutOfMemory};
-ghost use Rattle.disco_core.specs.Past.{Past, cleaned, history, minute_closed, nothing};
-ghost use Rattle.disco_core.specs.Refusals.{doc_of_id, doc_of_key, refusal_of, refusal_of_id};
+ghost use Rattle.disco_core.specs.Past.{nothing};
+ghost use Rattle.disco_core.specs.Refusals.{doc_of_key};
 ghost use Rattle.disco_core.specs.State.{rules};
-ghost use Rattle.disco_hub.specs.State.{MayServe, StandsFor, rules_of};
+ghost use Rattle.disco_hub.specs.State.{StandsFor, rules_of};
+ghost use Rattle.disco_hub.specs.Transitions.{Cleans, Closes, Loads, Serves, ServesId, Withholds, WithholdsId};
 ghost use Rattle.disco_press.specs.Desks.{IsValid, NotesNothing};
 
 use crate::seat::Seat;
-use disco_cache::{DocKey, Edition, Payload};
+use disco_cache::{Edition, Payload};
 use disco_editions::{Naming, Printer, Roll};
-use disco_hub::{Hub, Minute, Settings};
-use disco_instance::{Fault, Form, Key};
+use disco_hub::Hub;
+use disco_lease::Minute;
+use disco_query::DocKey;
+use disco_settings::Settings;
+use disco_values::{Fault, Form, Key};
 use std::alloc::Global;
 use std::marker::Model;
 use std::sync::ledger::Book;
@@ -87,14 +90,9 @@ impl<J: Naming> Desk<J> {
 
     /// The document that is asked for, as [`Hub::load`] gives it.
     pub fn load(&mut self, key: &DocKey) -> Result<Arc<Payload, Global>, Fault>
-        ensures key { IfOk result (λ d. d.value.key ≡ key.now) }
-        ensures served { IfOk result (λ d. (p : Past) → StandsFor self.old.hub p → MayServe d.value p) }
-        ensures allowed { IfOk result (λ _. (p : Past) → StandsFor self.old.hub p → refusal_of (rules_of self.old.hub).delta key.now.query (history p) ≡ None) }
-        ensures refused { IfErr result (λ e. e ≢ OutOfMemory → (p : Past) → StandsFor self.old.hub p → refusal_of (rules_of self.old.hub).delta key.now.query (history p) ≡ Some e) }
-        ensures history { (p : Past) → StandsFor self.old.hub p → StandsFor self.new.hub p }
-        ensures core { self.new.hub.core ≡ self.old.hub.core }
-        ensures room { self.new.hub.docs.max ≡ self.old.hub.docs.max }
-        ensures rounds { self.new.hub.rounds ≡ self.old.hub.rounds }
+        ensures served { IfOk result (λ d. Serves self.old.hub (rules_of self.old.hub).delta key.now d.value) }
+        ensures refused { IfErr result (Withholds self.old.hub (rules_of self.old.hub).delta key.now) }
+        ensures loads { Loads self.old.hub self.new.hub }
         ensures noted { NotesNothing self.old self.new }
     {
         self.hub.load(key)
@@ -102,20 +100,16 @@ impl<J: Naming> Desk<J> {
 
     /// The document of an instance, as [`Hub::instance`] gives it.
     pub fn instance(&self, key: &Key, form: Form) -> Result<Arc<Payload, Global>, Fault>
-        ensures key { IfOk result (λ d. d.value.key ≡ doc_of_key key.now form) }
-        ensures served { IfOk result (λ d. (p : Past) → StandsFor self.now.hub p → MayServe d.value p) }
-        ensures allowed { IfOk result (λ _. (p : Past) → StandsFor self.now.hub p → refusal_of true (doc_of_key key.now form).query (history p) ≡ None) }
-        ensures refused { IfErr result (λ e. e ≢ OutOfMemory → (p : Past) → StandsFor self.now.hub p → refusal_of true (doc_of_key key.now form).query (history p) ≡ Some e) }
+        ensures served { IfOk result (λ d. Serves self.now.hub true (doc_of_key key.now form) d.value) }
+        ensures refused { IfErr result (Withholds self.now.hub true (doc_of_key key.now form)) }
     {
         self.hub.instance(key, form)
     }
 
     /// The document of the instance of an id, as [`Hub::by_id`] gives it.
     pub fn by_id(&self, id: &str, form: Form) -> Result<Arc<Payload, Global>, Fault>
-        ensures key { IfOk result (λ d. (p : Past) → StandsFor self.now.hub p → doc_of_id id.now form (history p) ≡ Some d.value.key) }
-        ensures served { IfOk result (λ d. (p : Past) → StandsFor self.now.hub p → MayServe d.value p) }
-        ensures allowed { IfOk result (λ _. (p : Past) → StandsFor self.now.hub p → refusal_of_id id.now (history p) ≡ None) }
-        ensures refused { IfErr result (λ e. e ≢ OutOfMemory → (p : Past) → StandsFor self.now.hub p → refusal_of_id id.now (history p) ≡ Some e) }
+        ensures served { IfOk result (λ d. ServesId self.now.hub id.now form d.value) }
+        ensures refused { IfErr result (WithholdsId self.now.hub id.now) }
     {
         self.hub.by_id(id, form)
     }
@@ -123,12 +117,7 @@ impl<J: Naming> Desk<J> {
     /// Forgets recent changes, as [`Hub::clean`] does. Answers the version from which deltas start
     /// now. Takes no memory.
     pub fn clean(&mut self, now: u64) -> u64
-        ensures base { result ≡ self.new.hub.core.queue.base }
-        ensures registry { self.new.hub.core.registry ≡ self.old.hub.core.registry }
-        ensures docs { self.new.hub.docs ≡ self.old.hub.docs }
-        ensures rounds { self.new.hub.rounds ≡ self.old.hub.rounds }
-        ensures rules { rules_of self.new.hub ≡ rules_of self.old.hub }
-        ensures history { (p : Past) → StandsFor self.old.hub p → StandsFor self.new.hub (cleaned (rules_of self.old.hub).retention p now) }
+        ensures cleans { Cleans self.old.hub self.new.hub now result }
         ensures noted { NotesNothing self.old self.new }
     {
         self.hub.clean(now)
@@ -136,12 +125,7 @@ impl<J: Naming> Desk<J> {
 
     /// Closes a minute, as [`Hub::close_minute`] does. Takes no memory.
     pub fn close_minute(&mut self) -> Minute
-        ensures kept { (p : Past) → StandsFor self.old.hub p → result ≡ (minute_closed p).closed }
-        ensures registry { self.new.hub.core.registry ≡ self.old.hub.core.registry }
-        ensures docs { self.new.hub.docs ≡ self.old.hub.docs }
-        ensures rounds { self.new.hub.rounds ≡ self.old.hub.rounds }
-        ensures rules { rules_of self.new.hub ≡ rules_of self.old.hub }
-        ensures history { (p : Past) → StandsFor self.old.hub p → StandsFor self.new.hub (minute_closed p) }
+        ensures closes { Closes self.old.hub self.new.hub result }
         ensures noted { NotesNothing self.old self.new }
     {
         self.hub.close_minute()

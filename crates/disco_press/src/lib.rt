@@ -5,9 +5,12 @@ mod desk;
 mod opening;
 mod rounds;
 mod seat;
+mod seating;
 mod writing;
 
 pub use desk::Desk;
-pub use disco_editions::{Edition, Looked, Mark, Naming};
-pub use opening::{Opening, open};
+pub use disco_cache::Edition;
+pub use disco_editions::Looked;
+pub use opening::Opening;
 pub use seat::Seat;
+pub use seating::open;

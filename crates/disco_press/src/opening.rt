@@ -1,20 +1,9 @@
-//! Opening a desk with its seats.
-ghost use Rattle.std.specs.Prelude.{◌≡◌, ◌<◌, ◌+◌, ◌≤◌, [], IfErr, IfOk, All, vec_len};
-ghost use Rattle.disco_values.specs.declared.fault.Fault.TheVariants.{OutOfMemory};
-ghost use Rattle.disco_core.specs.Past.{nothing};
-ghost use Rattle.disco_core.specs.State.{rules};
-ghost use Rattle.disco_hub.specs.State.{StandsFor, rules_of};
-ghost use Rattle.disco_press.specs.Seats.{IsNew};
+//! What names a desk before it is there.
+ghost use Rattle.std.specs.Prelude.{◌≡◌, []};
 
-use crate::desk::Desk;
-use crate::seat::Seat;
-use disco_editions::{Mark, Naming, Printer, Roll};
-use disco_hub::Settings;
-use disco_instance::Fault;
+use disco_editions::Mark;
 use scroll::Scroll;
-use std::alloc::{AllocError, Global};
-use std::sync::Wait;
-use std::sync::ledger::{Blank, Share};
+use std::sync::ledger::Blank;
 
 /// As many seats as a desk may have, and one part that is left.
 const PARTS: u64 = 65;
@@ -36,72 +25,4 @@ impl Opening {
             blank: Blank::new(PARTS),
         }
     }
-}
-
-/// One seat.
-fn seat_of<J: Naming>(
-    printer: &Printer<J>,
-    roll: &Roll<J>,
-    rest: &mut Share<J>,
-) -> Result<Seat<J>, AllocError>
-    requires { (1 < rest.old.parts) × (rest.old.amount ≡ 0) }
-    ensures rest { IfOk result (λ _. (rest.new.parts + 1 ≡ rest.old.parts) × (rest.new.amount ≡ 0)) }
-    ensures seat { IfOk result (λ s. IsNew roll.now.published s) }
-{
-    let window = printer.window(roll.front())?;
-    let mine = rest.split_off(1, 0);
-    Ok(Seat::new(window, mine))
-}
-
-/// So many seats.
-fn seats_of<J: Naming>(
-    alloc: Global,
-    printer: &Printer<J>,
-    roll: &Roll<J>,
-    rest: &mut Share<J>,
-    count: usize,
-) -> Result<Vec<Seat<J>>, AllocError>
-    requires { (count < rest.old.parts) × (rest.old.amount ≡ 0) }
-    ensures count { IfOk result (λ v. vec_len v ≡ count) }
-    ensures seats { IfOk result (λ v. All (λ s. IsNew roll.now.published s) v.items) }
-{
-    let mut seats = Vec::new(alloc);
-    for _ in 0..count {
-        let seat = seat_of(printer, roll, rest)?;
-        seats.push(seat)?;
-    }
-    Ok(seats)
-}
-
-/// A desk over an empty registry within the limits of the settings, with so many seats, 1 to 64.
-/// Refused only as `OutOfMemory`.
-pub fn open<J: Naming, R: Wait>(
-    rt: &R,
-    alloc: Global,
-    settings: &Settings,
-    seats: usize,
-    opening: Opening,
-) -> Result<(Desk<J>, Vec<Seat<J>>), Fault>
-    requires seats { (0 < seats) × (seats ≤ 64) }
-    requires marks { opening.marks.name ≡ J.list }
-    requires name { opening.blank.name ≡ J.name }
-    requires parts { opening.blank.parts ≡ J.parts }
-    ensures nothing { IfOk result (λ r. (r.0.published ≡ []) × (r.0.pending ≡ [])) }
-    ensures empty { IfOk result (λ r. StandsFor r.0.hub nothing) }
-    ensures rules { IfOk result (λ r. rules_of r.0.hub ≡ rules settings.now) }
-    ensures room { IfOk result (λ r. r.0.hub.docs.max ≡ settings.now.entries) }
-    ensures count { IfOk result (λ r. vec_len r.1 ≡ seats) }
-    ensures seats { IfOk result (λ r. All (λ s. IsNew [] s) r.1.items) }
-    ensures memory { IfErr result (λ e. e ≡ OutOfMemory) }
-{
-    let Opening { marks, blank } = opening;
-    let (book, mut rest) = blank.open::<J>();
-    let roll = Roll::new(marks);
-    let page = roll.front().into_page();
-    let printer = Printer::new(alloc, page, seats)?;
-    let Ok(seats) = seats_of(alloc, &printer, &roll, &mut rest, seats) else {
-        printer.close(rt);
-        return Err(Fault::OutOfMemory);
-    };
-    Ok((Desk::new(alloc, settings, printer, roll, book), seats))
 }

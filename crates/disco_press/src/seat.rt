@@ -5,8 +5,8 @@ ghost use Rattle.disco_editions.specs.Looks.{Shows};
 ghost use Rattle.disco_editions.specs.Rolls.{notes_in};
 ghost use Rattle.disco_press.specs.Seats.{IsNew};
 
-use disco_cache::DocKey;
 use disco_editions::{Front, Looked, Naming, Window};
+use disco_query::DocKey;
 use std::marker::Model;
 use std::sync::ledger::{Book, Share};
 

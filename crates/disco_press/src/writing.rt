@@ -1,13 +1,12 @@
 //! Writes, which note their changes.
 ghost use Rattle.std.specs.Prelude.{◌≡◌, ◌+◌, IfErr, IfOk, OnErr, OnOk, length, true};
-ghost use Rattle.disco_registry.specs.Accept.{Refuses, accepts};
 ghost use Rattle.disco_registry.specs.Commit.{changes_properly, done_by};
 ghost use Rattle.disco_registry.specs.Op.{ask_of};
-ghost use Rattle.disco_core.specs.Past.{Past, taken_in, with_done};
-ghost use Rattle.disco_core.specs.State.{AddsNoPlaces, IsSweptAfter};
+ghost use Rattle.disco_core.specs.Past.{taken_in};
 ghost use Rattle.disco_hub.specs.Expiry.{Expires, cancelled};
-ghost use Rattle.disco_hub.specs.State.{StandsFor, rules_of};
-ghost use Rattle.disco_hub.specs.Steps.{Declines, beside};
+ghost use Rattle.disco_hub.specs.State.{rules_of};
+ghost use Rattle.disco_hub.specs.Steps.{CancelsNone};
+ghost use Rattle.disco_hub.specs.Transitions.{Declines, KeepsRest, Writes};
 ghost use Rattle.disco_press.specs.Desks.{Notes, NotesCancels, NotesNothing, note_done};
 ghost use Rattle.disco_press.specs.Steps.{CancelsOne};
 
@@ -15,25 +14,19 @@ use crate::desk::Desk;
 use crate::seat::Seat;
 use disco_editions::Naming;
 use disco_hub::Expired;
-use disco_instance::{Fault, Key};
 use disco_registry::{Applied, Op};
+use disco_values::{Fault, Key};
 
 impl<J: Naming> Desk<J> {
     /// Does one operation at a moment in milliseconds, as [`disco_hub::Hub::write`] does, and notes
     /// its change, if it makes one. No seat counts it.
     pub fn write(&mut self, op: Op, now: u64) -> Result<Applied, Fault>
-        ensures done { IfOk result (λ a. accepts self.old.hub.core.registry (ask_of op) now ≡ Ok (done_by a)) }
+        ensures done { IfOk result (λ a. Writes self.old.hub self.new.hub (ask_of op) now (done_by a)) }
         ensures proper { IfOk result (λ a. changes_properly a ≡ true) }
-        ensures refused { IfErr result (Refuses self.old.hub.core.registry (ask_of op) now) }
-        ensures rules { rules_of self.new.hub ≡ rules_of self.old.hub }
-        ensures rounds { self.new.hub.rounds ≡ self.old.hub.rounds }
-        ensures room { self.new.hub.docs.max ≡ self.old.hub.docs.max }
-        ensures history { IfOk result (λ a. (p : Past) → StandsFor self.old.hub p → StandsFor self.new.hub (with_done (rules_of self.old.hub).queue p now (ask_of op) (done_by a))) }
-        ensures refused_history { OnErr result ((p : Past) → StandsFor self.old.hub p → StandsFor self.new.hub p) }
-        ensures swept { IfOk result (λ a. IsSweptAfter self.old.hub.core.registry.held (done_by a) self.new.hub.core.vips self.new.hub.core.leases) }
-        ensures given_back { OnErr result (AddsNoPlaces self.old.hub.core self.new.hub.core) }
         ensures noted { IfOk result (λ a. Notes (note_done (done_by a)) self.old self.new) }
+        ensures refused { IfErr result (Declines self.old.hub self.new.hub (ask_of op) now) }
         ensures not_noted { OnErr result (NotesNothing self.old self.new) }
+        ensures rest { KeepsRest self.old.hub self.new.hub }
     {
         let applied = self.hub.write(op, now)?;
         let _version = self.hub.version();
@@ -49,20 +42,14 @@ impl<J: Naming> Desk<J> {
     /// Does one operation as [`Desk::write`] does, for a seat, which counts its change, if it makes
     /// one.
     pub fn write_as(&mut self, seat: &mut Seat<J>, op: Op, now: u64) -> Result<Applied, Fault>
-        ensures done { IfOk result (λ a. accepts self.old.hub.core.registry (ask_of op) now ≡ Ok (done_by a)) }
+        ensures done { IfOk result (λ a. Writes self.old.hub self.new.hub (ask_of op) now (done_by a)) }
         ensures proper { IfOk result (λ a. changes_properly a ≡ true) }
-        ensures refused { IfErr result (Refuses self.old.hub.core.registry (ask_of op) now) }
-        ensures rules { rules_of self.new.hub ≡ rules_of self.old.hub }
-        ensures rounds { self.new.hub.rounds ≡ self.old.hub.rounds }
-        ensures room { self.new.hub.docs.max ≡ self.old.hub.docs.max }
-        ensures history { IfOk result (λ a. (p : Past) → StandsFor self.old.hub p → StandsFor self.new.hub (with_done (rules_of self.old.hub).queue p now (ask_of op) (done_by a))) }
-        ensures refused_history { OnErr result ((p : Past) → StandsFor self.old.hub p → StandsFor self.new.hub p) }
-        ensures swept { IfOk result (λ a. IsSweptAfter self.old.hub.core.registry.held (done_by a) self.new.hub.core.vips self.new.hub.core.leases) }
-        ensures given_back { OnErr result (AddsNoPlaces self.old.hub.core self.new.hub.core) }
         ensures noted { IfOk result (λ a. Notes (note_done (done_by a)) self.old self.new) }
-        ensures not_noted { OnErr result (NotesNothing self.old self.new) }
         ensures count { IfOk result (λ a. seat.new ≡ record seat.old { changes = seat.old.changes + length (note_done (done_by a)) }) }
+        ensures refused { IfErr result (Declines self.old.hub self.new.hub (ask_of op) now) }
+        ensures not_noted { OnErr result (NotesNothing self.old self.new) }
         ensures not_counted { OnErr result (seat.new ≡ seat.old) }
+        ensures rest { KeepsRest self.old.hub self.new.hub }
     {
         let applied = self.hub.write(op, now)?;
         let _version = self.hub.version();
@@ -79,10 +66,8 @@ impl<J: Naming> Desk<J> {
     /// cancel. No seat counts them.
     pub fn expire(&mut self, now: u64) -> Expired
         ensures history { Expires self.old.hub self.new.hub now (λ p. taken_in p now) result.gone result.stopped }
-        ensures rules { rules_of self.new.hub ≡ rules_of self.old.hub }
-        ensures rounds { self.new.hub.rounds ≡ self.old.hub.rounds }
-        ensures room { self.new.hub.docs.max ≡ self.old.hub.docs.max }
         ensures noted { NotesCancels self.old self.new (λ p. cancelled (rules_of self.old.hub) p now (taken_in p now) result.gone) }
+        ensures rest { KeepsRest self.old.hub self.new.hub }
     {
         match self.hub.taken(now) {
             Ok(keys) => cancel_all(self, keys.as_slice(), now),
@@ -97,10 +82,9 @@ impl<J: Naming> Desk<J> {
 /// Cancels one instance.
 fn cancel<J: Naming>(desk: &mut Desk<J>, key: &Key, now: u64) -> Result<Applied, Fault>
     ensures done { OnOk result (CancelsOne desk.old desk.new now key.now) }
-    ensures refused { IfErr result (Declines desk.old.hub desk.new.hub now key.now) }
+    ensures refused { IfErr result (CancelsNone desk.old.hub desk.new.hub now key.now) }
     ensures not_noted { OnErr result (NotesNothing desk.old desk.new) }
-    ensures rules { rules_of desk.new.hub ≡ rules_of desk.old.hub }
-    ensures beside { beside desk.new.hub ≡ beside desk.old.hub }
+    ensures rest { KeepsRest desk.old.hub desk.new.hub }
 {
     let key = key.clone()?;
     desk.write(Op::Cancel(key), now)
@@ -109,8 +93,7 @@ fn cancel<J: Naming>(desk: &mut Desk<J>, key: &Key, now: u64) -> Result<Applied,
 /// Cancels these instances one by one, up to the first cancel that is refused.
 fn cancel_all<J: Naming>(desk: &mut Desk<J>, keys: &[Key], now: u64) -> Expired
     ensures history { Expires desk.old.hub desk.new.hub now (λ _. keys.now) result.gone result.stopped }
-    ensures rules { rules_of desk.new.hub ≡ rules_of desk.old.hub }
-    ensures beside { beside desk.new.hub ≡ beside desk.old.hub }
+    ensures rest { KeepsRest desk.old.hub desk.new.hub }
     ensures noted { NotesCancels desk.old desk.new (λ p. cancelled (rules_of desk.old.hub) p now keys.now result.gone) }
 {
     let mut gone = 0;

@@ -1,9 +1,9 @@
 -- What a publisher does to a desk.
 use Rattle.std.specs.Prelude.{◌≡◌, [], ◌∷◌, ◌++◌, None}
-use Rattle.disco_hub.specs.Press.{begin, note_of}
+use Rattle.disco_rounds.specs.Press.{begin, note_of}
 use Rattle.disco_rounds.specs.Rounds.{Advances}
-use Rattle.disco_hub.specs.State.{is_doc}
-use Rattle.disco_hub.specs.declared.copied.Copied.{Copied}
+use Rattle.disco_rounds.specs.Press.{is_doc}
+use Rattle.disco_rounds.specs.declared.copied.Copied.{Copied}
 use Rattle.disco_press.specs.Desks.{DeskState, Notes}
 use Rattle.disco_server.specs.declared.publishing.Step.{Step}
 use Rattle.disco_server.specs.declared.publishing.Step.TheVariants as step

@@ -3,8 +3,9 @@ ghost use Rattle.std.specs.Prelude.{IsFalse};
 ghost use Rattle.disco_reader.specs.Streams.{is_spent};
 
 use crate::ending::end_connection;
-use disco_http::{Counted, End, Reader, Service, Writer, serve};
+use disco_http::{End, Service, Writer, serve};
 use disco_message::Limits;
+use disco_reader::{Counted, Reader};
 use std::alloc::{AllocError, Global};
 use std::io;
 use std::io::Empty;

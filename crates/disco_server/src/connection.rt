@@ -10,7 +10,8 @@ ghost use Rattle.disco_server.specs.Serving.{Serves};
 
 use crate::clock::Clock;
 use crate::service::HubService;
-use disco_http::{Reader, Served, Sink, Source, Writer, serve};
+use disco_http::{Served, Writer, serve};
+use disco_reader::{Reader, Sink, Source};
 use std::alloc::Global;
 
 /// Answers the requests of a connection over a hub, one after another, until it ends.

@@ -2,7 +2,7 @@
 ghost use Rattle.std.specs.Prelude.{◌≡◌, ◌+◌, ◌-◌, ◌^◌, ◌↔◌, ◌⊎◌, IfErr, IsSome, IsTrue, MatchResult, None, Some, min};
 ghost use Rattle.disco_values.specs.declared.fault.Fault.TheVariants.{OutOfMemory, ReadFailed};
 
-use disco_instance::Fault;
+use disco_values::Fault;
 
 /// Why no more connections are taken.
 #[derive(Clone, Copy, Debug)]

@@ -4,7 +4,7 @@ ghost use Rattle.std.specs.Io.KnownBytes.{IsAtEnd};
 ghost use Rattle.disco_reader.specs.Causes.{Raises};
 ghost use Rattle.disco_server.specs.Draining.{GoesPast};
 
-use disco_http::{Failed, Source};
+use disco_reader::{Failed, Source};
 
 /// Bytes of one read.
 const PIECE: usize = 4_096;

@@ -3,8 +3,9 @@ ghost use Rattle.std.specs.Prelude.{◌≡◌};
 ghost use Rattle.disco_server.specs.Ending.{has_last_reply};
 
 use crate::draining::drain;
-use disco_http::{Counted, End};
-use disco_instance::Fault;
+use disco_http::End;
+use disco_reader::Counted;
+use disco_values::Fault;
 use std::net::{Shutdown, TcpStream};
 use std::time::Duration;
 

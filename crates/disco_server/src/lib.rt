@@ -24,7 +24,7 @@ mod worker;
 pub use clock::Clock;
 pub use connection::serve_hub;
 pub use desk_service::{DeskService, Shop};
-pub use disco_answers::{Shared, answer, answer_hub, answer_on};
+pub use disco_answers::{answer, answer_hub, answer_on};
 pub use disco_routes::Routes;
 pub use draining::drain;
 pub use gate::{Gate, Open, Point};

@@ -1,10 +1,12 @@
 //! The steps of a publisher.
-ghost use Rattle.std.specs.Prelude.{◌≡◌, ◌≢◌, [], IfErr, IfOk, IfSome, None, OnErr};
+ghost use Rattle.std.specs.Prelude.{◌≡◌, IfErr, IfOk, None, OnErr};
 ghost use Rattle.disco_values.specs.declared.fault.Fault.TheVariants.{OutOfMemory};
+ghost use Rattle.disco_hub.specs.Transitions.{HasNoneLeft, MovesRounds};
 ghost use Rattle.disco_server.specs.Publishing.{Moves};
 
-use disco_instance::Fault;
-use disco_press::{Desk, Naming};
+use disco_editions::Naming;
+use disco_press::Desk;
+use disco_values::Fault;
 use std::sync::{Mutex, MutexGuard, Wait};
 
 /// What a step of a publisher did.
@@ -22,7 +24,7 @@ pub enum Step {
 fn begin<J: Naming>(desk: &mut Desk<J>) -> Result<Step, Fault>
     requires { desk.old.hub.rounds.round ≡ None }
     ensures moves { IfOk result (λ step. Moves desk.old step desk.new) }
-    ensures rest { desk.new.hub ≡ record desk.old.hub { rounds = desk.new.hub.rounds } }
+    ensures rest { MovesRounds desk.old.hub desk.new.hub }
     ensures refused { IfErr result (λ fault. fault ≡ OutOfMemory) }
     ensures as_before { OnErr result (desk.new ≡ desk.old) }
 {
@@ -34,10 +36,9 @@ fn begin<J: Naming>(desk: &mut Desk<J>) -> Result<Step, Fault>
 
 /// Publishes the open round, of which no key is left.
 fn publish<J: Naming, R: Wait>(rt: &R, desk: &mut Desk<J>) -> Step
-    requires left { IfSome desk.old.hub.rounds.round (λ r. r.left ≡ []) }
-    requires round { desk.old.hub.rounds.round ≢ None }
+    requires { HasNoneLeft desk.old.hub }
     ensures moves { Moves desk.old result desk.new }
-    ensures rest { desk.new.hub ≡ record desk.old.hub { rounds = desk.new.hub.rounds } }
+    ensures rest { MovesRounds desk.old.hub desk.new.hub }
 {
     let Ok(_) = desk.publish(rt) else {
         unreachable!()
@@ -50,7 +51,7 @@ fn publish<J: Naming, R: Wait>(rt: &R, desk: &mut Desk<J>) -> Step
 /// then the desk is as it was.
 pub fn publish_step<J: Naming, R: Wait>(rt: &R, desk: &mut Desk<J>) -> Result<Step, Fault>
     ensures moves { IfOk result (λ step. Moves desk.old step desk.new) }
-    ensures rest { desk.new.hub ≡ record desk.old.hub { rounds = desk.new.hub.rounds } }
+    ensures rest { MovesRounds desk.old.hub desk.new.hub }
     ensures refused { IfErr result (λ fault. fault ≡ OutOfMemory) }
     ensures as_before { OnErr result (desk.new ≡ desk.old) }
 {

@@ -3,7 +3,7 @@ ghost use Rattle.std.specs.Prelude.{◌≡◌, ◌+◌, ◌-◌, ◌^◌, IfSome
 ghost use Rattle.disco_server.specs.Doors.{IsOpen};
 
 use crate::door::{Door, Refusal};
-use disco_http::Failed;
+use disco_reader::Failed;
 use std::io::ErrorKind;
 use std::net::OpenListener;
 use std::sync::{Mutex, Wait};

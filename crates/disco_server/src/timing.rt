@@ -5,8 +5,9 @@ ghost use Rattle.disco_values.specs.declared.fault.Fault.TheVariants.{ReadFailed
 use crate::clock::Clock;
 use crate::publishing::{Step, publish_step_locked};
 use crate::timer::Timer;
-use disco_instance::Fault;
-use disco_press::{Desk, Naming};
+use disco_editions::Naming;
+use disco_press::Desk;
+use disco_values::Fault;
 use std::sync::atomic::{AtomicBool, Ordering};
 use std::sync::{Mutex, MutexGuard, Wait};
 use std::thread::Threads;

@@ -9,10 +9,10 @@ use Rattle.disco_history.specs.Change.{Entry}
 use Rattle.disco_registry.specs.Op.{Ask, cancel}
 use Rattle.disco_values.specs.declared.key.Key.{Key}
 use Rattle.disco_queue.specs.Timed.{Timed, changes}
-use Rattle.disco_writer.specs.Documents.{is_delta}
-use Rattle.disco_cache.specs.declared.key.DocKey.{DocKey}
+use Rattle.disco_query.specs.Query.{is_delta}
+use Rattle.disco_query.specs.declared.key.DocKey.{DocKey}
 use Rattle.disco_cache.specs.declared.payload.Payload.{Payload}
-use Rattle.disco_hub.specs.Press.{edition_of}
+use Rattle.disco_rounds.specs.Press.{edition_of}
 use Rattle.disco_hub.specs.Expiry.{after_next, cancel_of, cancelled}
 use Rattle.disco_core.specs.Past.{Past, after_ask, history, taken_in}
 use Rattle.disco_core.specs.State.{Rules}

@@ -6,10 +6,11 @@ use Rattle.std.proofs.lemmas.Option.{slice_get-get_or, same_Some}
 use Rattle.disco_cache.specs.declared.payload.Payload.{Payload}
 use Rattle.disco_core.specs.State.{Rules}
 use Rattle.disco_core.specs.Past.{history, nothing}
-use Rattle.disco_hub.specs.Press.{IsPublishable}
+use Rattle.disco_rounds.specs.Press.{IsPublishable}
 use Rattle.disco_rounds.specs.Rounds.{KeySet, Round, Rounds}
 use Rattle.disco_hub.specs.State.{MayServe, StandsFor, rules_of}
-use Rattle.disco_hub.proofs.Levels.{first_levels, first_pressed}
+use Rattle.disco_hub.proofs.Levels.{first_levels}
+use Rattle.disco_rounds.proofs.Pressed.{first_pressed}
 use Rattle.std.specs.FinMap.{empty}
 use Rattle.disco_world.specs.Answers.{AreAnswers, AreServed, IsAnswer, IsFirstBadEvent, IsPressed, IsServed, key_asked}
 use Rattle.disco_world.specs.Levels.{AreLevelsOf, Goes}
@@ -17,7 +18,7 @@ use Rattle.disco_world.specs.declared.levels.Levels.{Levels}
 use Rattle.disco_world.proofs.Editions.{Sees, ShowsFresh, sees_at}
 use Rattle.disco_values.specs.declared.fault.Fault.{Fault}
 use Rattle.disco_values.specs.declared.fault.Fault.TheVariants.{BadEvent}
-use Rattle.disco_cache.specs.declared.key.DocKey.{DocKey}
+use Rattle.disco_query.specs.declared.key.DocKey.{DocKey}
 use Rattle.disco_world.specs.Events.{Deed, World, writes, loads, cleans, closes, expires, begins, copies, publishes, looks, takes, shows, bad, after, after_at, deed, new_world, world}
 use Rattle.disco_world.specs.Steps.{AreHeld}
 use Rattle.disco_world.specs.declared.clients.Client.{Client}

@@ -15,10 +15,11 @@ use Rattle.disco_history.specs.Query.{all}
 use Rattle.disco_history.proofs.Restrictions.{values-said_all}
 use Rattle.disco_wire.specs.Documents.{document_of}
 use Rattle.disco_wire.specs.Meaning.{Meaning}
-use Rattle.disco_writer.specs.Documents.{IsTrueFor, is_delta, meaning_for, mentioned, kind}
-use Rattle.disco_writer.specs.Rows.{mentions_in}
-use Rattle.disco_writer.specs.declared.query.Query.{Query}
-use Rattle.disco_writer.specs.declared.query.Query.TheVariants as query
+use Rattle.disco_documents.specs.Documents.{IsTrueFor, meaning_for, mentioned, kind}
+use Rattle.disco_query.specs.Query.{is_delta}
+use Rattle.disco_documents.specs.Rows.{mentions_in}
+use Rattle.disco_query.specs.declared.query.Query.{Query}
+use Rattle.disco_query.specs.declared.query.Query.TheVariants as query
 use Rattle.disco_cache.specs.Payloads.{IsTrue}
 use Rattle.disco_cache.specs.declared.payload.Payload.{Payload}
 use Rattle.disco_client.specs.Tracks.{moved}

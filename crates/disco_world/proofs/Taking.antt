@@ -7,7 +7,7 @@ use Rattle.disco_client.specs.Copies.{hash_equal}
 use Rattle.disco_client.specs.Tracks.{moved}
 use Rattle.disco_history.specs.Mentions.{copied, overlay}
 use Rattle.disco_wire.specs.Meaning.{Meaning}
-use Rattle.disco_writer.specs.Documents.{is_delta}
+use Rattle.disco_query.specs.Query.{is_delta}
 use Rattle.disco_cache.specs.declared.payload.Payload.{Payload}
 use Rattle.disco_world.specs.Clients.{IsTold, clients_with, taken, taken_by}
 use Rattle.disco_world.specs.Steps.{IsMeant}

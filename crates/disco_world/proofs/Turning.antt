@@ -7,18 +7,20 @@ use Rattle.disco_values.specs.declared.fault.Fault.{Fault}
 use Rattle.disco_values.specs.declared.fault.Fault.TheVariants.{KeysLeft}
 use Rattle.disco_history.specs.Query.{is_absent}
 use Rattle.disco_history.specs.Registry.{reg}
-use Rattle.disco_writer.specs.Documents.{asked_by}
+use Rattle.disco_documents.specs.Documents.{asked_by}
 use Rattle.disco_cache.specs.Docs.{Docs}
-use Rattle.disco_cache.specs.declared.key.DocKey.{DocKey}
-use Rattle.disco_cache.proofs.Orders.{docs_total}
+use Rattle.disco_query.specs.declared.key.DocKey.{DocKey}
+use Rattle.disco_query.proofs.Orders.{docs_total}
 use Rattle.disco_core.specs.Past.{Past, history}
 use Rattle.disco_core.specs.State.{Rules}
 use Rattle.disco_hub.specs.Levels.{AreLevels}
-use Rattle.disco_hub.specs.Press.{Edition, change, edition_of, steps_to}
-use Rattle.disco_rounds.specs.Rounds.{Begins, Ends, KeySet, Round, Rounds, StaysOpen, add_within, round_keys}
-use Rattle.disco_hub.specs.State.{IsCopied, StandsFor, is_doc, key_of_copy, rules_of}
-use Rattle.disco_hub.specs.declared.copied.Copied.{Copied}
-use Rattle.disco_hub.specs.declared.copied.Copied.TheVariants as copied
+use Rattle.disco_rounds.specs.Press.{Edition, change, edition_of, steps_to}
+use Rattle.disco_rounds.specs.Rounds.{KeySet, Round, Rounds, StaysOpen, add_within, round_keys}
+use Rattle.disco_hub.specs.State.{IsCopied, StandsFor, rules_of}
+use Rattle.disco_hub.specs.Transitions.{BeginsRound, EndsRound}
+use Rattle.disco_rounds.specs.Press.{is_doc, key_of_copy}
+use Rattle.disco_rounds.specs.declared.copied.Copied.{Copied}
+use Rattle.disco_rounds.specs.declared.copied.Copied.TheVariants as copied
 use Rattle.disco_rounds.proofs.KeySets.{same_len}
 use Rattle.disco_hub.proofs.Levels.{begun_levels, copied_is, copied_levels, ended_edition, ended_levels, plain_levels}
 use Rattle.disco_world.specs.Answers.{IsAnswer}
@@ -79,12 +81,13 @@ module _ (old new : Levels) (w : World) (was : AreLevelsOf old w) where
   abbrev s : Press
   s = w.press
 
-  pub begun_turns : (n : ℕ) → Begins (round_keys old.hub.rounds.edition old.hub.docs) n old.hub.rounds new.hub.rounds → new.hub ≡ record old.hub { rounds = new.hub.rounds } → new.published ≡ old.published → new.next ≡ empty
+  pub begun_turns : (n : ℕ) → BeginsRound old.hub new.hub n → new.published ≡ old.published → new.next ≡ empty
       → IsAnswer (rules_of old.hub) w begins (reply.Begun n) × AreLevelsOf new (after (rules_of old.hub) w begins (reply.Begun n))
-  begun_turns n is rest published next =
+  begun_turns n begins_round published next =
+      let is = begins_round.begun in
       let edition = old.hub.rounds.edition in
       let many : len (edition_of s.published) ≡ len edition = same_len (edition_of s.published) edition was.levels.pressed.in_step.keys in
-      let levels = begun_levels old.hub new.hub old.next new.next s.published s.pending w.past was.levels n is rest next in
+      let levels = begun_levels old.hub new.hub old.next new.next s.published s.pending w.past was.levels n is begins_round.rest next in
       let steps = levels.pressed.in_step.steps ∙ ap (λ (r : Rounds). steps_to r.round) is.round in (
         (was.keys ∙ ap many_left is.none, omega (arith, many, edition_fits edition old.hub.docs, is.many)),
         record {
@@ -106,15 +109,15 @@ module _ (old new : Levels) (w : World) (was : AreLevelsOf old w) where
 
   pub copied_turns : (c : Copied) → Copies old new c → IsAnswer (rules_of old.hub) w copies (reply.Copied c) × AreLevelsOf new (after (rules_of old.hub) w copies (reply.Copied c))
   copied_turns c is =
-      let m = is.marked in
-      let levels = copied_levels old.hub new.hub old.next new.next s.published s.pending w.past was.levels c is.copied m is.rest is.next in
+      let m = is.one.marked in
+      let levels = copied_levels old.hub new.hub old.next new.next s.published s.pending w.past was.levels c is.one.copied m is.one.rest is.next in
       let left : left_in s ≡ Some (length m.after.left + 1) = was.keys ∙ ap many_left m.was ∙ ap (λ (ks : List DocKey). Some (length ks)) m.marks.first ∙ ap Some (omega arith) in
       let before = was.levels.pressed.in_step.steps ∙ ap steps_to m.was in
       let steps = levels.pressed.in_step.steps ∙ ap (λ (r : Rounds). steps_to r.round) m.round in
       let one : length (map Some m.after.done) ≡ length (map Some m.before.done) + 1 =
       ap (λ (d : List (DocKey × Bool)). length (map Some d)) m.marks.done ∙ length-map (m.before.done ++ (m.marks.key, is_doc c) ∷ []) Some ∙ length-append m.before.done ((m.marks.key, is_doc c) ∷ []) ∙ ap (λ n. n + 1) (sym (length-map m.before.done Some)) in
       let few : Some (s.keys - length (map Some m.before.done)) ≡ Some (suc (length m.after.left)) = sym (ap (left_after s.keys) before) ∙ left ∙ ap Some (omega arith) in
-      let it = copied_is old.hub new.hub old.next new.next s.published s.pending w.past was.levels c is.copied m.before m.marks.key m.after.left m.was m.marks.first in (
+      let it = copied_is old.hub new.hub old.next new.next s.published s.pending w.past was.levels c is.one.copied m.before m.marks.key m.after.left m.was m.marks.first in (
         (length m.after.left, left, of_key c m.marks.key it),
         record {
           levels = levels;
@@ -123,14 +126,15 @@ module _ (old new : Levels) (w : World) (was : AreLevelsOf old w) where
         },
       )
 
-  pub published_turns : (n k : ℕ) → Ends k old.hub.rounds new.hub.rounds → new.hub ≡ record old.hub { rounds = new.hub.rounds } → new.published ≡ old.next → n ≡ len new.published
+  pub published_turns : (n k : ℕ) → EndsRound old.hub new.hub k → new.published ≡ old.next → n ≡ len new.published
       → IsAnswer (rules_of old.hub) w publishes (reply.Published n) × AreLevelsOf new (after (rules_of old.hub) w publishes (reply.Published n))
-  published_turns n k is rest published many =
+  published_turns n k ends published many =
+      let is = ends.finished in
       let none : left_in s ≡ Some 0 = was.keys ∙ ap many_left is.was ∙ ap (λ (ks : List DocKey). Some (length ks)) is.whole in
       let shown : new.published ≡ edition_of (all_of s) = published ∙ ended_edition old.hub new.hub old.next new.next s.published s.pending w.past was.levels k is in (
         (ap unfinished none, many ∙ ap (λ (m : Edition). len m) shown),
         record {
-          levels = ended_levels old.hub new.hub old.next new.next s.published s.pending w.past was.levels k is rest;
+          levels = ended_levels old.hub new.hub old.next new.next s.published s.pending w.past was.levels k is ends.rest;
           keys = ap (λ (r : Rounds). many_left r.round) (sym is.edition);
           published = shown;
         },

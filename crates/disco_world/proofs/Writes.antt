@@ -1,5 +1,5 @@
 -- What a hub answers to a write, and what it stands for then.
-use Rattle.std.proofs.Common.{◌≡◌, ◌≢◌, ℕ, ◌+◌, Bool, true, false, cond, [], ◌∷◌, ◌++◌, length, map, Option, Some, None, Result, Ok, Err, IfOk, IfErr, OnErr, refl, sym, ap, subst, ◌∙◌}
+use Rattle.std.proofs.Common.{◌≡◌, ◌≢◌, ℕ, ◌+◌, Bool, true, false, cond, [], ◌∷◌, ◌++◌, length, map, Option, Some, Result, Ok, Err, IfOk, IfErr, refl, sym, ap, subst, ◌∙◌}
 use Rattle.std.proofs.lemmas.List.{length-append, length-map}
 use Rattle.disco_instance.specs.Instance.{Gives}
 use Rattle.disco_values.specs.declared.fault.Fault.{Fault}
@@ -7,14 +7,14 @@ use Rattle.disco_values.specs.declared.fault.Fault.TheVariants.{OutOfMemory}
 use Rattle.disco_history.specs.Change.{Entry}
 use Rattle.disco_core.specs.Past.{Past, after_ask, history, with_done}
 use Rattle.disco_core.specs.State.{Rules}
-use Rattle.disco_hub.specs.Press.{change}
-use Rattle.disco_hub.specs.State.{MayServe, State, StandsFor, rules_of}
-use Rattle.disco_core.specs.Refusals.{refusal_of}
-use Rattle.disco_cache.specs.declared.key.DocKey.{DocKey}
+use Rattle.disco_rounds.specs.Press.{change}
+use Rattle.disco_hub.specs.State.{State, StandsFor, rules_of}
+use Rattle.disco_hub.specs.Transitions.{Declines, Loads, Serves, Withholds, Writes}
+use Rattle.disco_query.specs.declared.key.DocKey.{DocKey}
 use Rattle.disco_cache.specs.declared.payload.Payload.{Payload}
 use Rattle.std.specs.declared.alloc.Global.{Global}
 use Rattle.std.specs.declared.sync.Arc.{Arc}
-use Rattle.disco_registry.specs.Accept.{Refuses, accept_after, accepts}
+use Rattle.disco_registry.specs.Accept.{accept_after, accepts}
 use Rattle.disco_registry.specs.Commit.{done_by}
 use Rattle.disco_registry.specs.Op.{Ask}
 use Rattle.disco_registry.specs.declared.op.Applied.{Applied}
@@ -36,10 +36,9 @@ use Rattle.disco_world.specs.declared.event.Reply.TheVariants.{Refused}
 at_history : (s : State) (p : Past) (ask : Ask) (now : ℕ) → StandsFor s p → accepts s.core.registry ask now ≡ accept_after (rules_of s).limits (history p) ask now
 at_history s p ask now stands = accepts_after s.core.registry (history p) stands.core.registry ask now
 
-gives : (s : State) (p : Past) (ask : Ask) (now : ℕ) (r : Result Applied Fault) → StandsFor s p → IfOk r (λ a. accepts s.core.registry ask now ≡ Ok (done_by a)) → IfErr r (Refuses s.core.registry ask now)
-    → Gives done_by r (done (rules_of s) p now (Ok ask))
-gives s p ask now (Ok a) stands done refused = sym (at_history s p ask now stands) ∙ done
-gives s p ask now (Err e) stands done refused = λ other. sym (at_history s p ask now stands) ∙ refused other
+gives : (old new : State) (p : Past) (ask : Ask) (now : ℕ) (r : Result Applied Fault) → StandsFor old p → IfOk r (λ a. Writes old new ask now (done_by a)) → IfErr r (Declines old new ask now) → Gives done_by r (done (rules_of old) p now (Ok ask))
+gives old new p ask now (Ok a) stands done refused = sym (at_history old p ask now stands) ∙ done.accepted
+gives old new p ask now (Err e) stands done refused = λ other. sym (at_history old p ask now stands) ∙ refused.cause other
 
 -- the history is longer by its change
 one_longer : (most : ℕ) (p : Past) (now : ℕ) (ask : Ask) (c : Entry) → length (history (with_done most p now ask (Some c))) ≡ length (history p) + 1
@@ -51,10 +50,9 @@ abbrev with_result : ℕ → Past → ℕ → Ask → Result Applied Fault → P
 with_result most p now ask (Ok a) = with_done most p now ask (done_by a)
 with_result most p now ask (Err e) = p
 
-stands_after : (old new : State) (ask : Ask) (now : ℕ) (r : Result Applied Fault) → IfOk r (λ a. (p : Past) → StandsFor old p → StandsFor new (with_done (rules_of old).queue p now ask (done_by a)))
-    → OnErr r ((p : Past) → StandsFor old p → StandsFor new p) → (p : Past) → StandsFor old p → StandsFor new (with_result (rules_of old).queue p now ask r)
-stands_after old new ask now (Ok a) after stays p stands = after p stands
-stands_after old new ask now (Err e) after stays p stands = stays p stands
+stands_after : (old new : State) (ask : Ask) (now : ℕ) (r : Result Applied Fault) → IfOk r (λ a. Writes old new ask now (done_by a)) → IfErr r (Declines old new ask now) → (p : Past) → StandsFor old p → StandsFor new (with_result (rules_of old).queue p now ask r)
+stands_after old new ask now (Ok a) done refused p stands = done.history p stands
+stands_after old new ask now (Err e) done refused p stands = refused.history p stands
 
 -- a refused operation leaves what has happened
 stays : (rules : Rules) (p : Past) (now : ℕ) (asked : Result Ask Fault) (f : Fault) → (f ≢ OutOfMemory → done rules p now asked ≡ Err f) → past_after rules p (writes now asked) (Refused f) ≡ p
@@ -79,20 +77,14 @@ module _ (old new : State) (w : World) (now : ℕ) (ask : Ask) where
   after_is (Ok applied.Same) v gives = ap (after_ask (rules_of old).queue w.past now ask) gives
   after_is (Err f) v gives = stays (rules_of old) w.past now (Ok ask) f gives
 
-pub does : (old new : State) (ask : Ask) (asked : Result Ask Fault) (now : ℕ) (r : Result Applied Fault) → asked ≡ Ok ask → IfOk r (λ a. accepts old.core.registry ask now ≡ Ok (done_by a)) → IfErr r (Refuses old.core.registry ask now)
-    → IfOk r (λ a. (p : Past) → StandsFor old p → StandsFor new (with_done (rules_of old).queue p now ask (done_by a))) → OnErr r ((p : Past) → StandsFor old p → StandsFor new p)
+pub does : (old new : State) (ask : Ask) (asked : Result Ask Fault) (now : ℕ) (r : Result Applied Fault) → asked ≡ Ok ask → IfOk r (λ a. Writes old new ask now (done_by a)) → IfErr r (Declines old new ask now)
     → Does old new (λ _. writes now asked) (reply_to r new.core.registry.version)
-does old new ask asked now r is done refused after refused_after = λ w stands.
-    let gives = gives old w.past ask now r stands done refused in
-    let stands_now = stands_after old new ask now r after refused_after w.past stands in
+does old new ask asked now r is done refused = λ w stands.
+    let gives = gives old new w.past ask now r stands done refused in
+    let stands_now = stands_after old new ask now r done refused w.past stands in
     let here : IsAnswer (rules_of old) w (writes now (Ok ask)) (reply_to r new.core.registry.version) × StandsFor new (past_after (rules_of old) w.past (writes now (Ok ask)) (reply_to r new.core.registry.version))
     = (answer_by old new w now ask r gives stands_now, subst (StandsFor new) (sym (after_is old new w now ask r new.core.registry.version gives)) stands_now) in
     subst (λ a. IsAnswer (rules_of old) w (writes now a) (reply_to r new.core.registry.version) × StandsFor new (past_after (rules_of old) w.past (writes now a) (reply_to r new.core.registry.version))) (sym is) here
-
-pub does_nothing : (s : State) (asked : Result Ask Fault) (now : ℕ) (f : Fault) → (f ≢ OutOfMemory → asked ≡ Err f) → Does s s (λ _. writes now asked) (Refused f)
-does_nothing s asked now f refused = λ w stands.
-    let why : f ≢ OutOfMemory → done (rules_of s) w.past now asked ≡ Err f = λ other. ap (done (rules_of s) w.past now) (refused other) in
-    (why, subst (StandsFor s) (sym (stays (rules_of s) w.past now asked f why)) stands)
 
 -- ---- loads
 
@@ -103,12 +95,10 @@ nothing_then rules p asked f = one (ran_out (Refused f))
     one true = refl
     one false = refl
 
-pub loads_so : (old new : State) (key : DocKey) (r : Result (Arc Payload Global) Fault) → IfOk r (λ d. d.value.key ≡ key) → IfOk r (λ d. (p : Past) → StandsFor old p → MayServe d.value p)
-    → IfOk r (λ d. (p : Past) → StandsFor old p → refusal_of (rules_of old).delta key.query (history p) ≡ None) → IfErr r (λ e. e ≢ OutOfMemory → (p : Past) → StandsFor old p → refusal_of (rules_of old).delta key.query (history p) ≡ Some e)
-    → ((p : Past) → StandsFor old p → StandsFor new p) → Does old new (λ w. loads (loaded (rules_of old).delta key (history w.past))) (reply_of r)
-loads_so old new key (Ok d) is served allowed refused on = λ w stands. ((ap (unless key) (allowed w.past stands) ∙ ap (λ k. Ok k) (sym is), served w.past stands), on w.past stands)
-loads_so old new key (Err e) is served allowed refused on = λ w stands.
-    (λ other. ap (unless key) (refused other w.past stands), subst (StandsFor new) (sym (nothing_then (rules_of old) w.past (loaded (rules_of old).delta key (history w.past)) e)) (on w.past stands))
+pub loads_so : (old new : State) (key : DocKey) (r : Result (Arc Payload Global) Fault) → IfOk r (λ d. Serves old (rules_of old).delta key d.value) → IfErr r (Withholds old (rules_of old).delta key) → Loads old new → Does old new (λ w. loads (loaded (rules_of old).delta key (history w.past))) (reply_of r)
+loads_so old new key (Ok d) may refused on = λ w stands. ((ap (unless key) (may.allowed w.past stands) ∙ ap (λ k. Ok k) (sym may.key), may.served w.past stands), on.history w.past stands)
+loads_so old new key (Err e) may refused on = λ w stands.
+    (λ other. ap (unless key) (refused other w.past stands), subst (StandsFor new) (sym (nothing_then (rules_of old) w.past (loaded (rules_of old).delta key (history w.past)) e)) (on.history w.past stands))
 
 -- a deed of the hub leaves the clients
 pub clients_stay : (clients : ℕ → Option Client) (what : Deed) (r : Bool) → clients_done clients what ≡ clients → cond r clients (clients_done clients what) ≡ clients

@@ -6,7 +6,7 @@ use Rattle.disco_history.specs.Change.{Entry}
 use Rattle.disco_history.specs.Mentions.{copied, overlay}
 use Rattle.disco_wire.specs.Documents.{document_of}
 use Rattle.disco_wire.specs.Meaning.{Meaning}
-use Rattle.disco_writer.specs.Documents.{is_delta}
+use Rattle.disco_query.specs.Query.{is_delta}
 use Rattle.disco_cache.specs.declared.payload.Payload.{Payload}
 use Rattle.disco_client.specs.Copies.{hash_equal}
 use Rattle.disco_client.specs.Tracks.{IsAt, moved}

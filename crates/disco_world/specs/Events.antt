@@ -1,27 +1,26 @@
 -- What events are for, and what has happened after them.
 use Rattle.std.specs.Prelude.{ℕ, zero, suc, ◌+◌, List, [], ◌∷◌, ◌++◌, drop, length, map, Bool, true, false, if◌then◌else◌, Option, Some, None, Result, Ok, Err, slice_get}
-use Rattle.std.specs.Str.{bytes_eq}
 use Rattle.disco_instance.specs.Row.{Row}
 use Rattle.disco_values.specs.Text.{in_upper_case}
 use Rattle.disco_values.specs.declared.fault.Fault.{Fault}
-use Rattle.disco_values.specs.declared.fault.Fault.TheVariants.{OutOfMemory, MismatchedApp, NotFound}
+use Rattle.disco_values.specs.declared.fault.Fault.TheVariants.{OutOfMemory, NotFound}
 use Rattle.disco_values.specs.declared.form.Form.{Form}
-use Rattle.disco_values.specs.declared.key.Key.{Key}
 use Rattle.disco_history.specs.Change.{Entry}
 use Rattle.disco_history.specs.Query.{by_id}
 use Rattle.disco_history.specs.Registry.{reg}
 use Rattle.disco_registry.specs.Accept.{accept_after}
-use Rattle.disco_registry.specs.Op.{Ask, register, cancel, renew, set_status, drop_status, add_metadata}
+use Rattle.disco_registry.specs.Op.{Ask, cancel, renew, set_status, drop_status, add_metadata}
 use Rattle.disco_wire.specs.Registration.{registration_of}
-use Rattle.disco_cache.specs.declared.key.DocKey.{DocKey}
+use Rattle.disco_operations.specs.Operations.{key_named, registers}
+use Rattle.disco_query.specs.declared.key.DocKey.{DocKey}
 use Rattle.disco_hub.specs.Expiry.{cancelled}
-use Rattle.disco_hub.specs.Press as press
-use Rattle.disco_hub.specs.Press.{note_of}
+use Rattle.disco_rounds.specs.Press as press
+use Rattle.disco_rounds.specs.Press.{note_of}
 use Rattle.disco_core.specs.Past.{Past, after_ask, cleaned, history, minute_closed, nothing, taken_in}
 use Rattle.disco_core.specs.Refusals.{doc_of_key, refusal_of}
 use Rattle.disco_core.specs.State.{Rules}
-use Rattle.disco_writer.specs.declared.query.Query.{Query}
-use Rattle.disco_writer.specs.declared.query.Query.TheVariants as query
+use Rattle.disco_query.specs.declared.query.Query.{Query}
+use Rattle.disco_query.specs.declared.query.Query.TheVariants as query
 use Rattle.disco_cache.specs.declared.payload.Payload.{Payload}
 use Rattle.disco_world.specs.Clients.{clients_with}
 use Rattle.disco_world.specs.Rounds.{Press, all_of, new_press}
@@ -52,15 +51,6 @@ pub data Deed : Type 0 where
   takes : ℕ → Payload → Deed
   shows : ℕ → Deed
   bad : Deed
-
--- what a registration under an app's name asks: a record of another app is refused
-abbrev pub registers : List ℕ → Result Row Fault → Result Ask Fault
-registers app (Err e) = Err e
-registers app (Ok r) = if bytes_eq (in_upper_case app) r.key.app then Ok (register r) else Err MismatchedApp
-
--- the key that an event names
-abbrev pub key_named : List ℕ → List ℕ → Key
-key_named app id = record { app = in_upper_case app; id = id }
 
 -- what is asked for, with the name of an app in upper case
 abbrev pub query_asked : Query → Query

@@ -1,15 +1,15 @@
 -- What private contracts say of the two levels of documents. Nothing here is to be believed: the clauses of `run` don't cite it.
-use Rattle.std.specs.Prelude.{◌≡◌, ◌≢◌, ℕ, [], length, Option, Some, None, IfSome, option_map, slice_get}
+use Rattle.std.specs.Prelude.{◌≡◌, ℕ, length, Option, Some, None, option_map}
 use Rattle.std.specs.FinMap.{get}
 use Rattle.disco_values.specs.declared.fault.Fault.TheVariants.{OutOfMemory}
-use Rattle.disco_cache.specs.declared.key.DocKey.{DocKey}
-use Rattle.disco_core.specs.Past.{Past}
+use Rattle.disco_query.specs.declared.key.DocKey.{DocKey}
 use Rattle.disco_core.specs.State.{Rules}
-use Rattle.disco_hub.specs.Levels.{AreLevels, put_copy}
-use Rattle.disco_hub.specs.Press.{Edition, edition_of}
-use Rattle.disco_rounds.specs.Rounds.{Advances}
-use Rattle.disco_hub.specs.State.{IsCopied, StandsFor, is_doc, rules_of}
-use Rattle.disco_hub.specs.declared.copied.Copied.{Copied}
+use Rattle.disco_hub.specs.Levels.{AreLevels}
+use Rattle.disco_rounds.specs.Press.{put_copy}
+use Rattle.disco_rounds.specs.Press.{Edition, edition_of}
+use Rattle.disco_hub.specs.State.{rules_of}
+use Rattle.disco_hub.specs.Transitions.{CopiesOne}
+use Rattle.disco_rounds.specs.declared.copied.Copied.{Copied}
 use Rattle.disco_world.specs.Answers.{IsAnswer}
 use Rattle.disco_world.specs.Events.{Deed, World, after, clients_after, deed, query_asked}
 use Rattle.disco_world.specs.Rounds.{left_in}
@@ -36,15 +36,9 @@ Goes rules w e r new clients = let what = deed rules w e in IsAnswer rules w wha
 
 -- the first key that was left was copied so, and put in or taken out
 pub record Copies (old new : Levels) (c : Copied) : Type 0 where
-  pub copied : (p : Past) → StandsFor old.hub p → IfSome old.hub.rounds.round (λ r. IfSome (slice_get r.left 0) (λ k. IsCopied k c p))
-  pub marked : Advances (is_doc c) old.hub.rounds new.hub.rounds
-  pub rest : new.hub ≡ record old.hub { rounds = new.hub.rounds }
+  pub one : CopiesOne old.hub new.hub c
   pub published : new.published ≡ old.published
   pub next : new.next ≡ put_copy old.next c
-
--- a round is open, and no key of it is left
-abbrev pub HasNoneLeft : Levels → Type 0
-HasNoneLeft s = IfSome s.hub.rounds.round (λ r. r.left ≡ []) × (s.hub.rounds.round ≢ None)
 
 abbrev pub key_looked : DocKey → DocKey
 key_looked k = record { query = query_asked k.query; form = k.form }

@@ -1,55 +1,31 @@
-//! The operations that events ask for.
-ghost use Rattle.std.specs.Prelude.{◌≡◌, IfOk, IfErr, Ok};
+//! The operations that events ask for. An event stays as it is, so what it names is copied.
+ghost use Rattle.std.specs.Prelude.{Ok};
 ghost use Rattle.disco_instance.specs.Instance.{Gives};
-ghost use Rattle.disco_values.specs.declared.fault.Fault.TheVariants.{OutOfMemory};
 ghost use Rattle.disco_registry.specs.Op as asking;
 ghost use Rattle.disco_registry.specs.Op.{ask_of};
-ghost use Rattle.disco_wire.specs.Registration.{registration_of};
-ghost use Rattle.disco_world.specs.Events.{key_named, registers};
+ghost use Rattle.disco_operations.specs.Operations.{key_named};
 
-use disco_instance::{Bytes, Entries, Fault, Key, Text, upper};
+use disco_operations as operations;
 use disco_registry::Op;
-use disco_wire::read_registration;
+use disco_values::{Entries, Fault, Text};
 use std::alloc::Global;
-
-/// The key of that app and id.
-pub(crate) fn key_named(alloc: Global, app: &Text, id: &Text) -> Result<Key, Fault>
-    ensures key { IfOk result (λ k. k ≡ key_named app.now id.now) }
-    ensures memory { IfErr result (λ e. e ≡ OutOfMemory) }
-{
-    Ok(Key {
-        app: upper(alloc, app.as_str())?,
-        id: id.clone()?,
-    })
-}
-
-pub(crate) fn register(alloc: Global, app: &Text, json: &Bytes) -> Result<Op, Fault>
-    ensures { Gives ask_of result (registers app.now (registration_of json.now)) }
-{
-    let posted = read_registration(alloc, json.as_slice())?;
-    if upper(alloc, app.as_str())? != posted.key.app {
-        return Err(Fault::MismatchedApp);
-    }
-    Ok(Op::Register(posted))
-}
 
 pub(crate) fn cancel(alloc: Global, app: &Text, id: &Text) -> Result<Op, Fault>
     ensures { Gives ask_of result (Ok (asking.cancel (key_named app.now id.now))) }
 {
-    Ok(Op::Cancel(key_named(alloc, app, id)?))
+    operations::cancel(alloc, app, id.clone()?)
 }
 
 pub(crate) fn renew(alloc: Global, app: &Text, id: &Text) -> Result<Op, Fault>
     ensures { Gives ask_of result (Ok (asking.renew (key_named app.now id.now))) }
 {
-    Ok(Op::Renew(key_named(alloc, app, id)?))
+    operations::renew(alloc, app, id.clone()?)
 }
 
 pub(crate) fn set_status(alloc: Global, app: &Text, id: &Text, status: &Text) -> Result<Op, Fault>
     ensures { Gives ask_of result (Ok (asking.set_status (key_named app.now id.now) status.now)) }
 {
-    let key = key_named(alloc, app, id)?;
-    Ok(Op::SetStatus(key, status.clone()?))
+    operations::set_status(alloc, app, id.clone()?, status.clone()?)
 }
 
 pub(crate) fn drop_status(
@@ -60,8 +36,7 @@ pub(crate) fn drop_status(
 ) -> Result<Op, Fault>
     ensures { Gives ask_of result (Ok (asking.drop_status (key_named app.now id.now) status.now)) }
 {
-    let key = key_named(alloc, app, id)?;
-    Ok(Op::DropStatus(key, status.clone()?))
+    operations::drop_status(alloc, app, id.clone()?, status.clone()?)
 }
 
 pub(crate) fn add_metadata(
@@ -72,6 +47,5 @@ pub(crate) fn add_metadata(
 ) -> Result<Op, Fault>
     ensures { Gives ask_of result (Ok (asking.add_metadata (key_named app.now id.now) entries.now)) }
 {
-    let key = key_named(alloc, app, id)?;
-    Ok(Op::Metadata(key, entries.copy()?))
+    operations::add_metadata(alloc, app, id.clone()?, entries.copy()?)
 }

@@ -7,7 +7,7 @@ ghost use Rattle.disco_values.specs.declared.fault.Fault.TheVariants.{OutOfMemor
 ghost use Rattle.disco_client.specs.Copies.{hash_equal};
 ghost use Rattle.disco_client.specs.Tracks.{moved, same_form};
 ghost use Rattle.disco_wire.specs.Wire.{wire_meaning};
-ghost use Rattle.disco_writer.specs.Documents.{is_delta};
+ghost use Rattle.disco_query.specs.Query.{is_delta};
 ghost use Rattle.disco_world.specs.Clients.{shown};
 ghost use Rattle.disco_world.specs.Steps.{IsMeant, IsReadable, ClientTakes, holding};
 
@@ -15,7 +15,7 @@ use crate::holding::{Holding, Holdings};
 use disco_cache::Payload;
 use disco_client::{Copy, Known};
 use disco_history::Held;
-use disco_instance::{Fault, Form, Text};
+use disco_values::{Fault, Form, Text};
 use disco_wire::{Wire, read_document};
 use std::alloc::Global;
 use std::collections::BTreeMap;

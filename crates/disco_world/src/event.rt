@@ -1,8 +1,11 @@
 //! Events and their replies.
 use crate::holding::Holdings;
-use disco_cache::{DocKey, Payload};
-use disco_hub::{Copied, Expired, Minute};
-use disco_instance::{Bytes, Entries, Fault, Form, Text};
+use disco_cache::Payload;
+use disco_hub::Expired;
+use disco_lease::Minute;
+use disco_query::DocKey;
+use disco_rounds::Copied;
+use disco_values::{Bytes, Entries, Fault, Form, Text};
 use std::alloc::Global;
 use std::sync::Arc;
 

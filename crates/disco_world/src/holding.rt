@@ -1,7 +1,7 @@
 //! What is shown of a client's copy.
 ghost use Rattle.std.specs.Prelude.{◌≡◌};
 
-use disco_instance::{Key, Status};
+use disco_values::{Key, Status};
 use std::marker::Model;
 
 /// An instance of a client's copy.

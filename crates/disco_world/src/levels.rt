@@ -6,7 +6,8 @@ ghost use Rattle.disco_core.specs.State.{rules};
 ghost use Rattle.disco_hub.specs.State.{StandsFor, rules_of};
 
 use disco_cache::Edition;
-use disco_hub::{Hub, Settings};
+use disco_hub::Hub;
+use disco_settings::Settings;
 use std::alloc::Global;
 
 /// A hub, the edition that readers look into, and the one that is being copied.

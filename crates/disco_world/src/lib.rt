@@ -16,9 +16,6 @@ mod rounds;
 mod runs;
 mod telling;
 
-pub use disco_cache::{DocKey, Payload};
-pub use disco_hub::{Copied, Expired, Minute, Settings};
-pub use disco_writer::Query;
 pub use event::{Event, Reply};
 pub use holding::{Holding, Holdings};
 pub use runs::run;

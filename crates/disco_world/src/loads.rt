@@ -6,12 +6,12 @@ ghost use Rattle.disco_world.specs.Steps.{Does, reply_of};
 ghost use Rattle.disco_world.specs.declared.event.Event.TheVariants as event;
 ghost use Rattle.disco_hub.specs.State.{rules_of};
 
-use crate::asks::key_named;
 use crate::event::Reply;
-use disco_cache::{DocKey, Payload};
+use disco_cache::Payload;
 use disco_hub::Hub;
-use disco_instance::{Fault, Form, Text, upper};
-use disco_writer::Query;
+use disco_operations::key_named;
+use disco_query::{DocKey, Query};
+use disco_values::{Fault, Form, Text, upper};
 use std::alloc::Global;
 use std::sync::Arc;
 
@@ -21,7 +21,7 @@ pub(crate) fn query_asked(alloc: Global, query: &Query) -> Result<Query, Fault>
 {
     match query {
         Query::App(name) => Ok(Query::App(upper(alloc, name.as_str())?)),
-        Query::Instance(key) => Ok(Query::Instance(key_named(alloc, &key.app, &key.id)?)),
+        Query::Instance(key) => Ok(Query::Instance(key_named(alloc, &key.app, key.id.clone()?)?)),
         other => Ok(other.clone()?),
     }
 }

@@ -1,17 +1,16 @@
 //! Rounds of a publisher, and looks of readers.
-ghost use Rattle.std.specs.Prelude.{◌≡◌, ◌≢◌, IfErr, IfNone, IfOk, IfSome, None, OnErr, OnOk};
-ghost use Rattle.disco_values.specs.declared.fault.Fault.TheVariants.{NoRound, OutOfMemory};
-ghost use Rattle.disco_hub.specs.Levels.{put_copy};
+ghost use Rattle.std.specs.Prelude.{◌≡◌, IfErr, IfOk, None};
+ghost use Rattle.disco_values.specs.declared.fault.Fault.TheVariants.{OutOfMemory};
 ghost use Rattle.disco_hub.specs.State.{rules_of};
 ghost use Rattle.disco_world.specs.Events.{begins, copies, publishes};
-ghost use Rattle.disco_world.specs.Levels.{Copies, HasNoneLeft, Looks, Turns, key_looked};
+ghost use Rattle.disco_world.specs.Levels.{Looks, Turns, key_looked};
 
 use crate::event::Reply;
 use crate::levels::Levels;
 use crate::loads::query_asked;
-use disco_cache::{DocKey, Edition};
-use disco_hub::Copied;
-use disco_instance::Fault;
+use disco_cache::Edition;
+use disco_query::DocKey;
+use disco_values::Fault;
 use std::alloc::Global;
 use std::mem::replace;
 use std::sync::Arc;
@@ -30,43 +29,12 @@ pub(crate) fn begin(alloc: Global, levels: &mut Levels) -> Reply
     }
 }
 
-/// Puts what was copied into an edition.
-fn put(edition: &mut Edition, copied: &Copied) -> Result<(), Fault>
-    ensures put { OnOk result (edition.new ≡ put_copy edition.old copied.now) }
-    ensures as_before { OnErr result (edition.new ≡ edition.old) }
-    ensures memory { IfErr result (λ e. e ≡ OutOfMemory) }
-{
-    match copied {
-        Copied::Doc(doc) => edition.put(Arc::try_clone(doc)?),
-        Copied::Drop(key) => {
-            edition.remove(key);
-            Ok(())
-        }
-    }
-}
-
-/// Copies the next key of the round, if one is left.
-fn copy_next(levels: &mut Levels) -> Result<Option<Copied>, Fault>
-    ensures copied { IfOk result (λ o. IfSome o (λ c. Copies levels.old levels.new c)) }
-    ensures none { IfOk result (λ o. IfNone o (HasNoneLeft levels.old × (levels.new ≡ levels.old))) }
-    ensures refused { IfErr result (λ e. e ≢ OutOfMemory → (e ≡ NoRound) × (levels.old.hub.rounds.round ≡ None)) }
-    ensures as_before { OnErr result (levels.new ≡ levels.old) }
-    ensures rules { rules_of levels.new.hub ≡ rules_of levels.old.hub }
-{
-    let Some(copied) = levels.hub.next_copy()? else {
-        return Ok(None);
-    };
-    put(&mut levels.next, &copied)?;
-    levels.hub.mark(matches!(copied, Copied::Doc(_)))?;
-    Ok(Some(copied))
-}
-
 /// Copies the next key of the round.
 pub(crate) fn copy(levels: &mut Levels) -> Reply
     ensures turns { Turns levels.old levels.new (λ _. copies) result }
     ensures rules { rules_of levels.new.hub ≡ rules_of levels.old.hub }
 {
-    match copy_next(levels) {
+    match levels.hub.copy_into(&mut levels.next) {
         Ok(Some(copied)) => Reply::Copied(copied),
         Ok(None) => Reply::Done,
         Err(fault) => Reply::Refused(fault),

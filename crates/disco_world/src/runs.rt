@@ -16,7 +16,7 @@ ghost use Rattle.disco_world.specs.Levels.{AreLevelsOf, Goes};
 ghost use Rattle.disco_world.specs.Telling.{is_take};
 ghost use Rattle.disco_world.specs.Steps.{AreHeld, AreReadable, Does, reply_to, reply_to_show, reply_to_take};
 
-use crate::asks::{add_metadata, cancel, drop_status, register, renew, set_status};
+use crate::asks::{add_metadata, cancel, drop_status, renew, set_status};
 use crate::clients::{Clients, Told, show, take};
 use crate::event::{Event, Reply};
 use crate::holding::Holdings;
@@ -24,10 +24,12 @@ use crate::levels::Levels;
 use crate::loads::{load, load_by_id};
 use crate::rounds::{begin, copy, look, publish};
 use disco_cache::Payload;
-use disco_hub::{Hub, Settings};
-use disco_instance::Fault;
+use disco_hub::Hub;
+use disco_operations::register;
+use disco_query::Query;
 use disco_registry::{Applied, Op};
-use disco_writer::Query;
+use disco_settings::Settings;
+use disco_values::Fault;
 use std::alloc::Global;
 use std::collections::BTreeMap;
 
@@ -117,7 +119,7 @@ pub(crate) fn answer_alone(
         Event::Register { now, app, json } => write(
             &mut levels.hub,
             *now,
-            register(alloc, app, json),
+            register(alloc, app, json.as_slice()),
         ),
         Event::Cancel { now, app, id } => write(&mut levels.hub, *now, cancel(alloc, app, id)),
         Event::Renew { now, app, id } => write(&mut levels.hub, *now, renew(alloc, app, id)),

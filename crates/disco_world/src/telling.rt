@@ -15,8 +15,8 @@ use crate::clients::Clients;
 use crate::event::{Event, Reply};
 use crate::levels::Levels;
 use crate::runs::answer_alone;
-use disco_hub::Settings;
-use disco_instance::Fault;
+use disco_settings::Settings;
+use disco_values::Fault;
 use std::alloc::Global;
 use std::collections::BTreeMap;
 

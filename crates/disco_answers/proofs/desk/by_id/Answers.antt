@@ -9,5 +9,5 @@ pub returns : goal.returns
 returns g c =
     let y = answer_of text_in c.showing.result in
     let hub = c.args.desk.now.hub in
-    let so = by_id_so hub c.as_str.result.now c.args.form c.args.now y c.by_id.result c.by_id.ensures.key c.by_id.ensures.served c.by_id.ensures.allowed c.by_id.ensures.refused c.showing.ensures in
+    let so = by_id_so hub c.as_str.result.now c.args.form c.args.now y c.by_id.result c.by_id.ensures.served c.by_id.ensures.refused c.showing.ensures in
     subst (λ (id : List ℕ). IsAnswered hub hub (Ok (shows_id id c.args.form)) c.args.now y) c.as_str.ensures so

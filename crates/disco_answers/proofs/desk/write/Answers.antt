@@ -16,5 +16,5 @@ returns-clause-answered g c =
       changes = changes_by c.write_as.result;
       noted = notes c.args.desk.now c.write_as.new.self c.write_as.result w.noted w.not_noted;
       counted = counts c.args.seat.now c.write_as.new.seat c.write_as.result w.count w.not_counted;
-      replied = written c.args.desk.now.hub c.write_as.new.self.hub c.args.now y (ask_of c.args.op) c.write_as.result w.done w.refused w.history w.refused_history shown;
+      replied = written c.args.desk.now.hub c.write_as.new.self.hub c.args.now y (ask_of c.args.op) c.write_as.result w.done w.refused shown;
     }

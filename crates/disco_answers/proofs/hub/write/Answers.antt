@@ -11,5 +11,5 @@ pub returns-clause-answered : goal.returns-clause-answered
 returns-clause-answered c =
     let y = answer_of text_in c.wrote.result in
     let shown = subst (λ (success : StatusLine). MatchResult c.write.result (λ a. y ≡ plain success) (λ e. y ≡ refused e)) c.success_of-success.ensures c.wrote.ensures in
-    let follows = written c.args.hub.now c.write.new.self c.args.now y (ask_of c.args.op) c.write.result c.write.ensures.done c.write.ensures.refused c.write.ensures.history c.write.ensures.refused_history shown in
+    let follows = written c.args.hub.now c.write.new.self c.args.now y (ask_of c.args.op) c.write.result c.write.ensures.done c.write.ensures.refused shown in
     answered_so c.args.hub.now c.write.new.self (Ok (writes (ask_of c.args.op))) c.args.now y (changes_by c.write.result) follows

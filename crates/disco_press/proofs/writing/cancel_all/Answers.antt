@@ -4,6 +4,7 @@ use Rattle.disco_values.specs.declared.key.Key.{Key}
 use Rattle.disco_hub.specs.Expiry.{Expires, cancelled}
 use Rattle.disco_hub.specs.State.{rules_of}
 use Rattle.disco_hub.proofs.Cancels.{did_more, did_nothing, none_yet, stopped_at}
+use Rattle.disco_hub.proofs.Rests.{rest_of, rest_on}
 use Rattle.disco_press.specs.Desks.{NotesCancels}
 use Rattle.disco_press.proofs.Cancels.{cancels, noted_more, noted_nothing, noted_still}
 use Rattle.disco_press.proofs.writing.cancel_all.Goals as goal
@@ -14,7 +15,7 @@ there ks i k lt is = slice_get-get_or ks i k lt ∙ ap (λ y. Some y) (sym is)
 pub loop-key-init : goal.loop-key-init
 loop-key-init g c =
     let d = c.args.desk.now in
-    (refl, did_nothing d.hub c.args.now c.args.keys.now, refl, noted_nothing d (λ p. cancelled (rules_of d.hub) p c.args.now c.args.keys.now 0) (λ p _. sym (none_yet (rules_of d.hub) p c.args.now c.args.keys.now)))
+    (refl, did_nothing d.hub c.args.now c.args.keys.now, rest_of d.hub, noted_nothing d (λ p. cancelled (rules_of d.hub) p c.args.now c.args.keys.now 0) (λ p _. sym (none_yet (rules_of d.hub) p c.args.now c.args.keys.now)))
 
 pub loop-key-preserved : goal.loop-key-preserved
 loop-key-preserved g c =
@@ -25,8 +26,8 @@ loop-key-preserved g c =
     let one = c.in_default.ensures.done in
     let inv = c.loop-key.invariant in (
       ap (λ n. n + 1) inv.0,
-      did_more d.hub c.loop-key.desk.hub c.cancel.new.desk.hub c.args.now c.args.keys.now i k is inv.1 (cancels c.loop-key.desk c.cancel.new.desk c.args.now k one) c.cancel.ensures.rules,
-      c.cancel.ensures.beside ∙ inv.2,
+      did_more d.hub c.loop-key.desk.hub c.cancel.new.desk.hub c.args.now c.args.keys.now i k is inv.1 (cancels c.loop-key.desk c.cancel.new.desk c.args.now k one) c.cancel.ensures.rest.rules,
+      rest_on _ _ _ inv.2 c.cancel.ensures.rest,
       noted_more d c.loop-key.desk c.cancel.new.desk c.args.now c.args.keys.now i k is inv.1 inv.3 one,
     )
 

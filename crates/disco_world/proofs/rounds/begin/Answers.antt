@@ -3,4 +3,4 @@ use Rattle.disco_world.proofs.Turning.{begun_turns}
 use Rattle.disco_world.proofs.rounds.begin.Goals as goal
 
 pub returns-in-Ok-clause-turns : goal.returns-in-Ok-clause-turns
-returns-in-Ok-clause-turns c = λ w levels. begun_turns c.args.levels.now (record c.args.levels.now { hub = c.begin.new.self; next = c.new.result }) w levels c.in-Ok.keys c.in-Ok.ensures.begun c.begin.ensures.rest refl c.new.ensures
+returns-in-Ok-clause-turns c = λ w levels. begun_turns c.args.levels.now (record c.args.levels.now { hub = c.begin.new.self; next = c.new.result }) w levels c.in-Ok.keys c.in-Ok.ensures.begun refl c.new.ensures

@@ -1,9 +1,12 @@
-use Rattle.std.proofs.Common.{Ok, Some, refl}
+use Rattle.std.proofs.Common.{ℕ, List, Ok, Some, refl, subst}
 use Rattle.std.specs.BTreeMap as tree
 use Rattle.std.specs.Ordering.{nat_cmp}
+use Rattle.disco_instance.specs.Instance.{Gives}
 use Rattle.disco_registry.specs.Op as asking
+use Rattle.disco_registry.specs.Op.{ask_of}
 use Rattle.disco_wire.specs.Registration.{registration_of}
-use Rattle.disco_world.specs.Events.{expires, key_named, looks, registers, shows, writes}
+use Rattle.disco_world.specs.Events.{expires, looks, shows, writes}
+use Rattle.disco_operations.specs.Operations.{key_named, registers}
 use Rattle.disco_world.specs.Levels.{key_looked}
 use Rattle.disco_world.specs.Steps.{reply_to_show}
 use Rattle.disco_hub.specs.State.{rules_of}
@@ -14,7 +17,8 @@ use Rattle.disco_world.proofs.runs.answer_alone.Goals as goal
 
 pub returns-in-Register-clause-does : goal.returns-in-Register-clause-does
 returns-in-Register-clause-does c = λ w held levels.
-    rw c.in-Register.is (with_hub c.args.levels.now (record c.args.levels.now { hub = c.write.new.hub }) (tree.get nat_cmp c.args.clients.now) w (writes c.in-Register.now (registers c.in-Register.app (registration_of c.in-Register.json))) c.write.result refl held refl levels c.write.ensures.rounds refl refl (c.write.ensures.does (registers c.in-Register.app (registration_of c.in-Register.json)) c.register.ensures w levels.levels.stands))
+    let gives = subst (λ (b : List ℕ). Gives ask_of c.register.result (registers c.in-Register.app (registration_of b))) c.as_slice.ensures c.register.ensures in
+    rw c.in-Register.is (with_hub c.args.levels.now (record c.args.levels.now { hub = c.write.new.hub }) (tree.get nat_cmp c.args.clients.now) w (writes c.in-Register.now (registers c.in-Register.app (registration_of c.in-Register.json))) c.write.result refl held refl levels c.write.ensures.rounds refl refl (c.write.ensures.does (registers c.in-Register.app (registration_of c.in-Register.json)) gives w levels.levels.stands))
 
 pub returns-in-Cancel-clause-does : goal.returns-in-Cancel-clause-does
 returns-in-Cancel-clause-does c = λ w held levels.

@@ -1,13 +1,24 @@
-use Rattle.std.proofs.Common.{refl, subst, sym, arith}
+use Rattle.std.proofs.Common.{refl, subst, sym, arith, ap, ◌∙◌}
 use Rattle.disco_core.specs.Past.{cleaned}
-use Rattle.disco_hub.specs.State.{State, StandsFor}
+use Rattle.disco_hub.specs.State.{State, StandsFor, rules_of}
 use Rattle.disco_hub.proofs.Documents.{moved_on}
 use Rattle.disco_hub.proofs.hub.Hub.clean.Goals as goal
 
-pub returns-clause-history : goal.returns-clause-history
-returns-clause-history c = λ p stands.
-    let was = subst (λ (s : State). StandsFor s p) (sym c.self.view_is) stands in
+pub returns : goal.returns
+returns c =
     let new : State = record { core = c.clean.new.self; docs = c.self.inside.cache; rounds = c.self.inside.rounds } in
-    let after = cleaned c.self.inside.core.retention p c.args.now in
-    let on : StandsFor new after = record { core = c.clean.ensures.history p was.core; docs = moved_on c.self.inside.cache.docs p after refl (omega arith) was.docs } in
-    subst (λ (s : State). StandsFor new (cleaned s.core.retention p c.args.now)) c.self.view_is on
+    record {
+      base = c.clean.ensures.base;
+      history = λ p stands.
+          let was = subst (λ (s : State). StandsFor s p) (sym c.self.view_is) stands in
+          let after = cleaned c.self.inside.core.retention p c.args.now in
+          let on : StandsFor new after = record { core = c.clean.ensures.history p was.core; docs = moved_on c.self.inside.cache.docs p after refl (omega arith) was.docs } in
+          subst (λ (s : State). StandsFor new (cleaned s.core.retention p c.args.now)) c.self.view_is on;
+      registry = c.clean.ensures.registry ∙ ap (λ (s : State). s.core.registry) c.self.view_is;
+      docs = ap (λ (s : State). s.docs) c.self.view_is;
+      rest = record {
+        rules = c.clean.ensures.rules ∙ ap (λ (s : State). rules_of s) c.self.view_is;
+        rounds = ap (λ (s : State). s.rounds) c.self.view_is;
+        room = ap (λ (s : State). s.docs.max) c.self.view_is;
+      };
+    }

@@ -1,9 +1,10 @@
-use Rattle.std.proofs.Common.{sym, subst}
+use Rattle.std.proofs.Common.{sym, subst, ap, ◌∙◌}
 use Rattle.disco_core.specs.State.{IsFor, change_in, moment_in}
 use Rattle.disco_core.specs.Past.{with_done}
 use Rattle.disco_registry.specs.Commit.{done_by}
-use Rattle.disco_hub.specs.State.{AreKept, State, StandsFor}
+use Rattle.disco_hub.specs.State.{AreKept, State, StandsFor, rules_of}
 use Rattle.disco_hub.proofs.Documents.{docs_after}
+use Rattle.disco_hub.proofs.Rests.{room_kept}
 use Rattle.disco_hub.proofs.hub.Hub.commit.Goals as goal
 
 pub returns-clause-history : goal.returns-clause-history
@@ -19,3 +20,10 @@ returns-clause-history c = λ p ask is stands.
       docs = docs;
     } in
     subst (λ (s : State). StandsFor new (with_done s.core.queue.max p (moment_in r) ask (done_by c.commit.result))) c.self.view_is on
+
+pub returns-clause-rest : goal.returns-clause-rest
+returns-clause-rest c = record {
+  rules = c.commit.ensures.rules ∙ ap (λ (s : State). rules_of s) c.self.view_is;
+  rounds = ap (λ (s : State). s.rounds) c.self.view_is;
+  room = room_kept c.self.inside.core.registry.held (change_in c.args.ready) c.self.inside.cache c.forget.new.cache c.forget.ensures ∙ ap (λ (s : State). s.docs.max) c.self.view_is;
+}

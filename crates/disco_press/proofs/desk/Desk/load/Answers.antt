@@ -6,4 +6,4 @@ pub invariant_of-self : goal.invariant_of-self
 invariant_of-self g c =
     let i = c.self.inside in
     let k = c.self.invariant in
-    quiet_kept i.printer i.roll i.hub c.load.new.self i.next i.next _ k (k.past) refl (c.load.ensures.history k.past k.levels.stands) c.load.ensures.rounds refl
+    quiet_kept i.printer i.roll i.hub c.load.new.self i.next i.next _ k (k.past) refl (c.load.ensures.loads.history k.past k.levels.stands) c.load.ensures.loads.rest.rounds refl

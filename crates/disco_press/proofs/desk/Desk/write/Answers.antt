@@ -3,8 +3,8 @@ use Rattle.disco_history.specs.Change.{seen}
 use Rattle.disco_registry.specs.Commit.{done_by}
 use Rattle.disco_registry.specs.Op.{ask_of}
 use Rattle.disco_registry.specs.declared.op.Applied.{Applied}
-use Rattle.disco_core.specs.Past.{Past, with_done}
-use Rattle.disco_hub.specs.State.{StandsFor, rules_of}
+use Rattle.disco_hub.specs.State.{rules_of}
+use Rattle.disco_hub.specs.Transitions.{Writes}
 use Rattle.disco_press.specs.Keeping.{IsKept}
 use Rattle.disco_press.proofs.Keeping.{quiet_kept, same_kept, written_kept}
 use Rattle.disco_press.proofs.desk.Desk.write.Goals as goal
@@ -13,17 +13,17 @@ pub invariant_of-self : goal.invariant_of-self
 invariant_of-self g c =
     let i = c.self.inside in
     let k = c.self.invariant in
-    quiet_kept i.printer i.roll i.hub c.write.new.self i.next i.next _ k k.past refl (c.in_err-applied.ensures.refused_history k.past k.levels.stands) c.write.ensures.rounds refl
+    quiet_kept i.printer i.roll i.hub c.write.new.self i.next i.next _ k k.past refl (c.in_err-applied.ensures.refused.history k.past k.levels.stands) c.write.ensures.rest.rounds refl
 
 pub invariant_of-self-in-Changed : goal.invariant_of-self-in-Changed
 invariant_of-self-in-Changed g c =
     let i = c.self.inside in
-    let after = subst (λ (a : Applied). (p : Past) → StandsFor i.hub p → StandsFor c.write.new.self (with_done (rules_of i.hub).queue p c.args.now (ask_of c.args.op) (done_by a))) c.in-Changed.is c.in_ok-applied.ensures.history in
+    let done = subst (λ (a : Applied). Writes i.hub c.write.new.self (ask_of c.args.op) c.args.now (done_by a)) c.in-Changed.is c.in_ok-applied.ensures.done in
     subst (λ n. IsKept i.printer c.change.new.self c.write.new.self i.next n) (omega (arith))
-    (written_kept i.printer i.roll i.hub c.write.new.self i.next i.next _ c.self.invariant c.change.new.self (rules_of i.hub).queue c.args.now (ask_of c.args.op) (Some (seen c.in-Changed.change)) after c.write.ensures.rounds refl c.change.ensures.noted)
+    (written_kept i.printer i.roll i.hub c.write.new.self i.next i.next _ c.self.invariant c.change.new.self (rules_of i.hub).queue c.args.now (ask_of c.args.op) (Some (seen c.in-Changed.change)) done.history c.write.ensures.rest.rounds refl c.change.ensures.noted)
 
 pub invariant_of-self-in-Same : goal.invariant_of-self-in-Same
 invariant_of-self-in-Same g c =
     let i = c.self.inside in
-    let after = subst (λ (a : Applied). (p : Past) → StandsFor i.hub p → StandsFor c.write.new.self (with_done (rules_of i.hub).queue p c.args.now (ask_of c.args.op) (done_by a))) c.in-Same.is c.in_ok-applied.ensures.history in
-    same_kept i.printer i.roll i.hub c.write.new.self i.next i.next _ c.self.invariant (rules_of i.hub).queue c.args.now (ask_of c.args.op) after c.write.ensures.rounds refl
+    let done = subst (λ (a : Applied). Writes i.hub c.write.new.self (ask_of c.args.op) c.args.now (done_by a)) c.in-Same.is c.in_ok-applied.ensures.done in
+    same_kept i.printer i.roll i.hub c.write.new.self i.next i.next _ c.self.invariant (rules_of i.hub).queue c.args.now (ask_of c.args.op) done.history c.write.ensures.rest.rounds refl

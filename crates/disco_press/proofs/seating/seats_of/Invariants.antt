@@ -1,6 +1,6 @@
 use Rattle.std.proofs.Common.{◌≡◌, ◌+◌, All, vec_len}
 use Rattle.disco_press.specs.Seats.{IsNew}
-use Rattle.disco_press.proofs.opening.seats_of.Given as goal
+use Rattle.disco_press.proofs.seating.seats_of.Given as goal
 
 abbrev pub invariant-loop : goal.invariant-loop
 invariant-loop g l =

@@ -1,7 +1,7 @@
 use Rattle.std.proofs.Common.{zero, suc, ◌+◌, List, [], ◌∷◌, All, subst, sym, arith, ap, ◌∙◌}
 use Rattle.std.proofs.lemmas.List.Elements.{All-append}
 use Rattle.disco_press.specs.Seats.{IsNew, SeatState}
-use Rattle.disco_press.proofs.opening.seats_of.Goals as goal
+use Rattle.disco_press.proofs.seating.seats_of.Goals as goal
 
 one : (P : SeatState → Type 0) (s : SeatState) → P s → All P (s ∷ [])
 one P s is zero d lt = is

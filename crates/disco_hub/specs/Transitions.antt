@@ -1,0 +1,121 @@
+-- What a call does to a hub: one record for each kind of step, which every layer above uses.
+use Rattle.std.specs.Prelude.{◌≡◌, ◌≢◌, ℕ, Bool, List, [], Option, Some, None, Ok, IfSome, slice_get}
+use Rattle.disco_values.specs.declared.fault.Fault.{Fault}
+use Rattle.disco_values.specs.declared.fault.Fault.TheVariants.{NoRound, OutOfMemory, RoundOpen}
+use Rattle.disco_values.specs.declared.form.Form.{Form}
+use Rattle.disco_history.specs.Change.{Entry}
+use Rattle.disco_registry.specs.Accept.{Refuses, accepts}
+use Rattle.disco_registry.specs.Op.{Ask}
+use Rattle.disco_lease.specs.declared.minute.Minute.{Minute}
+use Rattle.disco_query.specs.declared.key.DocKey.{DocKey}
+use Rattle.disco_cache.specs.declared.payload.Payload.{Payload}
+use Rattle.disco_rounds.specs.Press.{is_doc}
+use Rattle.disco_rounds.specs.Rounds.{Advances, Begins, Ends, round_keys}
+use Rattle.disco_rounds.specs.declared.copied.Copied.{Copied}
+use Rattle.disco_core.specs.Past.{Past, cleaned, history, minute_closed, with_done}
+use Rattle.disco_core.specs.Refusals.{doc_of_id, refusal_of, refusal_of_id}
+use Rattle.disco_core.specs.State.{AddsNoPlaces, IsSweptAfter}
+use Rattle.disco_hub.specs.State.{IsCopied, MayServe, State, StandsFor, rules_of}
+
+-- ---- operations
+
+-- no operation, load or cleaning moves the rules, the rounds or how many documents may be kept
+pub record KeepsRest (old new : State) : Type 0 where
+  pub rules : rules_of new ≡ rules_of old
+  pub rounds : new.rounds ≡ old.rounds
+  pub room : new.docs.max ≡ old.docs.max
+
+-- an operation is accepted at a moment, with this change or none: it has happened then, and no place of what it found stands empty
+pub record Writes (old new : State) (ask : Ask) (now : ℕ) (change : Option Entry) : Type 0 where
+  pub accepted : accepts old.core.registry ask now ≡ Ok change
+  pub history : (p : Past) → StandsFor old p → StandsFor new (with_done (rules_of old).queue p now ask change)
+  pub swept : IsSweptAfter old.core.registry.held change new.core.vips new.core.leases
+
+-- an operation is refused at a moment: nothing has happened, and no place is there that was not
+pub record Declines (old new : State) (ask : Ask) (now : ℕ) (e : Fault) : Type 0 where
+  pub cause : Refuses old.core.registry ask now e
+  pub history : (p : Past) → StandsFor old p → StandsFor new p
+  pub given_back : AddsNoPlaces old.core new.core
+
+-- the recent changes that are older than the retention are forgotten, so that deltas start from this version, and nothing else is
+pub record Cleans (old new : State) (now from : ℕ) : Type 0 where
+  pub base : from ≡ new.core.queue.base
+  pub history : (p : Past) → StandsFor old p → StandsFor new (cleaned (rules_of old).retention p now)
+  pub registry : new.core.registry ≡ old.core.registry
+  pub docs : new.docs ≡ old.docs
+  pub rest : KeepsRest old new
+
+-- a minute is closed, with these numbers
+pub record Closes (old new : State) (minute : Minute) : Type 0 where
+  pub kept : (p : Past) → StandsFor old p → minute ≡ (minute_closed p).closed
+  pub history : (p : Past) → StandsFor old p → StandsFor new (minute_closed p)
+  pub registry : new.core.registry ≡ old.core.registry
+  pub docs : new.docs ≡ old.docs
+  pub rest : KeepsRest old new
+
+-- ---- documents
+
+-- the document of a key is served, where deltas are on or off
+pub record Serves (s : State) (on : Bool) (k : DocKey) (d : Payload) : Type 0 where
+  pub key : d.key ≡ k
+  pub served : (p : Past) → StandsFor s p → MayServe d p
+  pub allowed : (p : Past) → StandsFor s p → refusal_of on k.query (history p) ≡ None
+
+-- it is refused for its cause, or for want of memory
+abbrev pub Withholds : State → Bool → DocKey → Fault → Type 0
+Withholds s on k e = e ≢ OutOfMemory → (p : Past) → StandsFor s p → refusal_of on k.query (history p) ≡ Some e
+
+-- the document of the instance of an id is served
+pub record ServesId (s : State) (id : List ℕ) (f : Form) (d : Payload) : Type 0 where
+  pub key : (p : Past) → StandsFor s p → doc_of_id id f (history p) ≡ Some d.key
+  pub served : (p : Past) → StandsFor s p → MayServe d p
+  pub allowed : (p : Past) → StandsFor s p → refusal_of_id id (history p) ≡ None
+
+-- it is refused for its cause, or for want of memory
+abbrev pub WithholdsId : State → List ℕ → Fault → Type 0
+WithholdsId s id e = e ≢ OutOfMemory → (p : Past) → StandsFor s p → refusal_of_id id (history p) ≡ Some e
+
+-- a load moves no more than what is kept, and keeps what may be served
+pub record Loads (old new : State) : Type 0 where
+  pub core : new.core ≡ old.core
+  pub history : (p : Past) → StandsFor old p → StandsFor new p
+  pub rest : KeepsRest old new
+
+-- ---- rounds
+
+-- nothing but the rounds moves
+abbrev pub MovesRounds : State → State → Type 0
+MovesRounds old new = new ≡ record old { rounds = new.rounds }
+
+-- a round of so many keys begins
+pub record BeginsRound (old new : State) (n : ℕ) : Type 0 where
+  pub begun : Begins (round_keys old.rounds.edition old.docs) n old.rounds new.rounds
+  pub rest : MovesRounds old new
+
+-- no round begins, since one is open, or for want of memory
+abbrev pub RefusesRound : State → Fault → Type 0
+RefusesRound s e = e ≢ OutOfMemory → (e ≡ RoundOpen) × (s.rounds.round ≢ None)
+
+-- what is copied is of the first key that is left of the open round
+abbrev pub IsNextCopy : State → Copied → Type 0
+IsNextCopy s c = (p : Past) → StandsFor s p → IfSome s.rounds.round (λ r. IfSome (slice_get r.left 0) (λ k. IsCopied k c p))
+
+-- the first key that is left is copied, and kept where it has a document
+pub record CopiesOne (old new : State) (c : Copied) : Type 0 where
+  pub copied : IsNextCopy old c
+  pub marked : Advances (is_doc c) old.rounds new.rounds
+  pub rest : MovesRounds old new
+
+-- a round is open, and no key of it is left
+pub record HasNoneLeft (s : State) : Type 0 where
+  pub left : IfSome s.rounds.round (λ r. r.left ≡ [])
+  pub there : s.rounds.round ≢ None
+
+-- nothing is copied, since no round is open, or for want of memory
+abbrev pub RefusesCopy : State → Fault → Type 0
+RefusesCopy s e = e ≢ OutOfMemory → (e ≡ NoRound) × (s.rounds.round ≡ None)
+
+-- the open round ends, with so many keys that had a document
+pub record EndsRound (old new : State) (n : ℕ) : Type 0 where
+  pub finished : Ends n old.rounds new.rounds
+  pub rest : MovesRounds old new
