@@ -15,7 +15,7 @@ use Rattle.disco_queue.specs.Timed.{Timed}
 use Rattle.disco_core.specs.Past.{Past, history, with_done}
 use Rattle.disco_core.specs.Refusals.{doc_of_id, doc_of_key}
 use Rattle.disco_hub.specs.State.{MayServe, StandsFor, State, rules_of}
-use Rattle.disco_hub.specs.Transitions.{Declines, Loads, Serves, ServesId, Withholds, WithholdsId, Writes}
+use Rattle.disco_hub.specs.Transitions.{Declines, IsDocOf, IsDocOfId, Loads, Withholds, WithholdsId, Writes}
 use Rattle.disco_message.specs.ReplyText.{Answer}
 use Rattle.disco_registry.specs.Commit.{done_by}
 use Rattle.disco_registry.specs.Op.{Ask}
@@ -94,7 +94,7 @@ refused_so s asked e now y why is = λ p stands.
     ]
 
 -- a load of a key
-pub load_so : (old new : State) (key : DocKey) (now : ℕ) (y : Answer) (r : Result (Arc Payload Global) Fault) → IfOk r (λ d. Serves old (rules_of old).delta key d.value) → IfErr r (Withholds old (rules_of old).delta key)
+pub load_so : (old new : State) (key : DocKey) (now : ℕ) (y : Answer) (r : Result (Arc Payload Global) Fault) → IfOk r (λ d. IsDocOf old (rules_of old).delta key d.value) → IfErr r (Withholds old (rules_of old).delta key)
     → MatchResult r (λ d. y ≡ with_document d.value.text) (λ e. y ≡ refused e) → Loads old new → IsAnswered old new (Ok (loads key)) now y
 load_so old new key now y (Ok d) may why shown on =
     served old new now y (loads key) (λ p. document_of (rules_of old).delta key (history p)) (λ p q so. so) on.history (Ok d) (λ p stands. ap (unless (Some key)) (may.allowed p stands) ∙ ap (λ k. Ok k) (sym may.key)) may.served tt shown
@@ -102,7 +102,7 @@ load_so old new key now y (Err e) may why shown on =
     served old new now y (loads key) (λ p. document_of (rules_of old).delta key (history p)) (λ p q so. so) on.history (Err e) tt tt (λ other p stands. ap (unless (Some key)) (why other p stands)) shown
 
 -- the document of an instance
-pub instance_so : (s : State) (key : Key) (form : Form) (now : ℕ) (y : Answer) (r : Result (Arc Payload Global) Fault) → IfOk r (λ d. Serves s true (doc_of_key key form) d.value) → IfErr r (Withholds s true (doc_of_key key form))
+pub instance_so : (s : State) (key : Key) (form : Form) (now : ℕ) (y : Answer) (r : Result (Arc Payload Global) Fault) → IfOk r (λ d. IsDocOf s true (doc_of_key key form) d.value) → IfErr r (Withholds s true (doc_of_key key form))
     → MatchResult r (λ d. y ≡ with_document d.value.text) (λ e. y ≡ refused e) → IsAnswered s s (Ok (shows key form)) now y
 instance_so s key form now y (Ok d) may why shown =
     served s s now y (shows key form) (λ p. document_of true (doc_of_key key form) (history p)) (λ p q so. so) (λ p stands. stands) (Ok d) (λ p stands. ap (unless (Some (doc_of_key key form))) (may.allowed p stands) ∙ ap (λ k. Ok k) (sym may.key)) may.served tt shown
@@ -110,7 +110,7 @@ instance_so s key form now y (Err e) may why shown =
     served s s now y (shows key form) (λ p. document_of true (doc_of_key key form) (history p)) (λ p q so. so) (λ p stands. stands) (Err e) tt tt (λ other p stands. ap (unless (Some (doc_of_key key form))) (why other p stands)) shown
 
 -- the document of the instance of an id
-pub by_id_so : (s : State) (id : List ℕ) (form : Form) (now : ℕ) (y : Answer) (r : Result (Arc Payload Global) Fault) → IfOk r (λ d. ServesId s id form d.value) → IfErr r (WithholdsId s id)
+pub by_id_so : (s : State) (id : List ℕ) (form : Form) (now : ℕ) (y : Answer) (r : Result (Arc Payload Global) Fault) → IfOk r (λ d. IsDocOfId s id form d.value) → IfErr r (WithholdsId s id)
     → MatchResult r (λ d. y ≡ with_document d.value.text) (λ e. y ≡ refused e) → IsAnswered s s (Ok (shows_id id form)) now y
 by_id_so s id form now y (Ok d) may why shown =
     served s s now y (shows_id id form) (λ p. document_of_id id form (history p)) (λ p q so. so) (λ p stands. stands) (Ok d) (λ p stands. ap (unless (doc_of_id id form (history p))) (may.allowed p stands) ∙ ap (λ k. unless k None) (may.key p stands)) may.served tt shown

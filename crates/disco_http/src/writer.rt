@@ -39,13 +39,6 @@ impl<W: Drop> Writer<W> {
         let Writer { sink: _sink, room } = self;
         Writer { sink, room }
     }
-
-    /// Gives the sink back.
-    pub fn into_sink(self) -> W
-        ensures { result ≡ sink_of self }
-    {
-        self.sink
-    }
 }
 
 impl<W: Sink> Writer<W> {

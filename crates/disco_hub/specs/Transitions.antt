@@ -56,7 +56,7 @@ pub record Closes (old new : State) (minute : Minute) : Type 0 where
 -- ---- documents
 
 -- the document of a key is served, where deltas are on or off
-pub record Serves (s : State) (on : Bool) (k : DocKey) (d : Payload) : Type 0 where
+pub record IsDocOf (s : State) (on : Bool) (k : DocKey) (d : Payload) : Type 0 where
   pub key : d.key ≡ k
   pub served : (p : Past) → StandsFor s p → MayServe d p
   pub allowed : (p : Past) → StandsFor s p → refusal_of on k.query (history p) ≡ None
@@ -66,7 +66,7 @@ abbrev pub Withholds : State → Bool → DocKey → Fault → Type 0
 Withholds s on k e = e ≢ OutOfMemory → (p : Past) → StandsFor s p → refusal_of on k.query (history p) ≡ Some e
 
 -- the document of the instance of an id is served
-pub record ServesId (s : State) (id : List ℕ) (f : Form) (d : Payload) : Type 0 where
+pub record IsDocOfId (s : State) (id : List ℕ) (f : Form) (d : Payload) : Type 0 where
   pub key : (p : Past) → StandsFor s p → doc_of_id id f (history p) ≡ Some d.key
   pub served : (p : Past) → StandsFor s p → MayServe d p
   pub allowed : (p : Past) → StandsFor s p → refusal_of_id id (history p) ≡ None

@@ -11,7 +11,7 @@ ghost use Rattle.disco_core.specs.Past.{Past, history, nothing, taken_in, with_d
 ghost use Rattle.disco_core.specs.Refusals.{doc_of_key};
 ghost use Rattle.disco_core.specs.State.{AddsNoPlaces, IsFor, IsReady, IsSweptAfter, change_in, moment_in, rules};
 ghost use Rattle.disco_hub.specs.Expiry.{Expires};
-ghost use Rattle.disco_hub.specs.Transitions.{BeginsRound, Cleans, Closes, CopiesOne, Declines, EndsRound, HasNoneLeft, IsNextCopy, KeepsRest, Loads, MovesRounds, RefusesCopy, RefusesRound, Serves, ServesId, Withholds, WithholdsId, Writes};
+ghost use Rattle.disco_hub.specs.Transitions.{BeginsRound, Cleans, Closes, CopiesOne, Declines, EndsRound, HasNoneLeft, IsDocOf, IsDocOfId, IsNextCopy, KeepsRest, Loads, MovesRounds, RefusesCopy, RefusesRound, Withholds, WithholdsId, Writes};
 ghost use Rattle.disco_rounds.specs.Press.{put_copy};
 ghost use Rattle.disco_rounds.specs.Rounds.{Advances, StaysOpen};
 ghost use Rattle.disco_hub.specs.State.{IsCopied, IsSameHub, StandsFor, rules_of};
@@ -90,9 +90,10 @@ impl Hub {
         self.core.ready(op, now)
     }
 
-    /// Does what is ready, which has to be of this hub as it is, and drops the kept documents that
-    /// its change names. Takes no memory, and gives back the places of vips and of the lease that
-    /// the change leaves empty.
+    /// Does what is ready, which has to be of this hub as it is. Takes no memory, and gives back the
+    /// places of vips and of the lease that the change leaves empty. What is kept afterwards may be
+    /// served: the kept documents that the change names are dropped. That all others stay is shown by
+    /// rows, and said by no clause.
     pub fn commit(&mut self, ready: Ready) -> Applied
         requires { IsReady self.old.core ready }
         ensures change { done_by result ≡ change_in ready }
@@ -166,12 +167,13 @@ impl Hub {
         expire(self.alloc, self, now)
     }
 
-    /// The document that is asked for: the kept one, shared, or else one that is written now, and
-    /// kept where there is memory and room. An app's name has to be in upper case. Refused as
+    /// The document that is asked for, shared. An app's name has to be in upper case. That a kept
+    /// document is answered as it is, and one that is written now is kept where there is memory and
+    /// room, is shown by rows, and said by no clause. Refused as
     /// `NotFound` exactly where an app, a vip, a secure vip or an instance is asked for and there is
     /// none, as `DeltaDisabled` exactly for a delta where deltas are off, and as `OutOfMemory`.
     pub fn load(&mut self, key: &DocKey) -> Result<Arc<Payload, Global>, Fault>
-        ensures served { IfOk result (λ d. Serves self.old (rules_of self.old).delta key.now d.value) }
+        ensures served { IfOk result (λ d. IsDocOf self.old (rules_of self.old).delta key.now d.value) }
         ensures refused { IfErr result (Withholds self.old (rules_of self.old).delta key.now) }
         ensures loads { Loads self.old self.new }
     {
@@ -190,7 +192,7 @@ impl Hub {
 
     /// The document of an instance, as [`Hub::load`] gives it. It is not kept.
     pub fn instance(&self, key: &Key, form: Form) -> Result<Arc<Payload, Global>, Fault>
-        ensures served { IfOk result (λ d. Serves self.now true (doc_of_key key.now form) d.value) }
+        ensures served { IfOk result (λ d. IsDocOf self.now true (doc_of_key key.now form) d.value) }
         ensures refused { IfErr result (Withholds self.now true (doc_of_key key.now form)) }
     {
         self.core.instance(key, form)
@@ -200,7 +202,7 @@ impl Hub {
     /// with the least app. It is not kept. Refused as `NotFound` exactly where there is none, and as
     /// `OutOfMemory`.
     pub fn by_id(&self, id: &str, form: Form) -> Result<Arc<Payload, Global>, Fault>
-        ensures served { IfOk result (λ d. ServesId self.now id.now form d.value) }
+        ensures served { IfOk result (λ d. IsDocOfId self.now id.now form d.value) }
         ensures refused { IfErr result (WithholdsId self.now id.now) }
     {
         self.core.by_id(id, form)
@@ -217,9 +219,9 @@ impl Hub {
         self.rounds.begin(self.alloc, &self.cache)
     }
 
-    /// What a copy of the first key that is left of the open round gives: its document, the kept one
-    /// or else one that is written now and not kept, or that there is none; nothing where no key is
-    /// left. The round stays as it was. Refused as `NoRound` where none is open, and as
+    /// What a copy of the first key that is left of the open round gives: its document, or that there
+    /// is none; nothing where no key is left. Nothing is kept, and the round stays as it was. That a
+    /// kept document is given as it is, is shown by rows, and said by no clause. Refused as `NoRound` where none is open, and as
     /// `OutOfMemory`.
     pub fn next_copy(&self) -> Result<Option<Copied>, Fault>
         ensures copied { IfOk result (λ o. IfSome o (IsNextCopy self.now)) }

@@ -6,7 +6,7 @@ ghost use Rattle.disco_core.specs.Past.{nothing};
 ghost use Rattle.disco_core.specs.Refusals.{doc_of_key};
 ghost use Rattle.disco_core.specs.State.{rules};
 ghost use Rattle.disco_hub.specs.State.{StandsFor, rules_of};
-ghost use Rattle.disco_hub.specs.Transitions.{Cleans, Closes, Loads, Serves, ServesId, Withholds, WithholdsId};
+ghost use Rattle.disco_hub.specs.Transitions.{Cleans, Closes, IsDocOf, IsDocOfId, Loads, Withholds, WithholdsId};
 ghost use Rattle.disco_press.specs.Desks.{IsValid, NotesNothing};
 
 use crate::seat::Seat;
@@ -90,7 +90,7 @@ impl<J: Naming> Desk<J> {
 
     /// The document that is asked for, as [`Hub::load`] gives it.
     pub fn load(&mut self, key: &DocKey) -> Result<Arc<Payload, Global>, Fault>
-        ensures served { IfOk result (λ d. Serves self.old.hub (rules_of self.old.hub).delta key.now d.value) }
+        ensures served { IfOk result (λ d. IsDocOf self.old.hub (rules_of self.old.hub).delta key.now d.value) }
         ensures refused { IfErr result (Withholds self.old.hub (rules_of self.old.hub).delta key.now) }
         ensures loads { Loads self.old.hub self.new.hub }
         ensures noted { NotesNothing self.old self.new }
@@ -100,7 +100,7 @@ impl<J: Naming> Desk<J> {
 
     /// The document of an instance, as [`Hub::instance`] gives it.
     pub fn instance(&self, key: &Key, form: Form) -> Result<Arc<Payload, Global>, Fault>
-        ensures served { IfOk result (λ d. Serves self.now.hub true (doc_of_key key.now form) d.value) }
+        ensures served { IfOk result (λ d. IsDocOf self.now.hub true (doc_of_key key.now form) d.value) }
         ensures refused { IfErr result (Withholds self.now.hub true (doc_of_key key.now form)) }
     {
         self.hub.instance(key, form)
@@ -108,7 +108,7 @@ impl<J: Naming> Desk<J> {
 
     /// The document of the instance of an id, as [`Hub::by_id`] gives it.
     pub fn by_id(&self, id: &str, form: Form) -> Result<Arc<Payload, Global>, Fault>
-        ensures served { IfOk result (λ d. ServesId self.now.hub id.now form d.value) }
+        ensures served { IfOk result (λ d. IsDocOfId self.now.hub id.now form d.value) }
         ensures refused { IfErr result (WithholdsId self.now.hub id.now) }
     {
         self.hub.by_id(id, form)
