@@ -9,7 +9,7 @@ use Rattle.disco_query.specs.declared.key.DocKey.{DocKey}
 use Rattle.disco_cache.specs.declared.payload.Payload.{Payload}
 use Rattle.disco_core.specs.Past.{Past, history}
 use Rattle.disco_rounds.specs.Press.{change}
-use Rattle.disco_hub.specs.State.{StandsFor, rules_of}
+use Rattle.disco_hub.specs.State.{StandsFor, rules_of, version_of}
 use Rattle.disco_press.specs.Desks.{DeskState, IsValid, Notes}
 use Rattle.disco_editions.specs.Looks.{Shows}
 use Rattle.disco_editions.specs.Rolls.{notes_in}
@@ -29,7 +29,7 @@ pub record IsAnsweredOn (old new : DeskState) (before after : SeatState) (asked 
 -- and the desk had no fewer changes than the seat and had published what the seat knew; then the seat knows what it has published
 pub record IsAnsweredBy (old new : DeskState) (before after : SeatState) (asked : Result Asks Fault) (now : ℕ) (y : Answer) : Type 0 where
   pub valid : IsValid old
-  pub bound : before.changes ≤ old.hub.core.registry.version
+  pub bound : before.changes ≤ version_of old.hub
   pub knew : IsPrefix before.known old.published
   pub answered : IsAnsweredOn old new before after asked now y
   pub knows : after.known ≡ new.published

@@ -1,33 +1,25 @@
 -- One cancel after another.
-use Rattle.std.proofs.Common.{◌≡◌, ℕ, zero, suc, ◌+◌, ◌<◌, List, length, Option, Some, Result, Ok, Err, IfErr, IfOk, IsOk, OnOk, slice_get, refl, sym, ap, subst, ◌∙◌, arith, add-one}
+use Rattle.std.proofs.Common.{◌≡◌, ℕ, zero, suc, ◌+◌, ◌<◌, List, length, Option, Some, Result, Ok, Err, IsOk, slice_get, refl, sym, ap, subst, ◌∙◌, arith, add-one}
 use Rattle.std.proofs.lemmas.Option.{same_Some}
 use Rattle.disco_values.specs.declared.fault.Fault.{Fault}
 use Rattle.disco_values.specs.declared.fault.Fault.TheVariants.{OutOfMemory}
 use Rattle.disco_values.specs.declared.key.Key.{Key}
 use Rattle.disco_history.specs.Change.{Entry}
 use Rattle.disco_registry.specs.Accept.{accepts}
-use Rattle.disco_registry.specs.Commit.{done_by}
 use Rattle.disco_registry.specs.Op.{cancel}
-use Rattle.disco_registry.specs.declared.op.Applied.{Applied}
 use Rattle.disco_registry.proofs.Histories.{accepts_after}
 use Rattle.disco_hub.specs.Expiry.{Expires, after_next, cancel_of, cancelled}
 use Rattle.disco_core.specs.Past.{Past, after_ask, history, with_done}
 use Rattle.disco_core.specs.State.{Rules}
 use Rattle.disco_hub.specs.State.{State, StandsFor, rules_of}
-use Rattle.disco_hub.specs.Steps.{Cancels, CancelsNone}
+use Rattle.disco_hub.specs.Cancelling.{Cancels, CancelsNone, HasCancelled}
 use Rattle.disco_hub.specs.Transitions.{Declines, Writes}
-
--- a hub has cancelled the first so many of these keys
-pub record Did (old new : State) (now : ℕ) (ks : List Key) (gone : ℕ) : Type 0 where
-  pub stands : (p : Past) → StandsFor old p → StandsFor new (cancelled (rules_of old) p now ks gone)
-  pub accepted : (p : Past) → StandsFor old p → (i : ℕ) (k : Key) → i < gone → slice_get ks i ≡ Some k → IsOk (cancel_of (rules_of old) (cancelled (rules_of old) p now ks i) now k)
-  pub rules : rules_of new ≡ rules_of old
 
 pub none_yet : (rules : Rules) (p : Past) (now : ℕ) (ks : List Key) → p ≡ cancelled rules p now ks 0
 unfolding cancelled
 none_yet rules p now ks = refl
 
-pub did_nothing : (s : State) (now : ℕ) (ks : List Key) → Did s s now ks 0
+pub did_nothing : (s : State) (now : ℕ) (ks : List Key) → HasCancelled s s now ks 0
 did_nothing s now ks = record {
   stands = λ p stands. subst (StandsFor s) (none_yet (rules_of s) p now ks) stands;
   accepted = λ p stands i k lt is. absurd (omega (arith, lt));
@@ -56,7 +48,7 @@ below_of (suc i) (suc n) lt = by (below_of i n (omega (arith, lt)))
     by (before l) = before (omega (arith, l))
     by (last e) = last (ap suc e)
 
-module _ (old mid new : State) (now : ℕ) (ks : List Key) (i : ℕ) (k : Key) (there : slice_get ks i ≡ Some k) (did : Did old mid now ks i) where
+module _ (old mid new : State) (now : ℕ) (ks : List Key) (i : ℕ) (k : Key) (there : slice_get ks i ≡ Some k) (did : HasCancelled old mid now ks i) where
   abbrev so_far : Past → Past
   so_far p = cancelled (rules_of old) p now ks i
 
@@ -78,7 +70,7 @@ module _ (old mid new : State) (now : ℕ) (ks : List Key) (i : ℕ) (k : Key) (
       subst (λ (x : Key). IsOk (cancel_of (rules_of old) (cancelled (rules_of old) p now ks j) now x)) same
       (subst (λ n. IsOk (cancel_of (rules_of old) (cancelled (rules_of old) p now ks n) now k)) (sym e) (was_ok _ does.0 (says p (Ok does.0) does.1)))
 
-  pub did_more : Cancels mid new now k → rules_of new ≡ rules_of mid → Did old new now ks (i + 1)
+  pub did_more : Cancels mid new now k → rules_of new ≡ rules_of mid → HasCancelled old new now ks (i + 1)
   did_more cancels same = record {
     stands = λ p stands. let does = cancels (so_far p) (did.stands p stands) in subst (StandsFor new) (left p does.0 (says p (Ok does.0) does.1)) does.2;
     accepted = λ p stands j q lt is. accepted_too cancels p stands j q (below_of j i lt) is;
@@ -115,19 +107,11 @@ none_gone s now ks e memory some = λ p stands. (
 pub at_history : (s : State) (p : Past) (k : Key) (now : ℕ) → StandsFor s p → accepts s.core.registry (cancel k) now ≡ cancel_of (rules_of s) p now k
 at_history s p k now stands = accepts_after s.core.registry (history p) stands.core.registry (cancel k) now
 
-one_gone : (old new : State) (now : ℕ) (k key : Key) (c : Option Entry) → key ≡ k → Writes old new (cancel key) now c → Cancels old new now k
+pub one_gone : (old new : State) (now : ℕ) (k key : Key) (c : Option Entry) → key ≡ k → Writes old new (cancel key) now c → Cancels old new now k
 one_gone old new now k key c same done = λ p stands.
     subst (λ (x : Key). (c : Option Entry) × (cancel_of (rules_of old) p now x ≡ Ok c) × StandsFor new (with_done (rules_of old).queue p now (cancel x) c)) same
     (c, sym (at_history old p key now stands) ∙ done.accepted, done.history p stands)
 
-one_refused : (old new : State) (now : ℕ) (k key : Key) (e : Fault) → key ≡ k → Declines old new (cancel key) now e → CancelsNone old new now k e
+pub one_refused : (old new : State) (now : ℕ) (k key : Key) (e : Fault) → key ≡ k → Declines old new (cancel key) now e → CancelsNone old new now k e
 one_refused old new now k key e same refused = λ p stands.
     (refused.history p stands, λ other. ap (cancel_of (rules_of old) p now) (sym same) ∙ sym (at_history old p key now stands) ∙ refused.cause other)
-
-pub all_done : (old new : State) (now : ℕ) (k key : Key) (r : Result Applied Fault) → key ≡ k → IfOk r (λ a. Writes old new (cancel key) now (done_by a)) → OnOk r (Cancels old new now k)
-all_done old new now k key (Ok a) same done = one_gone old new now k key (done_by a) same done
-all_done old new now k key (Err e) same done = tt
-
-pub all_refused : (old new : State) (now : ℕ) (k key : Key) (r : Result Applied Fault) → key ≡ k → IfErr r (Declines old new (cancel key) now) → IfErr r (CancelsNone old new now k)
-all_refused old new now k key (Ok a) same refused = tt
-all_refused old new now k key (Err e) same refused = one_refused old new now k key e same refused

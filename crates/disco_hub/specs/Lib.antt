@@ -1,6 +1,6 @@
+pub mod Cancelling
 pub mod Expiry
 pub mod Kept
 pub mod Levels
 pub mod State
-pub mod Steps
 pub mod Transitions

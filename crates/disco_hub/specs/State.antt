@@ -1,6 +1,6 @@
 -- What a hub is: a core, with documents that are kept, and rounds in which they are copied.
-use Rattle.std.specs.Prelude.{◌≡◌, ◌≤◌, Bool, true, false, Some}
-use Rattle.std.specs.FinMap.{FinMap, get}
+use Rattle.std.specs.Prelude.{◌≡◌, ◌≤◌, ℕ, Bool, true, false, Option, Some, None}
+use Rattle.std.specs.FinMap.{FinMap, empty, get}
 use Rattle.disco_history.specs.Query.{is_absent}
 use Rattle.disco_history.specs.Registry.{reg}
 use Rattle.disco_documents.specs.Documents.{asked_by}
@@ -12,11 +12,12 @@ use Rattle.disco_query.specs.Keys.{doc_cmp}
 use Rattle.disco_cache.specs.Payloads.{IsTrue}
 use Rattle.disco_query.specs.declared.key.DocKey.{DocKey}
 use Rattle.disco_cache.specs.declared.payload.Payload.{Payload}
-use Rattle.disco_core.specs.Past.{Past, history}
+use Rattle.disco_core.specs.Past.{Past, history, nothing}
 use Rattle.disco_core.specs.State as core
-use Rattle.disco_rounds.specs.Rounds.{Rounds}
+use Rattle.disco_rounds.specs.Rounds.{Round, Rounds}
 use Rattle.disco_rounds.specs.declared.copied.Copied.{Copied}
 use Rattle.disco_rounds.specs.declared.copied.Copied.TheVariants.{Doc, Drop}
+use Rattle.disco_settings.specs.declared.settings.Settings.{Settings}
 
 pub record State : Type 0 where
   pub core : core.State
@@ -25,6 +26,14 @@ pub record State : Type 0 where
 
 abbrev pub rules_of : State → core.Rules
 rules_of s = core.rules_of s.core
+
+-- how many changes were accepted
+abbrev pub version_of : State → ℕ
+version_of s = s.core.registry.version
+
+-- the round that is open, if one is
+abbrev pub open_round : State → Option Round
+open_round s = s.rounds.round
 
 -- a document may be served after what has happened: it is true, and a delta starts no later than the queue does
 pub record MayServe (d : Payload) (p : Past) : Type 0 where
@@ -45,6 +54,13 @@ pub record AreKept (docs : FinMap doc_cmp Payload) (p : Past) : Type 0 where
 pub record StandsFor (s : State) (p : Past) : Type 0 where
   pub core : core.StandsFor s.core p
   pub docs : AreKept s.docs.docs p
+
+-- nothing has happened to it, no document is kept and none was published, and no round is open
+pub record IsEmptyHub (settings : Settings) (s : State) : Type 0 where
+  pub stands : StandsFor s nothing
+  pub rules : rules_of s ≡ core.rules settings
+  pub docs : s.docs ≡ record { docs = empty; max = settings.entries }
+  pub rounds : s.rounds ≡ record { edition = empty; round = None }
 
 -- the same but for places and room, which no answer shows
 pub record IsSameHub (old new : State) : Type 0 where

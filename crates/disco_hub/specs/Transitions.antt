@@ -15,7 +15,7 @@ use Rattle.disco_rounds.specs.declared.copied.Copied.{Copied}
 use Rattle.disco_core.specs.Past.{Past, cleaned, history, minute_closed, with_done}
 use Rattle.disco_core.specs.Refusals.{doc_of_id, refusal_of, refusal_of_id}
 use Rattle.disco_core.specs.State.{AddsNoPlaces, IsSweptAfter}
-use Rattle.disco_hub.specs.State.{IsCopied, MayServe, State, StandsFor, rules_of}
+use Rattle.disco_hub.specs.State.{IsCopied, MayServe, State, StandsFor, open_round, rules_of}
 
 -- ---- operations
 
@@ -94,11 +94,11 @@ pub record BeginsRound (old new : State) (n : ℕ) : Type 0 where
 
 -- no round begins, since one is open, or for want of memory
 abbrev pub RefusesRound : State → Fault → Type 0
-RefusesRound s e = e ≢ OutOfMemory → (e ≡ RoundOpen) × (s.rounds.round ≢ None)
+RefusesRound s e = e ≢ OutOfMemory → (e ≡ RoundOpen) × (open_round s ≢ None)
 
 -- what is copied is of the first key that is left of the open round
 abbrev pub IsNextCopy : State → Copied → Type 0
-IsNextCopy s c = (p : Past) → StandsFor s p → IfSome s.rounds.round (λ r. IfSome (slice_get r.left 0) (λ k. IsCopied k c p))
+IsNextCopy s c = (p : Past) → StandsFor s p → IfSome (open_round s) (λ r. IfSome (slice_get r.left 0) (λ k. IsCopied k c p))
 
 -- the first key that is left is copied, and kept where it has a document
 pub record CopiesOne (old new : State) (c : Copied) : Type 0 where
@@ -108,12 +108,12 @@ pub record CopiesOne (old new : State) (c : Copied) : Type 0 where
 
 -- a round is open, and no key of it is left
 pub record HasNoneLeft (s : State) : Type 0 where
-  pub left : IfSome s.rounds.round (λ r. r.left ≡ [])
-  pub there : s.rounds.round ≢ None
+  pub left : IfSome (open_round s) (λ r. r.left ≡ [])
+  pub there : open_round s ≢ None
 
 -- nothing is copied, since no round is open, or for want of memory
 abbrev pub RefusesCopy : State → Fault → Type 0
-RefusesCopy s e = e ≢ OutOfMemory → (e ≡ NoRound) × (s.rounds.round ≡ None)
+RefusesCopy s e = e ≢ OutOfMemory → (e ≡ NoRound) × (open_round s ≡ None)
 
 -- the open round ends, with so many keys that had a document
 pub record EndsRound (old new : State) (n : ℕ) : Type 0 where

@@ -1,14 +1,13 @@
 //! Runs that cancel the instances whose leases ran out.
-ghost use Rattle.std.specs.Prelude.{◌≡◌, ◌<◌, IfErr, IfOk, OnErr, OnOk, length, map};
+ghost use Rattle.std.specs.Prelude.{◌≡◌, ◌<◌, IfErr, IfOk, OnErr, length, map};
 ghost use Rattle.disco_values.specs.declared.fault.Fault.TheVariants.{OutOfMemory};
 ghost use Rattle.disco_hub.specs.Expiry.{Expires};
 ghost use Rattle.disco_core.specs.Past.{Past, taken_in};
 ghost use Rattle.disco_hub.specs.State.{StandsFor};
 ghost use Rattle.disco_hub.specs.Transitions.{KeepsRest};
-ghost use Rattle.disco_hub.specs.Steps.{Cancels, CancelsNone};
 
+use crate::cancelling::cancel_all;
 use crate::hub::Hub;
-use disco_registry::{Applied, Op};
 use disco_values::{Fault, Key};
 use std::alloc::{AllocError, Global};
 
@@ -30,35 +29,6 @@ fn copies(alloc: Global, keys: &[&Key]) -> Result<Vec<Key>, AllocError>
         copies.push((*key).clone()?)?;
     }
     Ok(copies)
-}
-
-fn cancel(hub: &mut Hub, key: &Key, now: u64) -> Result<Applied, Fault>
-    ensures done { OnOk result (Cancels hub.old hub.new now key.now) }
-    ensures refused { IfErr result (CancelsNone hub.old hub.new now key.now) }
-    ensures rest { KeepsRest hub.old hub.new }
-{
-    let key = key.clone()?;
-    hub.write(Op::Cancel(key), now)
-}
-
-fn cancel_all(hub: &mut Hub, keys: &[Key], now: u64) -> Expired
-    ensures history { Expires hub.old hub.new now (λ _. keys.now) result.gone result.stopped }
-    ensures rest { KeepsRest hub.old hub.new }
-{
-    let mut gone = 0;
-    for key in keys {
-        if let Err(fault) = cancel(hub, key, now) {
-            return Expired {
-                gone,
-                stopped: Some(fault),
-            };
-        }
-        gone += 1;
-    }
-    Expired {
-        gone,
-        stopped: None,
-    }
 }
 
 /// The keys that a run at a moment takes, of which the hub's leases are not the owner.

@@ -1,20 +1,19 @@
 //! The hub: one state behind all documents, with the documents that are kept.
 ghost use Rattle.std.specs.Prelude.{◌≡◌, ◌≢◌, ◌<◌, [], IfErr, IfNone, IfOk, IfSome, OnErr, OnOk, Ok, None, Some, is_some, length, map, option_map, slice_get, true};
-ghost use Rattle.std.specs.FinMap as finmap;
 ghost use Rattle.disco_values.specs.declared.fault.Fault.TheVariants.{NoRound, OutOfMemory};
 ghost use Rattle.disco_registry.specs.Accept.{Refuses, accepts};
 ghost use Rattle.disco_registry.specs.Commit.{Takes, changes_properly, done_by};
 ghost use Rattle.disco_registry.specs.Op.{Ask, ask_of};
 ghost use Rattle.disco_registry.specs.State as registry;
 ghost use Rattle.disco_query.specs.Query.{is_delta};
-ghost use Rattle.disco_core.specs.Past.{Past, history, nothing, taken_in, with_done};
+ghost use Rattle.disco_core.specs.Past.{Past, history, taken_in, with_done};
 ghost use Rattle.disco_core.specs.Refusals.{doc_of_key};
-ghost use Rattle.disco_core.specs.State.{AddsNoPlaces, IsFor, IsReady, IsSweptAfter, change_in, moment_in, rules};
+ghost use Rattle.disco_core.specs.State.{AddsNoPlaces, IsFor, IsReady, IsSweptAfter, change_in, moment_in};
 ghost use Rattle.disco_hub.specs.Expiry.{Expires};
 ghost use Rattle.disco_hub.specs.Transitions.{BeginsRound, Cleans, Closes, CopiesOne, Declines, EndsRound, HasNoneLeft, IsDocOf, IsDocOfId, IsNextCopy, KeepsRest, Loads, MovesRounds, RefusesCopy, RefusesRound, Withholds, WithholdsId, Writes};
 ghost use Rattle.disco_rounds.specs.Press.{put_copy};
 ghost use Rattle.disco_rounds.specs.Rounds.{Advances, StaysOpen};
-ghost use Rattle.disco_hub.specs.State.{IsCopied, IsSameHub, StandsFor, rules_of};
+ghost use Rattle.disco_hub.specs.State.{IsCopied, IsEmptyHub, IsSameHub, StandsFor, open_round, rules_of, version_of};
 ghost use Rattle.disco_rounds.specs.Press.{is_doc};
 
 use crate::expiry::{Expired, expire, taken};
@@ -56,10 +55,7 @@ impl Model for Hub {
 impl Hub {
     /// An empty registry within the limits of the settings.
     pub fn new(alloc: Global, settings: &Settings) -> Hub
-        ensures empty { StandsFor result nothing }
-        ensures rules { rules_of result ≡ rules settings.now }
-        ensures room { result.docs.max ≡ settings.now.entries }
-        ensures rounds { result.rounds ≡ record { edition = finmap.empty; round = None } }
+        ensures { IsEmptyHub settings.now result }
     {
         Hub {
             alloc,
@@ -71,7 +67,7 @@ impl Hub {
 
     /// How many changes were accepted.
     pub fn version(&self) -> u64
-        ensures { result ≡ self.now.core.registry.version }
+        ensures { result ≡ version_of self.now }
     {
         self.core.version()
     }
@@ -225,8 +221,8 @@ impl Hub {
     /// `OutOfMemory`.
     pub fn next_copy(&self) -> Result<Option<Copied>, Fault>
         ensures copied { IfOk result (λ o. IfSome o (IsNextCopy self.now)) }
-        ensures next { IfOk result (λ o. IfSome self.now.rounds.round (λ r. is_some (slice_get r.left 0) ≡ is_some o)) }
-        ensures open { OnOk result (self.now.rounds.round ≢ None) }
+        ensures next { IfOk result (λ o. IfSome (open_round self.now) (λ r. is_some (slice_get r.left 0) ≡ is_some o)) }
+        ensures open { OnOk result (open_round self.now ≢ None) }
         ensures refused { IfErr result (RefusesCopy self.now) }
     {
         match self.rounds.first()? {
@@ -254,7 +250,7 @@ impl Hub {
     /// round is open or no key is left.
     pub fn mark(&mut self, kept: bool) -> Result<(), Fault>
         ensures marked { OnOk result (Advances kept self.old.rounds self.new.rounds) }
-        ensures refused { IfErr result (λ e. (e ≡ NoRound) × IfSome self.old.rounds.round (λ r. r.left ≡ [])) }
+        ensures refused { IfErr result (λ e. (e ≡ NoRound) × IfSome (open_round self.old) (λ r. r.left ≡ [])) }
         ensures rest { MovesRounds self.old self.new }
         ensures as_before { OnErr result (self.new ≡ self.old) }
     {
@@ -297,8 +293,8 @@ impl Hub {
     /// Ends an open round of which no key was copied. Takes no memory. Refused as `NoRound` where
     /// there is no such round.
     pub fn abandon(&mut self) -> Result<(), Fault>
-        ensures abandoned { OnOk result (IfSome self.old.rounds.round (λ r. r.done ≡ []) × (self.old.rounds.round ≢ None) × (self.new.rounds ≡ record self.old.rounds { round = None })) }
-        ensures refused { IfErr result (λ e. (e ≡ NoRound) × IfSome self.old.rounds.round (λ r. r.done ≢ [])) }
+        ensures abandoned { OnOk result (IfSome (open_round self.old) (λ r. r.done ≡ []) × (open_round self.old ≢ None) × (self.new.rounds ≡ record self.old.rounds { round = None })) }
+        ensures refused { IfErr result (λ e. (e ≡ NoRound) × IfSome (open_round self.old) (λ r. r.done ≢ [])) }
         ensures rest { MovesRounds self.old self.new }
         ensures as_before { OnErr result (self.new ≡ self.old) }
     {
@@ -307,7 +303,7 @@ impl Hub {
 
     /// How many keys of the open round are left, if one is open. Takes no memory.
     pub fn round(&self) -> Option<usize>
-        ensures { result ≡ option_map (λ r. length r.left) self.now.rounds.round }
+        ensures { result ≡ option_map (λ r. length r.left) (open_round self.now) }
     {
         self.rounds.left()
     }
@@ -317,7 +313,7 @@ impl Hub {
     /// all of its keys were copied.
     pub fn finish(&mut self) -> Result<usize, Fault>
         ensures finished { IfOk result (EndsRound self.old self.new) }
-        ensures refused { IfErr result (λ e. StaysOpen e self.old.rounds.round) }
+        ensures refused { IfErr result (λ e. StaysOpen e (open_round self.old)) }
         ensures as_before { OnErr result (self.new ≡ self.old) }
     {
         self.rounds.finish()

@@ -1,35 +1,37 @@
 -- One cancel after another, each noted.
-use Rattle.std.proofs.Common.{◌≡◌, ℕ, ◌+◌, List, [], ◌++◌, map, Some, Result, Ok, Err, IfOk, OnOk, slice_get, refl, sym, ap, subst, ◌∙◌, append-nil, append_assoc}
+use Rattle.std.proofs.Common.{◌≡◌, ℕ, ◌+◌, List, [], ◌++◌, map, Option, Some, Ok, slice_get, refl, sym, ap, subst, ◌∙◌, append-nil, append_assoc}
 use Rattle.std.proofs.lemmas.List.{map-append}
-use Rattle.disco_values.specs.declared.fault.Fault.{Fault}
 use Rattle.disco_values.specs.declared.key.Key.{Key}
+use Rattle.disco_history.specs.Change.{Entry}
 use Rattle.disco_registry.specs.Commit.{done_by}
 use Rattle.disco_registry.specs.Op.{cancel}
 use Rattle.disco_registry.specs.declared.op.Applied.{Applied}
-use Rattle.disco_core.specs.Past.{Past, history}
-use Rattle.disco_hub.specs.Expiry.{cancelled}
+use Rattle.disco_core.specs.Past.{Past, history, with_done}
+use Rattle.disco_hub.specs.Expiry.{cancel_of, cancelled}
 use Rattle.disco_rounds.specs.Press.{change}
 use Rattle.disco_hub.specs.State.{StandsFor, rules_of}
-use Rattle.disco_hub.specs.Steps.{Cancels}
+use Rattle.disco_hub.specs.Cancelling.{Cancels, HasCancelled}
 use Rattle.disco_hub.specs.Transitions.{Writes}
-use Rattle.disco_hub.proofs.Cancels.{Did, at_history, left, says}
+use Rattle.disco_hub.proofs.Cancels.{at_history, left, says}
 use Rattle.disco_press.specs.Desks.{DeskState, Notes, NotesCancels, NotesNothing, note_done}
-use Rattle.disco_press.specs.Steps.{CancelsOne}
 use Rattle.disco_press.proofs.Keeping.{changes_done, history_done, noted_is}
 
 -- ---- one cancel
 
-one_gone : (old new : DeskState) (now : ℕ) (k key : Key) (a : Applied) → key ≡ k → Writes old.hub new.hub (cancel key) now (done_by a) → Notes (note_done (done_by a)) old new → CancelsOne old new now k
+-- one cancel is accepted, and its change is noted
+pub record CancelsOne (old new : DeskState) (now : ℕ) (k : Key) : Type 0 where
+  pub change : Option Entry
+  pub noted : Notes (note_done change) old new
+  pub accepted : (p : Past) → StandsFor old.hub p → cancel_of (rules_of old.hub) p now k ≡ Ok change
+  pub stands : (p : Past) → StandsFor old.hub p → StandsFor new.hub (with_done (rules_of old.hub).queue p now (cancel k) change)
+
+pub one_gone : (old new : DeskState) (now : ℕ) (k key : Key) (a : Applied) → key ≡ k → Writes old.hub new.hub (cancel key) now (done_by a) → Notes (note_done (done_by a)) old new → CancelsOne old new now k
 one_gone old new now k key a same done noted = subst (λ (x : Key). CancelsOne old new now x) same (record {
   change = done_by a;
   noted = noted;
   accepted = λ p s. sym (at_history old.hub p key now s) ∙ done.accepted;
   stands = done.history;
 })
-
-pub all_done : (old new : DeskState) (now : ℕ) (k key : Key) (r : Result Applied Fault) → key ≡ k → IfOk r (λ a. Writes old.hub new.hub (cancel key) now (done_by a)) → IfOk r (λ a. Notes (note_done (done_by a)) old new) → OnOk r (CancelsOne old new now k)
-all_done old new now k key (Ok a) same done noted = one_gone old new now k key a same done noted
-all_done old new now k key (Err e) same done noted = tt
 
 pub cancels : (old new : DeskState) (now : ℕ) (k : Key) → CancelsOne old new now k → Cancels old.hub new.hub now k
 cancels old new now k one = λ p stands. (one.change, one.accepted p stands, one.stands p stands)
@@ -43,7 +45,7 @@ noted_nothing d then same = record {
   cancels = λ p stands. ap history (same p stands) ∙ sym (append-nil (history p));
 }
 
-module _ (old mid new : DeskState) (now : ℕ) (ks : List Key) (i : ℕ) (k : Key) (there : slice_get ks i ≡ Some k) (did : Did old.hub mid.hub now ks i) (so_far : NotesCancels old mid (λ p. cancelled (rules_of old.hub) p now ks i)) where
+module _ (old mid new : DeskState) (now : ℕ) (ks : List Key) (i : ℕ) (k : Key) (there : slice_get ks i ≡ Some k) (did : HasCancelled old.hub mid.hub now ks i) (so_far : NotesCancels old mid (λ p. cancelled (rules_of old.hub) p now ks i)) where
   pub noted_more : CancelsOne mid new now k → NotesCancels old new (λ p. cancelled (rules_of old.hub) p now ks (i + 1))
   noted_more one = record {
     changes = so_far.changes ++ changes_done one.change;

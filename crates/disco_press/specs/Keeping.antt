@@ -3,7 +3,7 @@ use Rattle.std.specs.Prelude.{◌≡◌, ℕ, List}
 use Rattle.disco_core.specs.Past.{Past}
 use Rattle.disco_hub.specs.Levels.{AreLevels}
 use Rattle.disco_rounds.specs.Press.{Edition, Note}
-use Rattle.disco_hub.specs.State.{State}
+use Rattle.disco_hub.specs.State.{State, version_of}
 use Rattle.disco_editions.specs.Rolls.{Rolled, notes_in}
 
 -- readers take what was published, the hub stands for what was noted, and each change is counted
@@ -11,4 +11,4 @@ pub record IsKept (printed : List (List Note)) (roll : Rolled) (hub : State) (ne
   pub shown : printed ≡ roll.published
   pub past : Past
   pub levels : AreLevels hub next (notes_in roll.published) roll.pending past
-  pub version : hub.core.registry.version ≡ counted
+  pub version : version_of hub ≡ counted

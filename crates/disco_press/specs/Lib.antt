@@ -2,4 +2,3 @@ pub mod Desks
 pub mod Keeping
 pub mod Openings
 pub mod Seats
-pub mod Steps

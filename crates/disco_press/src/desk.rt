@@ -2,10 +2,8 @@
 ghost use Rattle.std.specs.Prelude.{◌≡◌, ◌≤◌, [], IfErr, IfOk, true};
 ghost use Rattle.std.specs.FinMap as finmap;
 ghost use mathlib.Core.List.{IsPrefix};
-ghost use Rattle.disco_core.specs.Past.{nothing};
 ghost use Rattle.disco_core.specs.Refusals.{doc_of_key};
-ghost use Rattle.disco_core.specs.State.{rules};
-ghost use Rattle.disco_hub.specs.State.{StandsFor, rules_of};
+ghost use Rattle.disco_hub.specs.State.{IsEmptyHub, rules_of, version_of};
 ghost use Rattle.disco_hub.specs.Transitions.{Cleans, Closes, IsDocOf, IsDocOfId, Loads, Withholds, WithholdsId};
 ghost use Rattle.disco_press.specs.Desks.{IsValid, NotesNothing};
 
@@ -66,9 +64,7 @@ impl<J: Naming> Desk<J> {
         requires printer { printer ≡ [] }
         requires book { book.total ≡ 0 }
         ensures nothing { (result.published ≡ []) × (result.pending ≡ []) }
-        ensures empty { StandsFor result.hub nothing }
-        ensures rules { rules_of result.hub ≡ rules settings.now }
-        ensures room { result.hub.docs.max ≡ settings.now.entries }
+        ensures hub { IsEmptyHub settings.now result.hub }
     {
         Desk {
             alloc,
@@ -154,7 +150,7 @@ impl<J: Naming> Seat<J> {
         ensures desk { desk.new ≡ desk.old }
         ensures knew { IsPrefix self.old.known desk.old.published }
         ensures knows { self.new ≡ record self.old { known = desk.old.published } }
-        ensures bound { self.old.changes ≤ desk.old.hub.core.registry.version }
+        ensures bound { self.old.changes ≤ version_of desk.old.hub }
     {
         self.check(&mut desk.book);
         desk.roll.meet(self.known());

@@ -4,6 +4,7 @@ ghost use Rattle.std.specs.FinMap.{len};
 ghost use Rattle.disco_rounds.specs.Press as press;
 ghost use Rattle.disco_rounds.specs.Press.{edition_of, note_of};
 ghost use Rattle.disco_rounds.specs.Rounds.{StaysOpen};
+ghost use Rattle.disco_hub.specs.State.{open_round};
 ghost use Rattle.disco_hub.specs.Transitions.{BeginsRound, CopiesOne, EndsRound, HasNoneLeft, RefusesCopy, RefusesRound};
 ghost use Rattle.disco_press.specs.Desks.{Notes, notes_of};
 
@@ -53,7 +54,7 @@ impl<J: Naming> Desk<J> {
         ensures documents { IfOk result (λ n. n ≡ len (edition_of (notes_of self.old))) }
         ensures published { OnOk result ((self.new.published ≡ self.old.published ++ self.old.pending ∷ []) × (self.new.pending ≡ [])) }
         ensures finished { IfOk result (EndsRound self.old.hub self.new.hub) }
-        ensures refused { IfErr result (λ e. StaysOpen e self.old.hub.rounds.round) }
+        ensures refused { IfErr result (λ e. StaysOpen e (open_round self.old.hub)) }
         ensures as_before { OnErr result (self.new ≡ self.old) }
     {
         let documents = self.hub.finish()?;

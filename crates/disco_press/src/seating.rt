@@ -1,9 +1,7 @@
 //! Opening a desk with its seats.
 ghost use Rattle.std.specs.Prelude.{◌≡◌, ◌<◌, ◌+◌, ◌≤◌, [], IfErr, IfOk, All, vec_len};
 ghost use Rattle.disco_values.specs.declared.fault.Fault.TheVariants.{OutOfMemory};
-ghost use Rattle.disco_core.specs.Past.{nothing};
-ghost use Rattle.disco_core.specs.State.{rules};
-ghost use Rattle.disco_hub.specs.State.{StandsFor, rules_of};
+ghost use Rattle.disco_hub.specs.State.{IsEmptyHub};
 ghost use Rattle.disco_press.specs.Seats.{IsNew};
 ghost use Rattle.disco_press.specs.Openings.{Opens};
 
@@ -64,9 +62,7 @@ pub fn open<J: Naming, R: Wait>(
     requires seats { (0 < seats) × (seats ≤ 64) }
     requires opening { Opens J.list J.name J.parts opening }
     ensures nothing { IfOk result (λ r. (r.0.published ≡ []) × (r.0.pending ≡ [])) }
-    ensures empty { IfOk result (λ r. StandsFor r.0.hub nothing) }
-    ensures rules { IfOk result (λ r. rules_of r.0.hub ≡ rules settings.now) }
-    ensures room { IfOk result (λ r. r.0.hub.docs.max ≡ settings.now.entries) }
+    ensures hub { IfOk result (λ r. IsEmptyHub settings.now r.0.hub) }
     ensures count { IfOk result (λ r. vec_len r.1 ≡ seats) }
     ensures seats { IfOk result (λ r. All (λ s. IsNew [] s) r.1.items) }
     ensures memory { IfErr result (λ e. e ≡ OutOfMemory) }

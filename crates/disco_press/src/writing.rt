@@ -1,19 +1,17 @@
 //! Writes, which note their changes.
-ghost use Rattle.std.specs.Prelude.{◌≡◌, ◌+◌, IfErr, IfOk, OnErr, OnOk, length, true};
+ghost use Rattle.std.specs.Prelude.{◌≡◌, ◌+◌, IfErr, IfOk, OnErr, length, true};
 ghost use Rattle.disco_registry.specs.Commit.{changes_properly, done_by};
 ghost use Rattle.disco_registry.specs.Op.{ask_of};
 ghost use Rattle.disco_core.specs.Past.{taken_in};
 ghost use Rattle.disco_hub.specs.Expiry.{Expires, cancelled};
 ghost use Rattle.disco_hub.specs.State.{rules_of};
-ghost use Rattle.disco_hub.specs.Steps.{CancelsNone};
 ghost use Rattle.disco_hub.specs.Transitions.{Declines, KeepsRest, Writes};
 ghost use Rattle.disco_press.specs.Desks.{Notes, NotesCancels, NotesNothing, note_done};
-ghost use Rattle.disco_press.specs.Steps.{CancelsOne};
 
 use crate::desk::Desk;
 use crate::seat::Seat;
 use disco_editions::Naming;
-use disco_hub::Expired;
+use disco_hub::{Cancel, Expired, cancel_all};
 use disco_registry::{Applied, Op};
 use disco_values::{Fault, Key};
 
@@ -79,35 +77,16 @@ impl<J: Naming> Desk<J> {
     }
 }
 
-/// Cancels one instance.
-fn cancel<J: Naming>(desk: &mut Desk<J>, key: &Key, now: u64) -> Result<Applied, Fault>
-    ensures done { OnOk result (CancelsOne desk.old desk.new now key.now) }
-    ensures refused { IfErr result (CancelsNone desk.old.hub desk.new.hub now key.now) }
-    ensures not_noted { OnErr result (NotesNothing desk.old desk.new) }
-    ensures rest { KeepsRest desk.old.hub desk.new.hub }
-{
-    let key = key.clone()?;
-    desk.write(Op::Cancel(key), now)
-}
+impl<J: Naming> Cancel for Desk<J> {
+    ghost use Rattle.disco_press.specs.Desks.{NotesCancels};
 
-/// Cancels these instances one by one, up to the first cancel that is refused.
-fn cancel_all<J: Naming>(desk: &mut Desk<J>, keys: &[Key], now: u64) -> Expired
-    ensures history { Expires desk.old.hub desk.new.hub now (λ _. keys.now) result.gone result.stopped }
-    ensures rest { KeepsRest desk.old.hub desk.new.hub }
-    ensures noted { NotesCancels desk.old desk.new (λ p. cancelled (rules_of desk.old.hub) p now keys.now result.gone) }
-{
-    let mut gone = 0;
-    for key in keys {
-        if let Err(fault) = cancel(desk, key, now) {
-            return Expired {
-                gone,
-                stopped: Some(fault),
-            };
-        }
-        gone += 1;
-    }
-    Expired {
-        gone,
-        stopped: None,
+    ghost hub = { λ d. d.hub };
+
+    ghost noted = { NotesCancels };
+
+    fn cancel(&mut self, key: &Key, now: u64) -> Result<(), Fault> {
+        let key = key.clone()?;
+        self.write(Op::Cancel(key), now)?;
+        Ok(())
     }
 }

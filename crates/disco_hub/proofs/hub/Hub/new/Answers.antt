@@ -5,5 +5,10 @@ use Rattle.disco_hub.specs.State.{AreKept}
 use Rattle.disco_hub.proofs.Documents.{none_kept}
 use Rattle.disco_hub.proofs.hub.Hub.new.Goals as goal
 
-pub returns-clause-empty : goal.returns-clause-empty
-returns-clause-empty c = record { core = c.new.ensures.empty; docs = subst (λ (d : Docs). AreKept d.docs nothing) (sym c.new-2.ensures) (none_kept nothing) }
+pub returns : goal.returns
+returns c = record {
+  stands = record { core = c.new.ensures.empty; docs = subst (λ (d : Docs). AreKept d.docs nothing) (sym c.new-2.ensures) (none_kept nothing) };
+  rules = c.new.ensures.rules;
+  docs = c.new-2.ensures;
+  rounds = c.new-3.ensures;
+}

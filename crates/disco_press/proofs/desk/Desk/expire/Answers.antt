@@ -14,3 +14,6 @@ pub returns-in-Err-clause-noted : goal.returns-in-Err-clause-noted
 returns-in-Err-clause-noted g c =
     let d = c.args.self.now in
     noted_nothing d (λ p. cancelled (rules_of d.hub) p c.args.now (taken_in p c.args.now) 0) (λ p _. sym (none_yet (rules_of d.hub) p c.args.now (taken_in p c.args.now)))
+
+pub cancel_all-requires : goal.cancel_all-requires
+cancel_all-requires g c = record { none_yet = noted_nothing c.args.self.now _ (λ p _. sym (none_yet _ p _ _)) }
