@@ -8,7 +8,7 @@ ghost use Rattle.disco_http.specs.Sinks.{sink_of};
 ghost use Rattle.disco_http.specs.declared.serving.End.TheVariants as end;
 ghost use Rattle.disco_server.specs.Serving.{Serves};
 
-use crate::clock::Clock;
+use disco_timers::Clock;
 use crate::service::HubService;
 use disco_http::{Served, Writer, serve};
 use disco_reader::{Reader, Sink, Source};

@@ -1,7 +1,7 @@
 //! A desk that answers the requests of a worker's connections.
 ghost use Rattle.std.specs.Prelude.{◌≡◌};
 
-use crate::clock::Clock;
+use disco_timers::Clock;
 use crate::gate::{Gate, Point};
 use disco_answers::{Shared, answer};
 use disco_editions::Naming;

@@ -1,7 +1,7 @@
 //! A hub that answers requests by a clock.
 ghost use Rattle.std.specs.Prelude.{◌≡◌};
 
-use crate::clock::Clock;
+use disco_timers::Clock;
 use disco_answers::{Shared, answer_hub};
 use disco_http::Service;
 use disco_hub::Hub;

@@ -2,7 +2,7 @@
 ghost use Rattle.std.specs.Prelude.{◌≡◌, ◌⊎◌, IfErr};
 ghost use Rattle.disco_values.specs.declared.fault.Fault.TheVariants.{OutOfMemory, ReadFailed};
 
-use crate::clock::Clock;
+use disco_timers::Clock;
 use crate::desk_service::Shop;
 use crate::door::{Door, Refusal};
 use crate::gate::Gate;

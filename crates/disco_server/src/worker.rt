@@ -1,6 +1,6 @@
 //! A worker, which serves one connection after another.
 use crate::attending::{Buffers, attend};
-use crate::clock::Clock;
+use disco_timers::Clock;
 use crate::desk_service::{DeskService, Shop};
 use crate::door::{Door, Refusal};
 use crate::gate::Gate;

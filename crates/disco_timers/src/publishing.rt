@@ -1,8 +1,9 @@
 //! The steps of a publisher.
 ghost use Rattle.std.specs.Prelude.{◌≡◌, IfErr, IfOk, None, OnErr};
 ghost use Rattle.disco_values.specs.declared.fault.Fault.TheVariants.{OutOfMemory};
+ghost use Rattle.disco_hub.specs.State.{open_round};
 ghost use Rattle.disco_hub.specs.Transitions.{HasNoneLeft, MovesRounds};
-ghost use Rattle.disco_server.specs.Publishing.{Moves};
+ghost use Rattle.disco_timers.specs.Publishing.{Moves};
 
 use disco_editions::Naming;
 use disco_press::Desk;
@@ -22,7 +23,7 @@ pub enum Step {
 
 /// Begins a round.
 fn begin<J: Naming>(desk: &mut Desk<J>) -> Result<Step, Fault>
-    requires { desk.old.hub.rounds.round ≡ None }
+    requires { open_round desk.old.hub ≡ None }
     ensures moves { IfOk result (λ step. Moves desk.old step desk.new) }
     ensures rest { MovesRounds desk.old.hub desk.new.hub }
     ensures refused { IfErr result (λ fault. fault ≡ OutOfMemory) }

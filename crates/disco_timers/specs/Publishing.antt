@@ -4,12 +4,13 @@ use Rattle.disco_rounds.specs.Press.{begin, note_of}
 use Rattle.disco_rounds.specs.Rounds.{Advances}
 use Rattle.disco_rounds.specs.Press.{is_doc}
 use Rattle.disco_rounds.specs.declared.copied.Copied.{Copied}
+use Rattle.disco_hub.specs.State.{open_round}
 use Rattle.disco_press.specs.Desks.{DeskState, Notes}
-use Rattle.disco_server.specs.declared.publishing.Step.{Step}
-use Rattle.disco_server.specs.declared.publishing.Step.TheVariants as step
+use Rattle.disco_timers.specs.declared.publishing.Step.{Step}
+use Rattle.disco_timers.specs.declared.publishing.Step.TheVariants as step
 
 -- a round begins where none is open, the first key that is left of the open one is copied, or all that was noted is published
 abbrev pub Moves : DeskState → Step → DeskState → Type 0
-Moves old step.Begun new = (old.hub.rounds.round ≡ None) × Notes (begin ∷ []) old new
+Moves old step.Begun new = (open_round old.hub ≡ None) × Notes (begin ∷ []) old new
 Moves old step.Copied new = (c : Copied) × Advances (is_doc c) old.hub.rounds new.hub.rounds × Notes (note_of c ∷ []) old new
 Moves old step.Published new = (new.published ≡ old.published ++ old.pending ∷ []) × (new.pending ≡ [])
