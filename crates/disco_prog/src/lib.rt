@@ -3,11 +3,9 @@
 //! and [`settings_of`] reads the options of a command.
 #![tactic(auto)]
 
-mod fleets;
-mod listening;
 mod serving;
 
+pub use disco_fleet::fleet;
 pub use disco_options::settings_of;
 pub use disco_replay::replay;
-pub use fleets::fleet;
 pub use serving::serve;

@@ -1,17 +1,17 @@
 //! The command `serve`.
-ghost use Rattle.std.specs.Prelude.{◌≡◌, ◌≢◌, ◌<◌, ◌≤◌, [], map, string_bytes};
-ghost use Rattle.disco_options.specs.Faults.{IsStatusAmong};
+ghost use Rattle.std.specs.Prelude.{◌≡◌, ◌<◌, ◌≤◌, map, string_bytes};
+ghost use Rattle.disco_options.specs.Ending.{EndsBy};
 ghost use Rattle.disco_options.specs.Options.{faults_of};
 ghost use Rattle.disco_press.specs.Openings.{Opens};
 
-use crate::listening::listen;
 use clap::ArgMatches;
 use disco_editions::Naming;
 use disco_message::Limits;
 use disco_options::{Verb, count, number_given, read_words, refused, report, settings_from};
 use disco_press::{Desk, Opening, Seat, open};
-use disco_server::{Open, SystemClock, start, timers};
+use disco_server::{Open, listen, start};
 use disco_settings::Settings;
+use disco_timers::{SystemClock, timers};
 use disco_values::Fault;
 use std::alloc::Global;
 use std::io;
@@ -145,15 +145,7 @@ pub fn serve<J: Naming + Send + Sync, R, W: Write, E: Write>(
 where
     R: Net<Listener = TcpListener, Stream = TcpStream> + Threads + Wait + Clock + Sync,
     requires opening { Opens J.list J.name J.parts opening }
-    ensures status { result ≤ 2 }
-
-    // Words that are refused, or ask for help, end as what is wrong with them asks, and those that
-    // are refused leave the output as it is.
-    ensures refused { faults_of Verb.Serve (map string_bytes words.now) ≢ []
-        → IsStatusAmong (faults_of Verb.Serve (map string_bytes words.now)) result }
-    ensures settled { faults_of Verb.Serve (map string_bytes words.now) ≡ [] → result ≤ 1 }
-    ensures unwritten { result ≡ 2 → out.new ≡ out.old }
-    ensures silent { result ≡ 0 → errors.new ≡ errors.old }
+    ensures { EndsBy (faults_of Verb.Serve (map string_bytes words.now)) result out.old out.new errors.old errors.new }
 {
     let service = match read_words(alloc, Verb::Serve, words) {
         Ok(matches) => service_from(&matches),

@@ -1,9 +1,9 @@
 //! The command `replay`.
-ghost use Rattle.std.specs.Prelude.{◌≡◌, ◌≢◌, ◌≤◌, ℕ, List, [], IfErr, OnOk, Some, map, string_bytes};
+ghost use Rattle.std.specs.Prelude.{◌≡◌, ◌≢◌, ℕ, List, [], IfErr, OnOk, Some, map, string_bytes};
 ghost use Rattle.std.specs.Io.KnownBytes.{IsAtEnd};
 ghost use Rattle.disco_values.specs.declared.fault.Fault.{Fault};
 ghost use Rattle.disco_values.specs.declared.fault.Fault.TheVariants.{OutOfMemory, WriteFailed};
-ghost use Rattle.disco_options.specs.Faults.{IsStatusAmong};
+ghost use Rattle.disco_options.specs.Ending.{EndsBy};
 ghost use Rattle.disco_lines.specs.Lines.{IsFirstBadLine};
 ghost use Rattle.disco_options.specs.Options.{faults_of};
 ghost use Rattle.disco_replay.specs.Replay.{IsAnswered, IsFailed, IsReplayed, IsRunFault};
@@ -54,7 +54,7 @@ pub fn replay<R: Read, W: Write, E: Write>(
     errors: &mut E,
     words: &[String],
 ) -> u8
-    ensures status { result ≤ 2 }
+    ensures ends { EndsBy (faults_of Verb.Replay (map string_bytes words.now)) result out.old out.new errors.old errors.new }
 
     // Words with no fault are `replay` with options: 0 says that all is answered, else it is 1.
     ensures answered { faults_of Verb.Replay (map string_bytes words.now) ≡ [] → result ≡ 0
@@ -62,16 +62,9 @@ pub fn replay<R: Read, W: Write, E: Write>(
         (W.contents out.old) (W.contents out.new) }
     ensures end { faults_of Verb.Replay (map string_bytes words.now) ≡ [] → result ≡ 0
         → IsAtEnd (R.remaining reader.new) }
-    ensures settled { faults_of Verb.Replay (map string_bytes words.now) ≡ [] → result ≤ 1 }
 
-    // Other words end as what is wrong with them asks.
-    ensures refused { faults_of Verb.Replay (map string_bytes words.now) ≢ []
-        → IsStatusAmong (faults_of Verb.Replay (map string_bytes words.now)) result }
-
-    // Words that are refused or ask for help leave the input as it is, and those that are refused
-    // the output too.
+    // Words that are refused or ask for help leave the input as it is.
     ensures unread { faults_of Verb.Replay (map string_bytes words.now) ≢ [] → reader.new ≡ reader.old }
-    ensures unwritten { result ≡ 2 → out.new ≡ out.old }
 
     // Where a line of the input means nothing, no event is answered.
     ensures bad_line { faults_of Verb.Replay (map string_bytes words.now) ≡ []
@@ -81,8 +74,6 @@ pub fn replay<R: Read, W: Write, E: Write>(
     // Where the run is refused no event is answered, unless memory or a write failed.
     ensures failed { faults_of Verb.Replay (map string_bytes words.now) ≡ [] → result ≡ 1
         → IsFailed (map string_bytes words.now) (R.remaining reader.old) out.old out.new }
-
-    ensures silent { result ≡ 0 → errors.new ≡ errors.old }
 {
     match read_settings(alloc, Verb::Replay, words) {
         Ok(settings) => match answer(alloc, &settings, reader, out) {

@@ -4,7 +4,7 @@ ghost use Rattle.std.specs.Prelude.{◌<◌};
 use disco_editions::Naming;
 use disco_press::Desk;
 use disco_registry::Op;
-use disco_server::{Clock, SystemClock};
+use disco_timers::{Clock, SystemClock};
 use disco_values::Fault;
 use disco_wire::read_registration;
 use std::alloc::Global;

@@ -1,7 +1,7 @@
 //! A publisher.
 use disco_editions::Naming;
 use disco_press::Desk;
-use disco_server::{Step, publish_step_locked};
+use disco_timers::{Step, publish_step_locked};
 use disco_values::Fault;
 use std::sync::{Mutex, Wait};
 
