@@ -2,7 +2,6 @@
 ghost use Rattle.disco_press.specs.Openings.{Opens};
 
 use crate::pieces::Pieces;
-use crate::ticks::Ticks;
 use disco_editions::Naming;
 use disco_http::{Service, Writer, serve};
 use disco_hub::Hub;
@@ -12,9 +11,13 @@ use disco_reader::{Counted, Reader};
 use disco_routes::Routes;
 use disco_server::{DeskService, HubService, Open, Shop};
 use disco_settings::Settings;
+use disco_trials::Ticks;
 use std::alloc::{AllocError, Global};
 use std::io;
 use std::sync::{Mutex, Wait};
+
+/// How far each moment of a row is from the one before, in milliseconds.
+const STEP: u64 = 1_000;
 
 /// What a connection gets that sends these bytes, where a read gives at most so many of them.
 fn run<V: Service>(
@@ -39,7 +42,7 @@ pub(crate) fn over_a_hub(
     piece: usize,
 ) -> Result<Vec<u8>, AllocError> {
     let hub = Hub::new(alloc, settings);
-    let mut service = HubService::new(alloc, Routes::new(alloc)?, hub, Ticks::new());
+    let mut service = HubService::new(alloc, Routes::new(alloc)?, hub, Ticks::new(STEP));
     run(alloc, &mut service, request, piece)
 }
 
@@ -57,7 +60,7 @@ fn at_a_seat<J: Naming, R: Wait>(
         desk,
         gate: &Open,
     };
-    let mut service = DeskService::new(&shop, Routes::new(alloc)?, seat, Ticks::new());
+    let mut service = DeskService::new(&shop, Routes::new(alloc)?, seat, Ticks::new(STEP));
     run(alloc, &mut service, request, piece)
 }
 

@@ -10,14 +10,12 @@
 mod connection;
 mod files;
 mod kept;
-mod names;
 mod pieces;
 mod settings;
-mod ticks;
 mod timing;
 
+use disco_trials::names;
 use kept::is_kept;
-use names::names;
 use std::process::ExitCode;
 use std::rt::{Clock, Files};
 use std::sync::Wait;
@@ -39,7 +37,7 @@ fn is_kept_or_told<R: Files + Wait + AllocGlobal + Print>(rt: &R, name: &str) ->
 /// Runs all rows, and tells whether each is as it has to be.
 fn are_kept<R: Files + Wait + AllocGlobal + Print + Clone + Drop>(rt: &R) -> io::Result<bool> {
     let mut all = true;
-    for name in &names(rt)? {
+    for name in &names(rt, &[".request", ".cut"])? {
         all = is_kept_or_told(rt, name.as_str())? && all;
     }
     Ok(all)

@@ -8,11 +8,10 @@
 mod difference;
 mod files;
 mod meanings;
-mod names;
 mod outcome;
 mod row;
 
-use names::names;
+use disco_trials::names;
 use std::alloc::Global;
 use std::io;
 use std::net::{Net, TcpListener, TcpStream};
@@ -63,7 +62,7 @@ where
     R: Files + AllocGlobal + Print + Clone + Drop + Sync,
 {
     let mut all = true;
-    for name in &names(rt)? {
+    for name in &names(rt, &[".events", ".documents"])? {
         all = is_kept_or_told(rt, name.as_str())? && all;
     }
     Ok(all)

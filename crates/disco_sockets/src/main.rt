@@ -6,7 +6,6 @@
 mod client;
 mod holding;
 mod serving;
-mod ticks;
 mod trials;
 
 use disco_editions::Naming;

@@ -2,14 +2,15 @@
 ghost use Rattle.disco_press.specs.Openings.{Opens};
 
 use crate::holding::Holding;
-use crate::ticks::Ticks;
 use crate::trials;
 use crate::trials::CONNECTIONS;
 use disco_editions::Naming;
 use disco_message::Limits;
 use disco_press::{Desk, Opening, Seat, open};
-use disco_server::{start, timers};
+use disco_server::start;
 use disco_settings::Settings;
+use disco_timers::timers;
+use disco_trials::Ticks;
 use disco_values::Fault;
 use std::alloc::Global;
 use std::net::{Net, SocketAddr, TcpListener, TcpStream};
@@ -17,6 +18,10 @@ use std::sync::atomic::{AtomicBool, Ordering};
 use std::sync::{Mutex, Wait};
 use std::thread::{Threads, join};
 use std::{io, rt};
+
+/// How far each moment is from the one before, in milliseconds: as far as two rounds are, so that
+/// each time that the clock is asked the next round is due.
+const STEP: u64 = 30_000;
 
 /// Two workers, and one seat for the trials.
 const SEATS: usize = 3;
@@ -86,13 +91,13 @@ where
                 seats,
                 limits,
                 CONNECTIONS,
-                Ticks::new(),
+                Ticks::new(STEP),
                 gate,
             )
         },
         move || join(
             rt,
-            move || timers(rt, desk, Ticks::new(), stop),
+            move || timers(rt, desk, Ticks::new(STEP), stop),
             move || {
                 let mut seat = seat;
                 let tried = try_all(rt, alloc, server, desk, &mut seat);

@@ -1,0 +1,27 @@
+//! The clock of trials.
+use disco_timers::Clock;
+
+/// A clock that is later each time that it is asked, as far as was said.
+#[derive(Clone, Copy, Debug)]
+pub struct Ticks {
+    step: u64,
+    last: u64,
+}
+
+impl Ticks {
+    /// A clock that begins with the first step, of so many milliseconds.
+    pub fn new(step: u64) -> Ticks {
+        Ticks { step, last: 0 }
+    }
+}
+
+impl Clock for Ticks {
+    ghost use Rattle.std.specs.Prelude.{◌≡◌};
+
+    ghost ticks = { λ old now new. now ≡ new.last };
+
+    fn now(&mut self) -> u64 {
+        self.last = self.last.saturating_add(self.step);
+        self.last
+    }
+}
