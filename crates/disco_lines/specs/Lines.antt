@@ -6,38 +6,40 @@ use Rattle.std.specs.Str.{bytes_eq}
 use Rattle.disco_values.specs.declared.fault.Fault.{Fault}
 use Rattle.disco_values.specs.declared.fault.Fault.TheVariants.{BadEvent}
 use Rattle.disco_world.specs.declared.event.Event.{Event}
-use Rattle.disco_world.specs.declared.event.Event.TheVariants.{Register, Cancel, Renew, SetStatus, DropStatus, Metadata, Clean, Minute, Expire, Begin, Copy, Publish, Take, Show}
+use Rattle.disco_world.specs.declared.event.Event.TheVariants as event
+use Rattle.disco_world.specs.declared.event.Step.{Step}
+use Rattle.disco_world.specs.declared.event.Step.TheVariants.{Register, Cancel, Renew, SetStatus, DropStatus, Metadata, Clean, Minute, Expire, Begin, Copy, Publish, Show}
 use Rattle.disco_lines.specs.Loads.{load_of, look_for, wanted}
 use Rattle.disco_operations.specs.Query.{entries_of_query}
 use Rattle.disco_lines.specs.Words.{words, joined, only, only_text, only_moment, moment_of_word, client_of_word}
 use Rattle.disco_operations.specs.Decoding.{decoded_text}
 
 -- `NOW APP JSON`: the JSON is the rest of the line as it stands
-abbrev pub registration : List (List ℕ) → Option Event
+abbrev pub registration : List (List ℕ) → Option Step
 registration (now ∷ app ∷ json ∷ more) = option_and_then (λ n. option_map (λ a. Register n a (joined (json ∷ more))) (decoded_text app)) (moment_of_word now)
 registration _ = None
 
--- an event behind which no word stands
-abbrev pub alone : Event → List (List ℕ) → Option Event
-alone event [] = Some event
-alone event _ = None
+-- a step behind which no word stands
+abbrev pub alone : Step → List (List ℕ) → Option Step
+alone step [] = Some step
+alone step _ = None
 
 -- `NOW APP ID STATUS`
-abbrev pub status_change : ℕ → List ℕ → List ℕ → List (List ℕ) → Option Event
+abbrev pub status_change : ℕ → List ℕ → List ℕ → List (List ℕ) → Option Step
 status_change now app id more = option_map (λ s. SetStatus now app id s) (only_text more)
 
 -- `NOW APP ID`, and a status where one is given
-abbrev pub override_removal : ℕ → List ℕ → List ℕ → List (List ℕ) → Option Event
+abbrev pub override_removal : ℕ → List ℕ → List ℕ → List (List ℕ) → Option Step
 override_removal now app id [] = Some (DropStatus now app id None)
 override_removal now app id more = option_map (λ s. DropStatus now app id (Some s)) (only_text more)
 
 -- `NOW APP ID`, and the query, which is the rest of the line as it stands
-abbrev pub metadata_change : ℕ → List ℕ → List ℕ → List (List ℕ) → Option Event
+abbrev pub metadata_change : ℕ → List ℕ → List ℕ → List (List ℕ) → Option Step
 metadata_change now app id query = Some (Metadata now app id (entries_of_query (joined query)))
 
 -- what a keyword means behind which a moment, an app and an id stand, and then more words
-abbrev pub event_at : List ℕ → ℕ → List ℕ → List ℕ → List (List ℕ) → Option Event
-event_at keyword now app id more =
+abbrev pub step_at : List ℕ → ℕ → List ℕ → List ℕ → List (List ℕ) → Option Step
+step_at keyword now app id more =
     if bytes_eq keyword (codes "cancel") then alone (Cancel now app id) more
     else (if bytes_eq keyword (codes "renew") then alone (Renew now app id) more
     else (if bytes_eq keyword (codes "status") then status_change now app id more
@@ -45,30 +47,25 @@ event_at keyword now app id more =
     else (if bytes_eq keyword (codes "metadata") then metadata_change now app id more else None))))
 
 -- `NOW APP ID` behind a keyword, and more words
-abbrev pub event_of_instance : List ℕ → List (List ℕ) → Option Event
-event_of_instance keyword (now ∷ app ∷ id ∷ more) = option_and_then (λ n. option_and_then (λ a. option_and_then (λ i. event_at keyword n a i more) (decoded_text id)) (decoded_text app)) (moment_of_word now)
-event_of_instance keyword _ = None
+abbrev pub step_of_instance : List ℕ → List (List ℕ) → Option Step
+step_of_instance keyword (now ∷ app ∷ id ∷ more) = option_and_then (λ n. option_and_then (λ a. option_and_then (λ i. step_at keyword n a i more) (decoded_text id)) (decoded_text app)) (moment_of_word now)
+step_of_instance keyword _ = None
 
 -- `NOW`
-abbrev pub cleaning : List (List ℕ) → Option Event
+abbrev pub cleaning : List (List ℕ) → Option Step
 cleaning more = option_map (λ n. Clean n) (only_moment more)
 
 -- `NOW`
-abbrev pub expiring : List (List ℕ) → Option Event
+abbrev pub expiring : List (List ℕ) → Option Step
 expiring more = option_map (λ n. Expire n) (only_moment more)
 
--- `CLIENT EVENT`
-abbrev pub taking : List (List ℕ) → Option Event
-taking (client ∷ more) = option_and_then (λ c. option_map (λ e. Take c e) (only_moment more)) (client_of_word client)
-taking [] = None
-
 -- `CLIENT`
-abbrev pub showing : List (List ℕ) → Option Event
+abbrev pub showing : List (List ℕ) → Option Step
 showing more = option_map (λ c. Show c) (option_and_then client_of_word (only more))
 
--- what a keyword and the words behind it mean
-abbrev pub event_named : List ℕ → List (List ℕ) → Option Event
-event_named keyword more =
+-- what a keyword and the words behind it mean, if it isn't a take
+abbrev pub step_named : List ℕ → List (List ℕ) → Option Step
+step_named keyword more =
     if bytes_eq keyword (codes "register") then registration more
     else (if bytes_eq keyword (codes "clean") then cleaning more
     else (if bytes_eq keyword (codes "minute") then alone Minute more
@@ -78,8 +75,16 @@ event_named keyword more =
     else (if bytes_eq keyword (codes "publish") then alone Publish more
     else (if bytes_eq keyword (codes "load") then option_map load_of (wanted more)
     else (if bytes_eq keyword (codes "look") then option_map look_for (wanted more)
-    else (if bytes_eq keyword (codes "take") then taking more
-    else (if bytes_eq keyword (codes "show") then showing more else event_of_instance keyword more))))))))))
+    else (if bytes_eq keyword (codes "show") then showing more else step_of_instance keyword more)))))))))
+
+-- `CLIENT EVENT`
+abbrev pub taking : List (List ℕ) → Option Event
+taking (client ∷ more) = option_and_then (λ c. option_map (λ e. event.Take c e) (only_moment more)) (client_of_word client)
+taking [] = None
+
+-- what a keyword and the words behind it mean
+abbrev pub event_named : List ℕ → List (List ℕ) → Option Event
+event_named keyword more = if bytes_eq keyword (codes "take") then taking more else option_map event.Step (step_named keyword more)
 
 -- what the words of a line mean
 abbrev pub event_of_words : List (List ℕ) → Option Event

@@ -5,8 +5,8 @@ use Rattle.disco_values.specs.declared.form.Form.{Form}
 use Rattle.disco_values.specs.declared.form.Form.TheVariants.{Full, Compact}
 use Rattle.disco_query.specs.declared.query.Query.{Query}
 use Rattle.disco_query.specs.declared.query.Query.TheVariants.{Apps, Delta, App, Vip, Svip, Instance}
-use Rattle.disco_world.specs.declared.event.Event.{Event}
-use Rattle.disco_world.specs.declared.event.Event.TheVariants.{Load, LoadById, Look, LookById}
+use Rattle.disco_world.specs.declared.event.Step.{Step}
+use Rattle.disco_world.specs.declared.event.Step.TheVariants.{Load, LoadById, Look, LookById}
 use Rattle.disco_operations.specs.Decoding.{decoded_text}
 use Rattle.disco_lines.specs.declared.load.Wanted.{Wanted}
 use Rattle.disco_lines.specs.declared.load.Wanted.TheVariants.{ByKey, ById}
@@ -48,11 +48,11 @@ wanted (form ∷ kind ∷ more) = option_and_then (λ f. option_and_then (λ k. 
 wanted _ = None
 
 -- the load of what is asked for
-abbrev pub load_of : Wanted → Event
+abbrev pub load_of : Wanted → Step
 load_of (ByKey key) = Load key
 load_of (ById id form) = LoadById id form
 
 -- the look for what is asked for
-abbrev pub look_for : Wanted → Event
+abbrev pub look_for : Wanted → Step
 look_for (ByKey key) = Look key
 look_for (ById id form) = LookById id form

@@ -1,7 +1,7 @@
 //! The event that a line means. `None` stands for a line that can't be read.
 ghost use Rattle.std.specs.Prelude.{◌≡◌, IfOk, IfErr, Some};
 ghost use Rattle.disco_values.specs.declared.fault.Fault.TheVariants.{OutOfMemory};
-ghost use Rattle.disco_lines.specs.Lines.{alone, event_at, event_named, event_of, event_of_instance, metadata_change, override_removal, registration, showing, taking};
+ghost use Rattle.disco_lines.specs.Lines.{alone, event_named, event_of, metadata_change, override_removal, registration, showing, step_at, step_named, step_of_instance, taking};
 ghost use Rattle.disco_lines.specs.Words.{client_of_word, moment_of_word, only_moment, only_text};
 
 use crate::load::{load_of, look_for, wanted_of};
@@ -9,7 +9,7 @@ use crate::words::Words;
 use disco_digits::number_of_digits;
 use disco_operations::{decoded, decoded_text, entries_of_query};
 use disco_values::{Bytes, Fault, Text};
-use disco_world::Event;
+use disco_world::{Event, Step};
 use std::alloc::Global;
 
 /// The event that a line means, `None` where it means none. Words stand with one space between
@@ -51,29 +51,39 @@ fn event_named(alloc: Global, keyword: &str, words: Words) -> Result<Option<Even
     ensures memory { IfErr result (λ e. e ≡ OutOfMemory) }
 {
     match keyword {
-        "register" => register_of(alloc, words),
-        "clean" => Ok(only_moment(alloc, words)?.map(|now| Event::Clean { now })),
-        "minute" => Ok(alone(Event::Minute, &words)),
-        "expire" => Ok(only_moment(alloc, words)?.map(|now| Event::Expire { now })),
-        "begin" => Ok(alone(Event::Begin, &words)),
-        "copy" => Ok(alone(Event::Copy, &words)),
-        "publish" => Ok(alone(Event::Publish, &words)),
-        "load" => Ok(wanted_of(alloc, words)?.map(load_of)),
-        "look" => Ok(wanted_of(alloc, words)?.map(look_for)),
         "take" => take_of(alloc, words),
-        "show" => show_of(alloc, words),
-        _ => event_of_instance(alloc, keyword, words),
+        _ => Ok(step_named(alloc, keyword, words)?.map(|step| Event::Step(step))),
     }
 }
 
-/// An event behind which no word stands.
-fn alone(event: Event, words: &Words) -> Option<Event>
-    ensures { result ≡ alone event words.now }
+/// What a keyword and the words behind it mean, where it isn't a take.
+fn step_named(alloc: Global, keyword: &str, words: Words) -> Result<Option<Step>, Fault>
+    ensures value { IfOk result (λ found. found ≡ step_named keyword.now words.entry) }
+    ensures memory { IfErr result (λ e. e ≡ OutOfMemory) }
+{
+    match keyword {
+        "register" => register_of(alloc, words),
+        "clean" => Ok(only_moment(alloc, words)?.map(|now| Step::Clean { now })),
+        "minute" => Ok(alone(Step::Minute, &words)),
+        "expire" => Ok(only_moment(alloc, words)?.map(|now| Step::Expire { now })),
+        "begin" => Ok(alone(Step::Begin, &words)),
+        "copy" => Ok(alone(Step::Copy, &words)),
+        "publish" => Ok(alone(Step::Publish, &words)),
+        "load" => Ok(wanted_of(alloc, words)?.map(load_of)),
+        "look" => Ok(wanted_of(alloc, words)?.map(look_for)),
+        "show" => show_of(alloc, words),
+        _ => step_of_instance(alloc, keyword, words),
+    }
+}
+
+/// A step behind which no word stands.
+fn alone(step: Step, words: &Words) -> Option<Step>
+    ensures { result ≡ alone step words.now }
 {
     if !words.is_empty() {
         return None;
     }
-    Some(event)
+    Some(step)
 }
 
 fn moment_of_word(alloc: Global, word: &[u8]) -> Result<Option<u64>, Fault>
@@ -108,7 +118,7 @@ fn only_moment(alloc: Global, words: Words) -> Result<Option<u64>, Fault>
     }
 }
 
-fn register_of(alloc: Global, words: Words) -> Result<Option<Event>, Fault>
+fn register_of(alloc: Global, words: Words) -> Result<Option<Step>, Fault>
     ensures value { IfOk result (λ found. found ≡ registration words.entry) }
     ensures memory { IfErr result (λ e. e ≡ OutOfMemory) }
 {
@@ -129,12 +139,12 @@ fn register_of(alloc: Global, words: Words) -> Result<Option<Event>, Fault>
         return Ok(None);
     };
     let json = Bytes::from_vec(json.to_vec(alloc)?);
-    Ok(Some(Event::Register { now, app, json }))
+    Ok(Some(Step::Register { now, app, json }))
 }
 
 /// What a keyword means behind which a moment, an app and an id stand.
-fn event_of_instance(alloc: Global, keyword: &str, words: Words) -> Result<Option<Event>, Fault>
-    ensures value { IfOk result (λ found. found ≡ event_of_instance keyword.now words.entry) }
+fn step_of_instance(alloc: Global, keyword: &str, words: Words) -> Result<Option<Step>, Fault>
+    ensures value { IfOk result (λ found. found ≡ step_of_instance keyword.now words.entry) }
     ensures memory { IfErr result (λ e. e ≡ OutOfMemory) }
 {
     let Some((now, words)) = words.split() else {
@@ -155,26 +165,26 @@ fn event_of_instance(alloc: Global, keyword: &str, words: Words) -> Result<Optio
     let Some(id) = decoded_text(alloc, id)? else {
         return Ok(None);
     };
-    event_at(alloc, keyword, now, app, id, words)
+    step_at(alloc, keyword, now, app, id, words)
 }
 
 /// What a keyword means for an instance, with the words behind its id.
-fn event_at(
+fn step_at(
     alloc: Global,
     keyword: &str,
     now: u64,
     app: Text,
     id: Text,
     words: Words,
-) -> Result<Option<Event>, Fault>
-    ensures value { IfOk result (λ found. found ≡ event_at keyword.now now app id words.entry) }
+) -> Result<Option<Step>, Fault>
+    ensures value { IfOk result (λ found. found ≡ step_at keyword.now now app id words.entry) }
     ensures memory { IfErr result (λ e. e ≡ OutOfMemory) }
 {
     match keyword {
-        "cancel" => Ok(alone(Event::Cancel { now, app, id }, &words)),
-        "renew" => Ok(alone(Event::Renew { now, app, id }, &words)),
+        "cancel" => Ok(alone(Step::Cancel { now, app, id }, &words)),
+        "renew" => Ok(alone(Step::Renew { now, app, id }, &words)),
         "status" => match only_text(alloc, words)? {
-            Some(status) => Ok(Some(Event::SetStatus {
+            Some(status) => Ok(Some(Step::SetStatus {
                 now,
                 app,
                 id,
@@ -194,14 +204,14 @@ fn unstatus_of(
     app: Text,
     id: Text,
     words: Words,
-) -> Result<Option<Event>, Fault>
+) -> Result<Option<Step>, Fault>
     ensures value { IfOk result (λ found. found ≡ override_removal now app id words.entry) }
     ensures memory { IfErr result (λ e. e ≡ OutOfMemory) }
 {
     let without_status = words.is_empty();
     if without_status {
         let status = None;
-        return Ok(Some(Event::DropStatus {
+        return Ok(Some(Step::DropStatus {
             now,
             app,
             id,
@@ -209,7 +219,7 @@ fn unstatus_of(
         }));
     }
     match only_text(alloc, words)? {
-        Some(status) => Ok(Some(Event::DropStatus {
+        Some(status) => Ok(Some(Step::DropStatus {
             now,
             app,
             id,
@@ -225,12 +235,12 @@ fn metadata_of(
     app: Text,
     id: Text,
     words: Words,
-) -> Result<Option<Event>, Fault>
+) -> Result<Option<Step>, Fault>
     ensures value { IfOk result (λ found. found ≡ metadata_change now app id words.entry) }
     ensures memory { IfErr result (λ e. e ≡ OutOfMemory) }
 {
     let entries = entries_of_query(alloc, words.rest())?;
-    Ok(Some(Event::Metadata {
+    Ok(Some(Step::Metadata {
         now,
         app,
         id,
@@ -265,12 +275,12 @@ fn take_of(alloc: Global, words: Words) -> Result<Option<Event>, Fault>
     }
 }
 
-fn show_of(alloc: Global, words: Words) -> Result<Option<Event>, Fault>
+fn show_of(alloc: Global, words: Words) -> Result<Option<Step>, Fault>
     ensures value { IfOk result (λ found. found ≡ showing words.entry) }
     ensures memory { IfErr result (λ e. e ≡ OutOfMemory) }
 {
     match words.only() {
-        Some(client) => Ok(client_of_word(alloc, client)?.map(|client| Event::Show { client })),
+        Some(client) => Ok(client_of_word(alloc, client)?.map(|client| Step::Show { client })),
         None => Ok(None),
     }
 }

@@ -8,7 +8,7 @@ use crate::words::Words;
 use disco_operations::{decoded, decoded_text};
 use disco_query::{DocKey, Query};
 use disco_values::{Fault, Form, Key, Text};
-use disco_world::Event;
+use disco_world::Step;
 use std::alloc::Global;
 
 /// The document that a reader asks for.
@@ -129,21 +129,21 @@ pub(crate) fn wanted_of(alloc: Global, words: Words) -> Result<Option<Wanted>, F
 }
 
 /// The load of what is asked for.
-pub(crate) fn load_of(wanted: Wanted) -> Event
+pub(crate) fn load_of(wanted: Wanted) -> Step
     ensures { result ≡ load_of wanted }
 {
     match wanted {
-        Wanted::ByKey(key) => Event::Load { key },
-        Wanted::ById(id, form) => Event::LoadById { id, form },
+        Wanted::ByKey(key) => Step::Load { key },
+        Wanted::ById(id, form) => Step::LoadById { id, form },
     }
 }
 
 /// The look for what is asked for.
-pub(crate) fn look_for(wanted: Wanted) -> Event
+pub(crate) fn look_for(wanted: Wanted) -> Step
     ensures { result ≡ look_for wanted }
 {
     match wanted {
-        Wanted::ByKey(key) => Event::Look { key },
-        Wanted::ById(id, form) => Event::LookById { id, form },
+        Wanted::ByKey(key) => Step::Look { key },
+        Wanted::ById(id, form) => Step::LookById { id, form },
     }
 }

@@ -1,16 +1,15 @@
 //! Answer lines of a run, written as its replies come.
-ghost use Rattle.std.specs.Prelude.{◌≡◌, ◌⊎◌, IfErr, OnOk, false};
+ghost use Rattle.std.specs.Prelude.{◌≡◌, ◌⊎◌, IfErr, OnOk};
 ghost use Rattle.std.specs.Io.KnownBytes.{append_known};
-ghost use Rattle.std.specs.List.{list_any};
 ghost use Rattle.disco_values.specs.declared.fault.Fault.TheVariants.{OutOfMemory, WriteFailed};
 ghost use Rattle.disco_core.specs.State.{rules};
 ghost use Rattle.disco_lines.specs.Answers.{answer_line};
-ghost use Rattle.disco_world.specs.Telling.{AreTold, is_take};
+ghost use Rattle.disco_world.specs.Telling.{AreTold};
 
 use crate::answers::{ROOM, gather_answer, write_fault, write_last};
 use disco_settings::Settings;
 use disco_values::Fault;
-use disco_world::{Event, Reply, Tell, run_to};
+use disco_world::{Reply, Steps, Tell, run_to};
 use std::alloc::Global;
 use std::io::Write;
 
@@ -32,20 +31,19 @@ impl<W: Write> Tell<W> for Gathered {
 }
 
 /// Runs the events in order from an empty registry, and writes one line for each reply as it comes.
-/// No reply is held, so no event may be a take. Refused as `WriteFailed` where a write fails, and as
+/// No reply is held, so none of them is a take. Refused as `WriteFailed` where a write fails, and as
 /// `OutOfMemory`, with some of the lines perhaps written.
 pub fn answer_events<W: Write>(
     alloc: Global,
     settings: &Settings,
-    events: &[Event],
+    steps: Steps,
     out: &mut W,
 ) -> Result<(), Fault>
-    requires { list_any is_take events.now ≡ false }
-    ensures told { OnOk result (AreTold (rules settings.now) events.now answer_line (W.contents out.old) (W.contents out.new)) }
+    ensures told { OnOk result (AreTold (rules settings.now) steps.entry.events.now answer_line (W.contents out.old) (W.contents out.new)) }
     ensures fault { IfErr result (λ e. (e ≡ WriteFailed) ⊎ (e ≡ OutOfMemory)) }
 {
     let mut gathered = Gathered(Vec::with_capacity(alloc, ROOM)?);
-    run_to(alloc, settings, events, &mut gathered, out)?;
+    run_to(alloc, settings, steps, &mut gathered, out)?;
     match write_last(&mut gathered.0, out) {
         Ok(()) => Ok(()),
         Err(error) => Err(write_fault(&error)),

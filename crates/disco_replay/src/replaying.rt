@@ -12,7 +12,7 @@ use disco_lines::{answer_events, read_events, write_answers};
 use disco_options::{Verb, read_settings, refused, report};
 use disco_settings::Settings;
 use disco_values::Fault;
-use disco_world::{has_takes, run};
+use disco_world::{Steps, run};
 use std::alloc::Global;
 use std::io::{Read, Write};
 
@@ -33,8 +33,8 @@ fn answer<R: Read, W: Write>(
     ensures unwritten { IfErr result (λ e. e ≢ OutOfMemory → e ≢ WriteFailed → out.new ≡ out.old) }
 {
     let events = read_events(alloc, reader)?;
-    if !has_takes(events.as_slice()) {
-        return answer_events(alloc, settings, events.as_slice(), out);
+    if let Some(steps) = Steps::of(events.as_slice()) {
+        return answer_events(alloc, settings, steps, out);
     }
     let replies = run(alloc, settings, events.as_slice())?;
     write_answers(alloc, replies.as_slice(), out)

@@ -18,13 +18,14 @@ use Rattle.disco_core.specs.Past.{Past, after_ask, history, taken_in}
 use Rattle.disco_core.specs.State.{Rules}
 use Rattle.disco_world.specs.Answers.{AreAnswers, AreKnown, IsAnswer}
 use Rattle.disco_world.specs.Clients.{MeansVersion, taken}
-use Rattle.disco_world.specs.Events.{Deed, World, writes, loads, cleans, closes, expires, begins, copies, publishes, looks, takes, shows, bad, after, after_run, after_at, clients_done, deed, doc_in, doc_of_event, done, for_clients, past_after, past_done, ran_out, takes_any, world}
+use Rattle.disco_world.specs.Events.{Deed, World, writes, loads, expires, looks, takes, after, after_run, after_at, clients_done, deed, doc_in, doc_of_event, done, for_clients, past_after, past_done, ran_out, takes_any, world}
 use Rattle.disco_world.specs.Steps.{AreReadable}
 use Rattle.disco_world.specs.declared.clients.Client.{Client}
 use Rattle.disco_world.specs.declared.event.Event.{Event}
-use Rattle.disco_world.specs.declared.event.Event.TheVariants.{Register, Cancel, Renew, SetStatus, DropStatus, Metadata, Load, LoadById, Clean, Minute, Expire, Begin, Copy, Publish, Look, LookById, Take, Show}
+use Rattle.disco_world.specs.declared.event.Event.TheVariants.{Step, Take}
+use Rattle.disco_world.specs.declared.event.Step.TheVariants.{Minute}
 use Rattle.disco_world.specs.declared.event.Reply.{Reply}
-use Rattle.disco_world.specs.declared.event.Reply.TheVariants.{Changed, Same, Doc, Cleaned, Closed, Expired, Begun, Copied, Done, Published, Missed, Taken, Held, Refused}
+use Rattle.disco_world.specs.declared.event.Reply.TheVariants.{Doc, Expired}
 use Rattle.disco_world.proofs.Editions.{Sees, ShowsFresh, sees_at}
 use Rattle.disco_world.proofs.Histories.{Place, below, at, beyond, get_front, get_last, get_past, place_of}
 use Rattle.disco_world.proofs.Known.{Extends, IsOf, delta_means, extends_more, extends_on, extends_same, full_means, means_on, of_now, of_on, readable}
@@ -52,34 +53,12 @@ cancels_extend rules p now ks (suc i) = extends_on _ _ _ (cancels_extend rules p
 
 run_extends : (rules : Rules) (p : Past) (now : ℕ) (r : Reply) → Extends (history p) (history (after_run rules p now r))
 run_extends rules p now (Expired run) = cancels_extend rules p now (taken_in p now) run.gone
-run_extends rules p now (Changed v) = extends_same (history p)
-run_extends rules p now Same = extends_same (history p)
-run_extends rules p now (Doc d) = extends_same (history p)
-run_extends rules p now (Cleaned b) = extends_same (history p)
-run_extends rules p now (Closed minute) = extends_same (history p)
-run_extends rules p now (Begun n) = extends_same (history p)
-run_extends rules p now (Copied c) = extends_same (history p)
-run_extends rules p now Done = extends_same (history p)
-run_extends rules p now (Published n) = extends_same (history p)
-run_extends rules p now Missed = extends_same (history p)
-run_extends rules p now (Taken equal version) = extends_same (history p)
-run_extends rules p now (Held holdings) = extends_same (history p)
-run_extends rules p now (Refused e) = extends_same (history p)
+run_extends rules p now r = extends_same (history p)
 
 done_extends : (rules : Rules) (p : Past) (what : Deed) (r : Reply) → Extends (history p) (history (past_done rules p what r))
-done_extends rules p closes r = extends_same (history p)
 done_extends rules p (expires now) r = run_extends rules p now r
 done_extends rules p (writes now (Ok ask)) r = ask_extends rules.queue p now ask (done rules p now (Ok ask))
-done_extends rules p (writes now (Err e)) r = extends_same (history p)
-done_extends rules p (loads k) r = extends_same (history p)
-done_extends rules p (cleans now) r = extends_same (history p)
-done_extends rules p begins r = extends_same (history p)
-done_extends rules p copies r = extends_same (history p)
-done_extends rules p publishes r = extends_same (history p)
-done_extends rules p (looks key) r = extends_same (history p)
-done_extends rules p (takes client d) r = extends_same (history p)
-done_extends rules p (shows client) r = extends_same (history p)
-done_extends rules p bad r = extends_same (history p)
+done_extends rules p what r = extends_same (history p)
 
 pub past_extends : (rules : Rules) (p : Past) (what : Deed) (r : Reply) (b : Bool) → Extends (history p) (history (cond b p (past_done rules p what r)))
 past_extends rules p what r true = extends_same (history p)
@@ -108,24 +87,9 @@ take_good h client None is = tt
 take_good h client (Some d) is = is d refl
 
 good : (rules : Rules) (w : World) (e : Event) → Holds w → IsGood (history w.past) (deed rules w e)
-good rules w (Register now app json) holds = tt
-good rules w (Cancel now app id) holds = tt
-good rules w (Renew now app id) holds = tt
-good rules w (SetStatus now app id status) holds = tt
-good rules w (DropStatus now app id status) holds = tt
-good rules w (Metadata now app id entries) holds = tt
-good rules w (Load key) holds = tt
-good rules w (LoadById id form) holds = tt
-good rules w (Clean now) holds = tt
-good rules w Minute holds = tt
-good rules w (Expire now) holds = tt
-good rules w Begin holds = tt
-good rules w Copy holds = tt
-good rules w Publish holds = tt
-good rules w (Look key) holds = tt
-good rules w (LookById id form) holds = tt
 good rules w (Take client event) holds = take_good (history w.past) client (doc_of_event w.replies event) (holds.docs event)
-good rules w (Show client) holds = tt
+good rules w (Step Minute) holds = tt
+good rules w e holds = tt
 
 -- ---- documents
 
@@ -141,29 +105,8 @@ served_is rules w seen (looks (Some k)) (Doc p) d answer is =
     let kind = kind_of p d (for_clients p.value.key.query) refl is in
     subst (IsOf (history w.past)) kind.1 (seen k p.value answer kind.0)
 served_is rules w seen (looks None) (Doc p) d answer is = absurd (cc)
-served_is rules w seen begins (Doc p) d answer is = absurd answer
-served_is rules w seen copies (Doc p) d answer is = absurd answer
-served_is rules w seen publishes (Doc p) d answer is = absurd answer
-served_is rules w seen (writes now asked) (Doc p) d answer is = absurd answer
-served_is rules w seen (cleans now) (Doc p) d answer is = absurd answer
-served_is rules w seen closes (Doc p) d answer is = absurd answer
-served_is rules w seen (expires now) (Doc p) d answer is = absurd answer
-served_is rules w seen (takes client other) (Doc p) d answer is = absurd answer
-served_is rules w seen (shows client) (Doc p) d answer is = absurd answer
-served_is rules w seen bad (Doc p) d answer is = absurd answer
-served_is rules w seen what (Changed v) d answer is = absurd (cc)
-served_is rules w seen what Same d answer is = absurd (cc)
-served_is rules w seen what (Cleaned b) d answer is = absurd (cc)
-served_is rules w seen what (Closed minute) d answer is = absurd (cc)
-served_is rules w seen what (Expired run) d answer is = absurd (cc)
-served_is rules w seen what (Begun n) d answer is = absurd (cc)
-served_is rules w seen what (Copied c) d answer is = absurd (cc)
-served_is rules w seen what Done d answer is = absurd (cc)
-served_is rules w seen what (Published n) d answer is = absurd (cc)
-served_is rules w seen what Missed d answer is = absurd (cc)
-served_is rules w seen what (Taken equal version) d answer is = absurd (cc)
-served_is rules w seen what (Held holdings) d answer is = absurd (cc)
-served_is rules w seen what (Refused e) d answer is = absurd (cc)
+served_is rules w seen what (Doc p) d answer is = absurd answer
+served_is rules w seen what r d answer is = absurd (cc)
 
 docs_after : (rules : Rules) (w : World) → Seen w → (what : Deed) (r : Reply) → Holds w → IsAnswer rules w what r → (k : ℕ) (d : Payload) → doc_of_event (w.replies ++ r ∷ []) k ≡ Some d → IsOf (history w.past) d
 docs_after rules w seen what r holds answer zero d is = absurd (cc)
@@ -190,17 +133,7 @@ one_of h clients client q d c false is means e = means q c e
 
 copies_done : (h : List Entry) (clients : ℕ → Option Client) (what : Deed) (q : ℕ) (c : Client) → IsGood h what → ((q : ℕ) (o : Client) → clients q ≡ Some o → MeansVersion h o) → clients_done clients what q ≡ Some c → MeansVersion h c
 copies_done h clients (takes client d) q c is means e = one_of h clients client q d c (eqb q client) is means e
-copies_done h clients (writes now asked) q c is means e = means q c e
-copies_done h clients (loads k) q c is means e = means q c e
-copies_done h clients (cleans now) q c is means e = means q c e
-copies_done h clients closes q c is means e = means q c e
-copies_done h clients (expires now) q c is means e = means q c e
-copies_done h clients (shows client) q c is means e = means q c e
-copies_done h clients begins q c is means e = means q c e
-copies_done h clients copies q c is means e = means q c e
-copies_done h clients publishes q c is means e = means q c e
-copies_done h clients (looks key) q c is means e = means q c e
-copies_done h clients bad q c is means e = means q c e
+copies_done h clients what q c is means e = means q c e
 
 copies_after : (h : List Entry) (clients : ℕ → Option Client) (what : Deed) (r : Bool) (q : ℕ) (c : Client) → IsGood h what → ((q : ℕ) (o : Client) → clients q ≡ Some o → MeansVersion h o)
     → cond r clients (clients_done clients what) q ≡ Some c → MeansVersion h c

@@ -26,7 +26,8 @@ use Rattle.disco_world.specs.Clients.{clients_with}
 use Rattle.disco_world.specs.Rounds.{Press, all_of, new_press}
 use Rattle.disco_world.specs.declared.clients.Client.{Client}
 use Rattle.disco_world.specs.declared.event.Event.{Event}
-use Rattle.disco_world.specs.declared.event.Event.TheVariants.{Register, Cancel, Renew, SetStatus, DropStatus, Metadata, Load, LoadById, Clean, Minute, Expire, Begin, Copy, Publish, Look, LookById, Take, Show}
+use Rattle.disco_world.specs.declared.event.Event.TheVariants.{Step, Take}
+use Rattle.disco_world.specs.declared.event.Step.TheVariants.{Register, Cancel, Renew, SetStatus, DropStatus, Metadata, Load, LoadById, Clean, Minute, Expire, Begin, Copy, Publish, Look, LookById, Show}
 use Rattle.disco_world.specs.declared.event.Reply.{Reply}
 use Rattle.disco_world.specs.declared.event.Reply.TheVariants.{Doc, Expired, Begun, Copied, Published, Refused}
 
@@ -98,24 +99,24 @@ takes_any client (Some d) = takes client d
 
 -- the table of events: what each is for after what has happened
 abbrev pub deed : Rules → World → Event → Deed
-deed rules w (Register now app json) = writes now (registers app (registration_of json))
-deed rules w (Cancel now app id) = writes now (Ok (cancel (key_named app id)))
-deed rules w (Renew now app id) = writes now (Ok (renew (key_named app id)))
-deed rules w (SetStatus now app id status) = writes now (Ok (set_status (key_named app id) status))
-deed rules w (DropStatus now app id status) = writes now (Ok (drop_status (key_named app id) status))
-deed rules w (Metadata now app id entries) = writes now (Ok (add_metadata (key_named app id) entries))
-deed rules w (Load key) = loads (loaded rules.delta (record { query = query_asked key.query; form = key.form }) (history w.past))
-deed rules w (LoadById id form) = loads (loaded_of (by_id (reg (history w.past)) id) form (history w.past))
-deed rules w (Clean now) = cleans now
-deed rules w Minute = closes
-deed rules w (Expire now) = expires now
-deed rules w Begin = begins
-deed rules w Copy = copies
-deed rules w Publish = publishes
-deed rules w (Look key) = looks (Some (record { query = query_asked key.query; form = key.form }))
-deed rules w (LookById id form) = looks None
+deed rules w (Step (Register now app json)) = writes now (registers app (registration_of json))
+deed rules w (Step (Cancel now app id)) = writes now (Ok (cancel (key_named app id)))
+deed rules w (Step (Renew now app id)) = writes now (Ok (renew (key_named app id)))
+deed rules w (Step (SetStatus now app id status)) = writes now (Ok (set_status (key_named app id) status))
+deed rules w (Step (DropStatus now app id status)) = writes now (Ok (drop_status (key_named app id) status))
+deed rules w (Step (Metadata now app id entries)) = writes now (Ok (add_metadata (key_named app id) entries))
+deed rules w (Step (Load key)) = loads (loaded rules.delta (record { query = query_asked key.query; form = key.form }) (history w.past))
+deed rules w (Step (LoadById id form)) = loads (loaded_of (by_id (reg (history w.past)) id) form (history w.past))
+deed rules w (Step (Clean now)) = cleans now
+deed rules w (Step Minute) = closes
+deed rules w (Step (Expire now)) = expires now
+deed rules w (Step Begin) = begins
+deed rules w (Step Copy) = copies
+deed rules w (Step Publish) = publishes
+deed rules w (Step (Look key)) = looks (Some (record { query = query_asked key.query; form = key.form }))
+deed rules w (Step (LookById id form)) = looks None
+deed rules w (Step (Show client)) = shows client
 deed rules w (Take client event) = takes_any client (doc_of_event w.replies event)
-deed rules w (Show client) = shows client
 
 -- what an operation does at a moment after what has happened, where it is one: its change or none, or the first cause against it
 abbrev pub done : Rules → Past → ℕ → Result Ask Fault → Result (Option Entry) Fault

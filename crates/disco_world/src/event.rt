@@ -9,9 +9,19 @@ use disco_values::{Bytes, Entries, Fault, Form, Text};
 use std::alloc::Global;
 use std::sync::Arc;
 
-/// What happens to a registry. Moments are in milliseconds.
+/// What happens to a registry, or to a client of it.
 #[derive(Debug, Drop)]
 pub enum Event {
+    /// One that looks at no earlier reply.
+    Step(Step),
+    /// A client is given the document that an earlier event answered, by the number of that event
+    /// from 1: one of all apps, or a delta.
+    Take { client: u32, event: u64 },
+}
+
+/// An event that looks at no earlier reply. Moments are in milliseconds.
+#[derive(Debug, Drop)]
+pub enum Step {
     /// A registration under an app's name, with the JSON of its body.
     Register {
         now: u64,
@@ -86,12 +96,6 @@ pub enum Event {
     LookById {
         id: Text,
         form: Form,
-    },
-    /// A client is given the document that an earlier event answered, by the number of that event
-    /// from 1: one of all apps, or a delta.
-    Take {
-        client: u32,
-        event: u64,
     },
     /// A look at a client's copy.
     Show {

@@ -14,9 +14,11 @@ mod levels;
 mod loads;
 mod rounds;
 mod runs;
+mod steps;
 mod telling;
 
-pub use event::{Event, Reply};
+pub use event::{Event, Reply, Step};
 pub use holding::{Holding, Holdings};
 pub use runs::run;
-pub use telling::{Tell, has_takes, run_to};
+pub use steps::Steps;
+pub use telling::{Tell, run_to};

@@ -1,5 +1,5 @@
 //! Runs of events.
-ghost use Rattle.std.specs.Prelude.{◌≡◌, ◌≢◌, false, length, IfOk, IfErr, IfSome, IfNone, None, Result, Some, option_map};
+ghost use Rattle.std.specs.Prelude.{◌≡◌, ◌≢◌, length, IfOk, IfErr, IfSome, IfNone, None, Result, Some, option_map};
 ghost use Rattle.std.specs.BTreeMap as tree;
 ghost use Rattle.std.specs.FinMap.{empty};
 ghost use Rattle.std.specs.Ordering.{nat_cmp};
@@ -13,12 +13,12 @@ ghost use Rattle.disco_hub.specs.State.{StandsFor, rules_of};
 ghost use Rattle.disco_world.specs.Answers.{AreAnswers, AreKnown, ArePressed, AreServed, IsFirstBadEvent};
 ghost use Rattle.disco_world.specs.Events.{World, bad, closes, deed, doc_in, doc_of_event, expires, for_clients, writes};
 ghost use Rattle.disco_world.specs.Levels.{AreLevelsOf, Goes};
-ghost use Rattle.disco_world.specs.Telling.{is_take};
 ghost use Rattle.disco_world.specs.Steps.{AreHeld, AreReadable, Does, reply_to, reply_to_show, reply_to_take};
+ghost use Rattle.disco_world.specs.declared.event.Event.TheVariants as event;
 
 use crate::asks::{add_metadata, cancel, drop_status, renew, set_status};
 use crate::clients::{Clients, Told, show, take};
-use crate::event::{Event, Reply};
+use crate::event::{Event, Reply, Step};
 use crate::holding::Holdings;
 use crate::levels::Levels;
 use crate::loads::{load, load_by_id};
@@ -95,64 +95,62 @@ fn answer(
     ensures rules { rules_of levels.new.hub ≡ rules_of levels.old.hub }
 {
     match event {
+        Event::Step(step) => Some(answer_step(alloc, levels, clients, step)),
         Event::Take { client, event } => match document(replies, *event) {
             Some(payload) => Some(took(take(alloc, clients, *client, payload))),
             None => None,
         },
-        _ => Some(answer_alone(alloc, levels, clients, event)),
     }
 }
 
 /// Answers one event that looks at no earlier reply.
-pub(crate) fn answer_alone(
+pub(crate) fn answer_step(
     alloc: Global,
     levels: &mut Levels,
     clients: &Clients,
-    event: &Event,
+    step: &Step,
 ) -> Reply
-    requires alone { is_take event.now ≡ false }
     ensures does { (w : World) → AreHeld (tree.get nat_cmp clients.now) w → AreLevelsOf levels.old w
-        → Goes (rules_of levels.old.hub) w event.now result levels.new (tree.get nat_cmp clients.now) }
+        → Goes (rules_of levels.old.hub) w (event.Step step.now) result levels.new (tree.get nat_cmp clients.now) }
     ensures rules { rules_of levels.new.hub ≡ rules_of levels.old.hub }
 {
-    match event {
-        Event::Register { now, app, json } => write(
+    match step {
+        Step::Register { now, app, json } => write(
             &mut levels.hub,
             *now,
             register(alloc, app, json.as_slice()),
         ),
-        Event::Cancel { now, app, id } => write(&mut levels.hub, *now, cancel(alloc, app, id)),
-        Event::Renew { now, app, id } => write(&mut levels.hub, *now, renew(alloc, app, id)),
-        Event::SetStatus {
+        Step::Cancel { now, app, id } => write(&mut levels.hub, *now, cancel(alloc, app, id)),
+        Step::Renew { now, app, id } => write(&mut levels.hub, *now, renew(alloc, app, id)),
+        Step::SetStatus {
             now,
             app,
             id,
             status,
         } => write(&mut levels.hub, *now, set_status(alloc, app, id, status)),
-        Event::DropStatus {
+        Step::DropStatus {
             now,
             app,
             id,
             status,
         } => write(&mut levels.hub, *now, drop_status(alloc, app, id, status)),
-        Event::Metadata {
+        Step::Metadata {
             now,
             app,
             id,
             entries,
         } => write(&mut levels.hub, *now, add_metadata(alloc, app, id, entries)),
-        Event::Load { key } => load(alloc, &mut levels.hub, key),
-        Event::LoadById { id, form } => load_by_id(&levels.hub, id, *form),
-        Event::Clean { now } => Reply::Cleaned(levels.hub.clean(*now)),
-        Event::Minute => close(&mut levels.hub),
-        Event::Expire { now } => expire(&mut levels.hub, *now),
-        Event::Begin => begin(alloc, levels),
-        Event::Copy => copy(levels),
-        Event::Publish => publish(alloc, levels),
-        Event::Look { key } => look(alloc, &levels.published, key),
-        Event::LookById { .. } => Reply::Missed,
-        Event::Take { .. } => Reply::Missed,
-        Event::Show { client } => showed(show(alloc, clients, *client)),
+        Step::Load { key } => load(alloc, &mut levels.hub, key),
+        Step::LoadById { id, form } => load_by_id(&levels.hub, id, *form),
+        Step::Clean { now } => Reply::Cleaned(levels.hub.clean(*now)),
+        Step::Minute => close(&mut levels.hub),
+        Step::Expire { now } => expire(&mut levels.hub, *now),
+        Step::Begin => begin(alloc, levels),
+        Step::Copy => copy(levels),
+        Step::Publish => publish(alloc, levels),
+        Step::Look { key } => look(alloc, &levels.published, key),
+        Step::LookById { .. } => Reply::Missed,
+        Step::Show { client } => showed(show(alloc, clients, *client)),
     }
 }
 

@@ -1,20 +1,20 @@
 //! Runs whose replies are told as they come, and not held.
-ghost use Rattle.std.specs.Prelude.{◌≡◌, ◌⊎◌, ℕ, List, Option, IfErr, None, OnOk, false};
+ghost use Rattle.std.specs.Prelude.{◌≡◌, ◌⊎◌, ℕ, List, Option, IfErr, None, OnOk};
 ghost use Rattle.std.specs.BTreeMap as tree;
 ghost use Rattle.std.specs.FinMap.{empty};
 ghost use Rattle.std.specs.Io.KnownBytes.{Appends};
-ghost use Rattle.std.specs.List.{list_any};
 ghost use Rattle.disco_values.specs.declared.fault.Fault.TheVariants.{OutOfMemory, WriteFailed};
 ghost use Rattle.disco_core.specs.Past.{nothing};
 ghost use Rattle.disco_core.specs.State.{rules};
 ghost use Rattle.disco_hub.specs.State.{StandsFor, rules_of};
-ghost use Rattle.disco_world.specs.Telling.{AreTold, is_take};
+ghost use Rattle.disco_world.specs.Telling.{AreTold};
 ghost use Rattle.disco_world.specs.declared.event.Reply.{Reply};
 
 use crate::clients::Clients;
 use crate::event::{Event, Reply};
 use crate::levels::Levels;
-use crate::runs::answer_alone;
+use crate::runs::answer_step;
+use crate::steps::Steps;
 use disco_settings::Settings;
 use disco_values::Fault;
 use std::alloc::Global;
@@ -34,36 +34,22 @@ pub trait Tell<W> {
         ensures fault { IfErr result (λ e. (e ≡ WriteFailed) ⊎ (e ≡ OutOfMemory)) };
 }
 
-fn is_take(event: &Event) -> bool
-    ensures { result ≡ is_take event.now }
-{
-    matches!(event, Event::Take { .. })
-}
-
-/// Whether one of the events gives a client what an earlier one answered.
-pub fn has_takes(events: &[Event]) -> bool
-    ensures { result ≡ list_any is_take events.now }
-{
-    events.iter().any(|event| is_take(event))
-}
-
 /// Runs the events in order from an empty registry as `run` does, and tells each reply as it comes.
-/// No reply is held, so no event may be a take. Refused as the teller refuses, with the replies
+/// No reply is held, so none of them is a take. Refused as the teller refuses, with the replies
 /// before told.
 pub fn run_to<W, T: Tell<W>>(
     alloc: Global,
     settings: &Settings,
-    events: &[Event],
+    steps: Steps,
     teller: &mut T,
     out: &mut W,
 ) -> Result<(), Fault>
-    requires { list_any is_take events.now ≡ false }
-    ensures told { OnOk result (AreTold (rules settings.now) events.now T.text (T.told teller.old out.old) (T.told teller.new out.new)) }
+    ensures told { OnOk result (AreTold (rules settings.now) steps.entry.events.now T.text (T.told teller.old out.old) (T.told teller.new out.new)) }
     ensures fault { IfErr result (λ e. (e ≡ WriteFailed) ⊎ (e ≡ OutOfMemory)) }
 {
     let mut levels = Levels::new(alloc, settings);
     let clients = BTreeMap::new(alloc);
-    tell_all(alloc, &mut levels, &clients, events, teller, out)
+    tell_all(alloc, &mut levels, &clients, steps, teller, out)
 }
 
 /// Runs the events over an empty registry, of which no client has a copy, and tells each reply.
@@ -71,7 +57,7 @@ fn tell_all<W, T: Tell<W>>(
     alloc: Global,
     levels: &mut Levels,
     clients: &Clients,
-    events: &[Event],
+    steps: Steps,
     teller: &mut T,
     out: &mut W,
 ) -> Result<(), Fault>
@@ -79,12 +65,14 @@ fn tell_all<W, T: Tell<W>>(
     requires rounds { levels.old.hub.rounds ≡ record { edition = empty; round = None } }
     requires published { levels.old.published ≡ empty }
     requires clients { tree.IsEmpty clients.now }
-    requires alone { list_any is_take events.now ≡ false }
-    ensures told { OnOk result (AreTold (rules_of levels.old.hub) events.now T.text (T.told teller.old out.old) (T.told teller.new out.new)) }
+    ensures told { OnOk result (AreTold (rules_of levels.old.hub) steps.entry.events.now T.text (T.told teller.old out.old) (T.told teller.new out.new)) }
     ensures fault { IfErr result (λ e. (e ≡ WriteFailed) ⊎ (e ≡ OutOfMemory)) }
 {
-    for event in events {
-        let reply = answer_alone(alloc, levels, clients, event);
+    for event in steps.events {
+        let Event::Step(step) = event else {
+            unreachable!()
+        };
+        let reply = answer_step(alloc, levels, clients, step);
         teller.tell(&reply, out)?;
     }
     Ok(())

@@ -10,14 +10,14 @@ returns-in_err-replies-clause-fault g c =
 pub returns-clause-bad_line : goal.returns-clause-bad_line
 returns-clause-bad_line g c = λ input bad e line. absurd (none_bad _ _ c.in_ok-events.ensures.events input bad e line)
 
-pub returns-then-not-has_takes-clause-bad_line : goal.returns-then-not-has_takes-clause-bad_line
-returns-then-not-has_takes-clause-bad_line g c = λ input bad e line. absurd (none_bad _ _ c.in_ok-events.ensures.events input bad e line)
+pub returns-in-Some-clause-bad_line : goal.returns-in-Some-clause-bad_line
+returns-in-Some-clause-bad_line g c = λ input bad e line. absurd (none_bad _ _ c.in_ok-events.ensures.events input bad e line)
 
-pub returns-then-not-has_takes-clause-answered : goal.returns-then-not-has_takes-clause-answered
-returns-then-not-has_takes-clause-answered g c = then_ok c.answer_events.result _ _ (λ told. record {
+pub returns-in-Some-clause-answered : goal.returns-in-Some-clause-answered
+returns-in-Some-clause-answered g c = then_ok c.answer_events.result _ _ (λ told. record {
   events = c.in_ok-events.events.items;
   read = c.in_ok-events.ensures.events;
-  answered = rw c.as_slice-then-not-has_takes.ensures.value at told;
+  answered = rw (c.in-Some.ensures, c.as_slice.ensures.value) at told;
 }) c.answer_events.ensures.told
 
 pub returns-clause-answered : goal.returns-clause-answered

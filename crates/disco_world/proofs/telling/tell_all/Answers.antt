@@ -15,26 +15,26 @@ loop-event-init g c = record {
   run = record {
     count = refl;
     levels = new_levels c.args.levels.now c.requires.stands c.requires.rounds c.requires.published;
-    pressed = new_pressed (rules_of c.args.levels.now.hub) c.args.events.now [];
+    pressed = new_pressed (rules_of c.args.levels.now.hub) c.args.steps.events.now [];
     held = λ q. search (c.requires.clients);
     replies = refl;
     rules_are = refl;
-    answers = no_answers (rules_of c.args.levels.now.hub) c.args.events.now [] refl;
+    answers = no_answers (rules_of c.args.levels.now.hub) c.args.steps.events.now [] refl;
   };
   told = Appends-nil (g.T.Tell.told c.args.teller.now c.args.out.now);
 }
 
 pub loop-event-preserved : goal.loop-event-preserved
 loop-event-preserved g c =
-    let es = c.args.events.now in
+    let es = c.args.steps.events.now in
     let i = c.loop-event.event-index in
     let e = c.event-item.result in
-    let alone = c.answer_alone-reply in
+    let step = c.answer_step-reply in
     tells_more (rules_of c.args.levels.now.hub) es g.T.Tell.text i (tree.get nat_cmp c.args.clients.now) (g.T.Tell.told c.args.teller.now c.args.out.now) (g.T.Tell.told c.loop-event.teller c.loop-event.out)
-    c.loop-event.levels alone.new.levels e alone.result (g.T.Tell.told c.tell.new.self c.tell.new.out) (at_index es i e c.loop-event-test.true c.event-item.is)
-    c.loop-event.invariant alone.ensures.does alone.ensures.rules c.in_ok-tell.ensures.told
+    c.loop-event.levels step.new.levels e step.result (g.T.Tell.told c.tell.new.self c.tell.new.out) (at_index es i e c.loop-event-test.true c.event-item.is)
+    c.loop-event.invariant (λ w held levels. rw c.in-Step.is (step.ensures.does w held levels)) step.ensures.rules c.in_ok-tell.ensures.told
 
 pub returns-clause-told : goal.returns-clause-told
 returns-clause-told g c =
-    all_told (rules_of c.args.levels.now.hub) c.args.events.now g.T.Tell.text c.loop-event.event-index (tree.get nat_cmp c.args.clients.now) (g.T.Tell.told c.args.teller.now c.args.out.now) (g.T.Tell.told c.loop-event.teller c.loop-event.out)
+    all_told (rules_of c.args.levels.now.hub) c.args.steps.events.now g.T.Tell.text c.loop-event.event-index (tree.get nat_cmp c.args.clients.now) (g.T.Tell.told c.args.teller.now c.args.out.now) (g.T.Tell.told c.loop-event.teller c.loop-event.out)
     c.loop-event.levels (omega (arith, c.loop-event-test.false, c.loop-event.auto.event-index-end)) c.loop-event.invariant

@@ -13,7 +13,7 @@ use Rattle.disco_hub.specs.State.{rules_of}
 use Rattle.disco_world.proofs.Taken.{showed}
 use Rattle.disco_world.proofs.Turning.{looked, quiet_turns}
 use Rattle.disco_world.proofs.Writes.{with_hub, with_turn}
-use Rattle.disco_world.proofs.runs.answer_alone.Goals as goal
+use Rattle.disco_world.proofs.runs.answer_step.Goals as goal
 
 pub returns-in-Register-clause-does : goal.returns-in-Register-clause-does
 returns-in-Register-clause-does c = λ w held levels.
