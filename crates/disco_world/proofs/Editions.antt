@@ -17,12 +17,12 @@ use Rattle.disco_hub.specs.State.{MayServe}
 use Rattle.disco_rounds.specs.declared.copied.Copied.TheVariants as copied
 use Rattle.disco_rounds.proofs.Notes.{copied-begin, copied-doc, copied-gone}
 use Rattle.disco_world.specs.Answers.{AreAnswers, IsAnswer}
-use Rattle.disco_world.specs.Events.{Deed, World, writes, loads, cleans, closes, expires, begins, copies, publishes, looks, takes, shows, bad, after, after_at, changes_since, deed, past_after, press_done, world}
+use Rattle.disco_world.specs.Events.{Deed, World, begins, copies, publishes, after, after_at, changes_since, deed, past_after, press_done, world}
 use Rattle.disco_world.specs.Rounds.{Press, all_of}
 use Rattle.disco_world.specs.declared.event.Event.{Event}
 use Rattle.disco_hub.proofs.Levels.{copied_changes}
 use Rattle.disco_world.specs.declared.event.Reply.{Reply}
-use Rattle.disco_world.specs.declared.event.Reply.TheVariants.{Changed, Same, Doc, Cleaned, Closed, Expired, Begun, Copied, Done, Published, Missed, Taken, Held, Refused}
+use Rattle.disco_world.specs.declared.event.Reply.TheVariants.{Begun, Copied, Published}
 
 none_at : (k : DocKey) (d : Payload) → get (empty {X = Payload} {R = doc_cmp}) k ≡ Some d → ⊥
 none_at k d is = absurd (the (sym (get-empty doc_cmp k) ∙ is))
@@ -124,58 +124,11 @@ module _ (rules : Rules) (es : List Event) (rs : List Reply) where
       plain = plainly s cs
 
       sees_on : (what : Deed) (r : Reply) → IsAnswer rules (here i) what r → IsPublishable (press_done s cs (n + 1) what r).published → SeesIn s i n → SeesIn (press_done s cs (n + 1) what r) (i + 1) (n + 1)
-      sees_on (writes now ask) r answer fresh sees = plain sees
-      sees_on (loads asked) r answer fresh sees = plain sees
-      sees_on (cleans now) r answer fresh sees = plain sees
-      sees_on closes r answer fresh sees = plain sees
-      sees_on (expires now) r answer fresh sees = plain sees
-      sees_on (looks key) r answer fresh sees = plain sees
-      sees_on (takes client d) r answer fresh sees = plain sees
-      sees_on (shows client) r answer fresh sees = plain sees
-      sees_on bad r answer fresh sees = plain sees
       sees_on begins (Begun m) answer fresh sees = begun_on s m sees
       sees_on copies (Copied (copied.Doc p)) answer fresh sees = doc_on s p.value answer.2.1 sees
       sees_on copies (Copied (copied.Drop j)) answer fresh sees = gone_on s j sees
       sees_on publishes (Published m) answer fresh sees = published_on s fresh sees
-      sees_on begins (Changed v) answer fresh sees = plain sees
-      sees_on begins Same answer fresh sees = plain sees
-      sees_on begins (Doc p) answer fresh sees = plain sees
-      sees_on begins (Cleaned b) answer fresh sees = plain sees
-      sees_on begins (Closed minute) answer fresh sees = plain sees
-      sees_on begins (Expired run) answer fresh sees = plain sees
-      sees_on begins (Copied c) answer fresh sees = plain sees
-      sees_on begins Done answer fresh sees = plain sees
-      sees_on begins (Published m) answer fresh sees = plain sees
-      sees_on begins Missed answer fresh sees = plain sees
-      sees_on begins (Taken equal version) answer fresh sees = plain sees
-      sees_on begins (Held holdings) answer fresh sees = plain sees
-      sees_on begins (Refused e) answer fresh sees = plain sees
-      sees_on copies (Changed v) answer fresh sees = plain sees
-      sees_on copies Same answer fresh sees = plain sees
-      sees_on copies (Doc p) answer fresh sees = plain sees
-      sees_on copies (Cleaned b) answer fresh sees = plain sees
-      sees_on copies (Closed minute) answer fresh sees = plain sees
-      sees_on copies (Expired run) answer fresh sees = plain sees
-      sees_on copies (Begun m) answer fresh sees = plain sees
-      sees_on copies Done answer fresh sees = plain sees
-      sees_on copies (Published m) answer fresh sees = plain sees
-      sees_on copies Missed answer fresh sees = plain sees
-      sees_on copies (Taken equal version) answer fresh sees = plain sees
-      sees_on copies (Held holdings) answer fresh sees = plain sees
-      sees_on copies (Refused e) answer fresh sees = plain sees
-      sees_on publishes (Changed v) answer fresh sees = plain sees
-      sees_on publishes Same answer fresh sees = plain sees
-      sees_on publishes (Doc p) answer fresh sees = plain sees
-      sees_on publishes (Cleaned b) answer fresh sees = plain sees
-      sees_on publishes (Closed minute) answer fresh sees = plain sees
-      sees_on publishes (Expired run) answer fresh sees = plain sees
-      sees_on publishes (Begun m) answer fresh sees = plain sees
-      sees_on publishes (Copied c) answer fresh sees = plain sees
-      sees_on publishes Done answer fresh sees = plain sees
-      sees_on publishes Missed answer fresh sees = plain sees
-      sees_on publishes (Taken equal version) answer fresh sees = plain sees
-      sees_on publishes (Held holdings) answer fresh sees = plain sees
-      sees_on publishes (Refused e) answer fresh sees = plain sees
+      sees_on what r answer fresh sees = plain sees
 
 -- what readers see may be published
 abbrev pub ShowsFresh : Rules → List Event → List Reply → ℕ → Type 0

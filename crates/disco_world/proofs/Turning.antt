@@ -179,14 +179,4 @@ pub looked : (rules : Rules) (w : World) (m : Edition) (k : DocKey) (r : Reply) 
 looked rules w m k (reply.Doc d) is found = ap (λ (e : Edition). get e k) (sym is) ∙ found
 looked rules w m k reply.Missed is found = ap (λ (e : Edition). get e k) (sym is) ∙ found
 looked rules w m k (reply.Refused f) is found = found
-looked rules w m k (reply.Changed v) is found = absurd found
-looked rules w m k reply.Same is found = absurd found
-looked rules w m k (reply.Cleaned b) is found = absurd found
-looked rules w m k (reply.Closed minute) is found = absurd found
-looked rules w m k (reply.Expired run) is found = absurd found
-looked rules w m k (reply.Begun n) is found = absurd found
-looked rules w m k (reply.Copied c) is found = absurd found
-looked rules w m k reply.Done is found = absurd found
-looked rules w m k (reply.Published n) is found = absurd found
-looked rules w m k (reply.Taken equal version) is found = absurd found
-looked rules w m k (reply.Held holdings) is found = absurd found
+looked rules w m k r is found = absurd found
