@@ -7,6 +7,7 @@ pub mod Overlays
 pub mod Restrictions
 mod Runs
 pub mod Sets
+pub mod Slots
 pub mod Sorted
 pub mod SortedBy
 pub mod Untouched

@@ -10,5 +10,6 @@ pub mod Mentions
 pub mod Query
 pub mod Registry
 pub mod Room
+pub mod Slots
 pub mod SortedBy
 pub mod Worked

@@ -5,7 +5,8 @@ use Rattle.std.specs.Option.{unwrap_or}
 use Rattle.std.specs.Str.{bytes_eq}
 use Rattle.disco_values.specs.Key.{same_key}
 use Rattle.disco_values.specs.declared.key.Key.{Key}
-use Rattle.disco_index.specs.Places.{Alters, opened, swept, written}
+use Rattle.disco_history.specs.Slots.{written}
+use Rattle.disco_index.specs.Places.{Alters, opened, swept}
 use Rattle.disco_index.specs.Vips.{IsSameVips, KeepsPlaces, VipKeys, place_at}
 
 -- twice is as once

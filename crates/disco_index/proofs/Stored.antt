@@ -1,12 +1,11 @@
 -- The finite map that a tree's entries stand for.
 use Rattle.std.proofs.Common.{◌≡◌, Bool, true, false, ◌&&◌, cond, T, List, [], ◌∷◌, map, filter, Option, Some, None, refl, sym, ap, subst, ◌∙◌}
 use Rattle.std.specs.declared.cmp.Ordering.TheVariants.{Less}
-use Rattle.std.specs.BTreeMap.{is_at}
 use Rattle.std.specs.FinMap.{FinMap, entries, entries_sorted, from_entries, from_sorted, entries-from_sorted, get, get-entries, get-from_entries, get-from_sorted, same_map}
 use Rattle.std.specs.FinMap.Entries.{below_all, find, is_sorted, put, by_order, same_entries}
 use Rattle.std.specs.List.{AllByRecursion}
 use Rattle.std.specs.List.Sorted.{IsStrictlySortedBy}
-use Rattle.std.specs.Map.{keys_of, lookup}
+use Rattle.std.specs.Map.{keys_of}
 use Rattle.std.specs.Option.{unwrap_or, is_some}
 use Rattle.std.specs.Ordering.{is_eq, is_lt}
 use Rattle.std.specs.Cmp.{tied_itself}
@@ -15,14 +14,6 @@ use Rattle.disco_values.specs.Key.{key_cmp, same_key}
 use Rattle.disco_values.specs.declared.key.Key.{Key}
 use Rattle.disco_history.proofs.Keys.{keys_total, exact_keys, same_key-sym}
 use Rattle.disco_index.proofs.Entries.{first, second, both, is_less}
-
--- what a list has at a key, by either kit's search
-pub find_lookup : {X : Type 0} (q : Key) (es : List (Key × X)) → find key_cmp q es ≡ lookup (is_at (key_cmp q)) es
-find_lookup q [] = refl
-find_lookup q (e ∷ es) = ap (cond (is_at (key_cmp q) e.0) (Some e.1)) (find_lookup q es)
-
-pub get_stored : {X : Type 0} (es : List (Key × X)) (q : Key) → get (from_entries {R = key_cmp} es) q ≡ lookup (is_at (key_cmp q)) es
-get_stored es q = get-from_entries keys_total es q ∙ find_lookup q es
 
 -- ---- entries in order are those of their map
 

@@ -15,7 +15,8 @@ use Rattle.disco_values.specs.Key.{key_cmp, same_key}
 use Rattle.disco_values.specs.declared.key.Key.{Key}
 use Rattle.disco_history.proofs.Keys.{keys_total, exact_keys}
 use Rattle.disco_index.proofs.Stored.{entries_stored, itself, keys_by_test}
-use Rattle.disco_index.specs.Places.{Alters, AltersAt, HasNoBareVip, IsBareOnly, keys_there, opened, seen_vips, written}
+use Rattle.disco_history.specs.Slots.{AltersAt, written}
+use Rattle.disco_index.specs.Places.{Alters, HasNoBareVip, IsBareOnly, keys_there, opened, seen_vips}
 use Rattle.disco_index.specs.Vips.{place_at, places_at, under}
 
 abbrev pub Places : Type 0

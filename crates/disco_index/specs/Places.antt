@@ -1,12 +1,12 @@
 -- What is stored of vips, and what becomes of places. Nothing here is to be believed: no public contract rests on it.
-use Rattle.std.specs.Prelude.{◌≡◌, ℕ, Bool, true, false, ◌&&◌, List, map, filter, if◌then◌else◌, Option, Some, None, option_map, string_bytes}
+use Rattle.std.specs.Prelude.{◌≡◌, ℕ, Bool, true, false, ◌&&◌, List, map, filter, if◌then◌else◌, Option, Some, None, string_bytes}
 use Rattle.std.specs.FinMap.{FinMap, empty, from_entries, entries, get}
 use Rattle.std.specs.List.{list_any}
-use Rattle.std.specs.Option.{unwrap_or}
 use Rattle.std.specs.Str.{bytes_eq}
 use Rattle.std.specs.declared.string.String.{String}
 use Rattle.disco_values.specs.Key.{key_cmp, same_key}
 use Rattle.disco_values.specs.declared.key.Key.{Key}
+use Rattle.disco_history.specs.Slots as slots
 use Rattle.disco_index.specs.Vips.{VipKeys, place_at}
 
 -- the places that entries stand for
@@ -27,11 +27,7 @@ keys_there m = map (λ e. e.0) (filter (λ e. e.1) (entries m))
 
 -- a place that is there, empty where there was none
 abbrev pub opened : Option Bool → Option Bool
-opened place = Some (unwrap_or place false)
-
--- a place that says so, where there is one
-abbrev pub written : Bool → Option Bool → Option Bool
-written there place = option_map (λ _. there) place
+opened place = slots.opened false place
 
 -- no place where it stands empty
 abbrev pub swept : Option Bool → Option Bool
@@ -39,10 +35,6 @@ swept None = None
 swept (Some true) = Some true
 swept (Some false) = None
 
--- the place of the key becomes what f makes of it, and each other place stays
-abbrev pub AltersAt : (Option Bool → Option Bool) → Key → FinMap key_cmp Bool → FinMap key_cmp Bool → Type 0
-AltersAt f k old new = (p : Key) → get new p ≡ (if same_key p k then f (get old p) else get old p)
-
--- the same under each of these vips
+-- the place of the key becomes what f makes of it under each of these vips, and each other place stays
 abbrev pub Alters : (Option Bool → Option Bool) → List (List ℕ) → Key → VipKeys → VipKeys → Type 0
 Alters f vips k old new = (q : List ℕ) (p : Key) → place_at new q p ≡ (if list_any (bytes_eq q) vips && same_key p k then f (place_at old q p) else place_at old q p)

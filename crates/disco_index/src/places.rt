@@ -3,7 +3,8 @@ ghost use Rattle.std.specs.Prelude.{◌≡◌, ◌↔◌, IfOk, IsTrue, OnErr, O
 ghost use Rattle.std.specs.BTreeMap.{IsOrdered};
 ghost use Rattle.std.specs.FinMap.{empty};
 ghost use Rattle.disco_values.specs.Key.{key_cmp};
-ghost use Rattle.disco_index.specs.Places.{AltersAt, keys_there, opened, swept, written};
+ghost use Rattle.disco_history.specs.Slots.{AltersAt, written};
+ghost use Rattle.disco_index.specs.Places.{keys_there, opened, swept};
 
 use disco_values::Key;
 use std::alloc::{AllocError, Global};

@@ -11,7 +11,8 @@ ghost use Rattle.disco_values.specs.declared.key.Key.{Key};
 ghost use Rattle.disco_values.specs.declared.fault.Fault.TheVariants.{OutOfMemory};
 ghost use Rattle.disco_history.specs.Change.{Entry, key_of};
 ghost use Rattle.disco_history.specs.Query.{of_vip, restrict, vips};
-ghost use Rattle.disco_index.specs.Places.{Alters, HasNoBareVip, IsBareOnly, opened, seen_vips, swept, written};
+ghost use Rattle.disco_history.specs.Slots.{written};
+ghost use Rattle.disco_index.specs.Places.{Alters, HasNoBareVip, IsBareOnly, opened, seen_vips, swept};
 ghost use Rattle.disco_index.specs.Vips.{Adds, HasNoneEmpty, HasPlaces, IsIndexOf, IsSameVips, KeepsOthers, KeepsPlaces, Removes, under};
 
 use crate::address::next_vip;

@@ -9,7 +9,8 @@ use Rattle.disco_values.specs.Key.{key_cmp, same_key}
 use Rattle.disco_values.specs.declared.key.Key.{Key}
 use Rattle.disco_history.specs.Change.{Entry, key_of, last}
 use Rattle.disco_history.proofs.Keys.{same_is}
-use Rattle.disco_queue.specs.Numbers.{AltersAt, AreNumbered, last_number, later_or, left_by, numbered, opened, written}
+use Rattle.disco_history.specs.Slots.{AltersAt, opened, written}
+use Rattle.disco_queue.specs.Numbers.{AreNumbered, last_number, later_or, left_by, numbered}
 
 abbrev Places : Type 0
 Places = FinMap key_cmp ℕ
@@ -103,7 +104,7 @@ number_left old new before e es alters are k =
 
 -- ---- an empty place
 
-one_opened : (b : Bool) (o : Option ℕ) → unwrap_or (cond b (opened o) o) 0 ≡ unwrap_or o 0
+one_opened : (b : Bool) (o : Option ℕ) → unwrap_or (cond b (opened 0 o) o) 0 ≡ unwrap_or o 0
 one_opened true o = refl
 one_opened false o = refl
 

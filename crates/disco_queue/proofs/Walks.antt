@@ -17,7 +17,10 @@ use Rattle.disco_history.proofs.Sets.{get-delta}
 use Rattle.disco_history.proofs.Sorted.{both, both_first, both_second, is_less}
 use Rattle.disco_queue.specs.Numbers.{AreNumbered, numbered}
 use Rattle.disco_queue.proofs.Numbering.{last_numbered}
-use Rattle.disco_queue.proofs.Places.{Stored, get_found}
+use Rattle.disco_history.proofs.Slots.{get_found}
+
+abbrev Stored : Type 0
+Stored = List (Key × ℕ)
 
 all_below : (k : Key) (es : Stored) → AllByRecursion (λ y. key_cmp k y ≡ Less) (keys_of es) → T (below_all key_cmp k es)
 all_below k [] h = tt

@@ -1,5 +1,5 @@
 -- The number of each key's last change, and what becomes of places. Nothing here is to be believed: it is the invariant of a type.
-use Rattle.std.specs.Prelude.{◌≡◌, ℕ, ◌+◌, ◌-◌, nat_lt, ◌==◌, List, [], ◌∷◌, if◌then◌else◌, Option, Some, None, option_map}
+use Rattle.std.specs.Prelude.{◌≡◌, ℕ, ◌+◌, ◌-◌, nat_lt, ◌==◌, List, [], ◌∷◌, if◌then◌else◌, Option, Some, None}
 use Rattle.std.specs.FinMap.{FinMap, get}
 use Rattle.std.specs.List.{slice_get}
 use Rattle.std.specs.Option.{unwrap_or}
@@ -28,19 +28,7 @@ AreNumbered places before es = (k : Key) → number_at places k ≡ last_number 
 abbrev pub numbered : ℕ → List Entry → ℕ → Option Entry
 numbered before es number = if nat_lt before number then slice_get es (number - before - 1) else None
 
--- a place that is there, empty where there was none
-abbrev pub opened : Option ℕ → Option ℕ
-opened place = Some (unwrap_or place 0)
-
--- a place with this number, where there is one
-abbrev pub written : ℕ → Option ℕ → Option ℕ
-written number place = option_map (λ _. number) place
-
 -- no place where it has this number
 abbrev pub left_by : ℕ → Option ℕ → Option ℕ
 left_by number None = None
 left_by number (Some n) = if n == number then None else Some n
-
--- the place of the key becomes what f makes of it, and each other place stays
-abbrev pub AltersAt : (Option ℕ → Option ℕ) → Key → FinMap key_cmp ℕ → FinMap key_cmp ℕ → Type 0
-AltersAt f k old new = (p : Key) → get new p ≡ (if same_key p k then f (get old p) else get old p)

@@ -4,7 +4,8 @@ ghost use Rattle.std.specs.FinMap.{empty, get, values};
 ghost use Rattle.std.specs.List.{All};
 ghost use Rattle.disco_history.specs.Change.{is_proper, seen};
 ghost use Rattle.disco_history.specs.Mentions.{delta};
-ghost use Rattle.disco_queue.specs.Numbers.{AltersAt, AreNumbered, left_by, opened, written};
+ghost use Rattle.disco_history.specs.Slots.{AltersAt, opened, written};
+ghost use Rattle.disco_queue.specs.Numbers.{AreNumbered, left_by};
 ghost use Rattle.disco_queue.specs.Seen.{change_of};
 
 use crate::kept::Kept;
@@ -46,7 +47,7 @@ impl Numbers {
 
     /// Makes an empty place for a key, where there is none.
     pub(crate) fn open(&mut self, key: &Key) -> Result<(), AllocError>
-        ensures ok { OnOk result (AltersAt opened key.now self.old self.new) }
+        ensures ok { OnOk result (AltersAt (opened 0) key.now self.old self.new) }
         ensures err { OnErr result (self.new ≡ self.old) }
         ensures needed { OnErr result (get self.old key.now ≡ None) }
     {

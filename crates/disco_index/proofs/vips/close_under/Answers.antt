@@ -1,7 +1,8 @@
 use Rattle.std.proofs.Common.{◌≡◌, Some, Option, refl, sym, ap, subst, ◌∙◌}
 use Rattle.std.specs.FinMap.{empty}
 use Rattle.std.specs.Option.{unwrap_or}
-use Rattle.disco_index.specs.Places.{AltersAt, swept}
+use Rattle.disco_history.specs.Slots.{AltersAt}
+use Rattle.disco_index.specs.Places.{swept}
 use Rattle.disco_index.proofs.VipSteps.{Places, Updated, at_vip, bare_only, here, lent, lifted, lifted-none}
 use Rattle.disco_index.proofs.vips.close_under.Goals as goal
 

@@ -1,6 +1,7 @@
 use Rattle.std.proofs.Common.{◌+◌, ◌++◌, map, subst}
 use Rattle.disco_values.specs.declared.key.Key.{Key}
-use Rattle.disco_queue.specs.Numbers.{AltersAt, left_by}
+use Rattle.disco_history.specs.Slots.{AltersAt}
+use Rattle.disco_queue.specs.Numbers.{left_by}
 use Rattle.disco_queue.specs.Seen.{change_of}
 use Rattle.disco_queue.proofs.Numbering.{number_left}
 use Rattle.disco_queue.proofs.queue.drop_front.Goals as goal

@@ -1,6 +1,7 @@
 use Rattle.std.proofs.Common.{None, sym, ◌∙◌}
 use Rattle.disco_index.specs.Places.{swept}
-use Rattle.disco_index.proofs.PlaceSteps.{altered, unaltered, at_key, swept-empty, swept-kept}
+use Rattle.disco_history.proofs.Slots.{altered, unaltered, at_key}
+use Rattle.disco_index.proofs.PlaceSteps.{swept-empty, swept-kept}
 use Rattle.disco_index.proofs.places.Places.close.Goals as goal
 
 pub returns-then-eq : goal.returns-then-eq

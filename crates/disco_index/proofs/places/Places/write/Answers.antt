@@ -1,6 +1,6 @@
 use Rattle.std.proofs.Common.{◌≡◌, Bool, Some, None, Option, IsSome, refl, sym, ap, subst, ◌∙◌}
-use Rattle.disco_index.specs.Places.{written}
-use Rattle.disco_index.proofs.PlaceSteps.{altered, unaltered, at_key, written-some}
+use Rattle.disco_history.specs.Slots.{written}
+use Rattle.disco_history.proofs.Slots.{altered, unaltered, at_key, written-some}
 use Rattle.disco_index.proofs.places.Places.write.Goals as goal
 use Rattle.disco_index.proofs.places.Places.write.Goals.{in-Some, in_default}
 

@@ -3,7 +3,8 @@ use Rattle.std.specs.FinMap.{empty}
 use Rattle.std.specs.Option.{unwrap_or}
 use Rattle.std.specs.String.{string_bytes}
 use Rattle.std.proofs.lemmas.Map.Text.{btree_map_updates_text}
-use Rattle.disco_index.specs.Places.{AltersAt, opened}
+use Rattle.disco_history.specs.Slots.{AltersAt}
+use Rattle.disco_index.specs.Places.{opened}
 use Rattle.disco_index.proofs.VipSteps.{Places, Updated, at_vip, lent, lifted, no_bare, not_bare, on_err, on_ok, opened_or_same, opened_there, unchanged}
 use Rattle.disco_index.proofs.vips.VipIndex.open.Goals as goal
 

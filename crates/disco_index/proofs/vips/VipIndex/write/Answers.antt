@@ -1,7 +1,7 @@
 use Rattle.std.proofs.Common.{◌≡◌, Some, Option, refl, sym, ap, subst}
 use Rattle.std.specs.FinMap.{empty}
 use Rattle.std.specs.Option.{unwrap_or}
-use Rattle.disco_index.specs.Places.{AltersAt, written}
+use Rattle.disco_history.specs.Slots.{AltersAt, written}
 use Rattle.disco_index.proofs.VipSteps.{Places, Updated, at_vip, lent, lifted, lifted-none, no_bare, not_bare, written_empty}
 use Rattle.disco_index.proofs.vips.VipIndex.write.Goals as goal
 use Rattle.disco_index.proofs.vips.VipIndex.write.Goals.{in-Some, in_default}

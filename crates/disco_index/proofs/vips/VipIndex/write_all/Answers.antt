@@ -1,6 +1,6 @@
 use Rattle.std.proofs.Common.{rules}
 use Rattle.disco_history.specs.Query.{vips}
-use Rattle.disco_index.specs.Places.{written}
+use Rattle.disco_history.specs.Slots.{written}
 use Rattle.disco_index.proofs.Alterings.{left-step, written-twice}
 use Rattle.disco_index.proofs.vips.VipIndex.write_all.Goals as goal
 

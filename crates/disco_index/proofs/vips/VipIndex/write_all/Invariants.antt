@@ -2,7 +2,7 @@ use Rattle.std.proofs.Common.{length}
 use denote.Text.{Utf8}
 use denote.Shadow.{shadow}
 use Rattle.disco_history.specs.Query.{vips}
-use Rattle.disco_index.specs.Places.{written}
+use Rattle.disco_history.specs.Slots.{written}
 use Rattle.disco_index.proofs.Alterings.{Left}
 use Rattle.disco_index.proofs.vips.VipIndex.write_all.Given as goal
 

@@ -1,6 +1,7 @@
 use Rattle.std.proofs.Common.{None, sym, ◌∙◌}
 use Rattle.disco_queue.specs.Numbers.{left_by}
-use Rattle.disco_queue.proofs.Places.{altered, unaltered, at_key, left-gone, left-kept}
+use Rattle.disco_history.proofs.Slots.{altered, unaltered, at_key}
+use Rattle.disco_queue.proofs.Places.{left-gone, left-kept}
 use Rattle.disco_queue.proofs.numbers.Numbers.close.Goals as goal
 
 pub returns-then-eq : goal.returns-then-eq

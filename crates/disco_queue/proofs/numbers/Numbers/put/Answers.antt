@@ -1,6 +1,6 @@
 use Rattle.std.proofs.Common.{◌≡◌, ℕ, Some, None, Option, IsSome, refl, sym, ap, subst, ◌∙◌}
-use Rattle.disco_queue.specs.Numbers.{written}
-use Rattle.disco_queue.proofs.Places.{altered, unaltered, at_key, written-some}
+use Rattle.disco_history.specs.Slots.{written}
+use Rattle.disco_history.proofs.Slots.{altered, unaltered, at_key, written-some}
 use Rattle.disco_queue.proofs.numbers.Numbers.put.Goals as goal
 use Rattle.disco_queue.proofs.numbers.Numbers.put.Goals.{in-Some, in_default}
 

@@ -5,7 +5,8 @@ use borrow.Author.Tests.{leb-true, leb-false}
 use Rattle.std.proofs.lemmas.List.{drop-map, length-map, map-append}
 use Rattle.disco_values.specs.declared.key.Key.{Key}
 use Rattle.disco_history.specs.Change.{Entry, key_of, seen}
-use Rattle.disco_queue.specs.Numbers.{AltersAt, AreNumbered, written}
+use Rattle.disco_history.specs.Slots.{AltersAt, written}
+use Rattle.disco_queue.specs.Numbers.{AreNumbered}
 use Rattle.disco_queue.specs.Queue.{Keeps, Queue, version}
 use Rattle.disco_queue.specs.Seen.{change_of, timed}
 use Rattle.disco_queue.specs.contracts.queue.ChangedQueue.{the_view}
