@@ -25,5 +25,7 @@ headers u n [] all = refl
 headers u n (h ∷ hs) all =
     rw (span_kept u n h.name all.0.0, span_kept u n h.value all.0.1, headers u n hs all.1) refl
 
-pub headers_kept : (u : List ℕ) (n : ℕ) (hs : List HeaderSpan) → All (IsHeaderWithin n) hs → map (header_bytes (take n u)) hs ≡ map (header_bytes u) hs
-headers_kept u n hs all = headers u n hs (recursion_from_All (IsHeaderWithin n) hs all)
+-- the fields of a head whose bytes and spans were copied
+pub copied : (u text : List ℕ) (n : ℕ) (hs kept : List HeaderSpan) → text ≡ take n u → kept ≡ hs → All (IsHeaderWithin n) hs → map (header_bytes text) kept ≡ map (header_bytes u) hs
+copied u text n hs kept bytes spans all =
+    ap (λ (t : List ℕ). map (header_bytes t) kept) bytes ∙ ap (map (header_bytes (take n u))) spans ∙ headers u n hs (recursion_from_All (IsHeaderWithin n) hs all)
