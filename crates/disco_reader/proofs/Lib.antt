@@ -1,9 +1,7 @@
 pub mod Chunking
 pub mod Heads
 pub mod Known
-pub mod Receiving
+pub mod Messages
 pub mod Refusals
-pub mod ReplyHeads
-pub mod Requesting
 pub mod Slices
 pub mod Taken

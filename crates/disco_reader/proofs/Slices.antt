@@ -1,19 +1,13 @@
 -- Parts of a buffer.
-use Rattle.std.proofs.Common.{◌≡◌, ◌≢◌, ℕ, ◌+◌, ◌-◌, ◌≤◌, List, [], Option, ◌++◌, length, take, drop, sym, ◌∙◌, ap, arith, slice_range}
+use Rattle.std.proofs.Common.{◌≡◌, ◌≢◌, ℕ, ◌+◌, ◌-◌, ◌≤◌, List, [], Option, ◌++◌, length, take, drop, sym, ◌∙◌, ap, arith, slice_range, rules}
 use Rattle.std.specs.Io.KnownBytes.{Keeps, Consumes, prepend_known}
 use Rattle.httparse.proofs.RunLemmas.{length-slice_range}
-use Rattle.std.proofs.lemmas.List.{drop-take, drop-drop, take-take}
+use Rattle.std.proofs.lemmas.List.{drop-drop, take-take}
 use Rattle.std.proofs.Math.Seq.{take-add}
+use Rattle.disco_message.proofs.Reading.{same_front}
+use Rattle.disco_reader.specs.Streams.{unread}
+use Rattle.disco_reader.specs.declared.reader.Reader.{Reader}
 use Rattle.disco_reader.proofs.Known.{ahead-kept, ahead-same, Consumes-then}
-
--- a part of the front
-pub slice_front : (xs : List ℕ) (s e : ℕ) → s ≤ e → slice_range xs s e ≡ drop s (take e xs)
-slice_front xs s e h =
-    let at : s + (e - s) ≡ e = omega arith in
-    sym (ap (λ m. drop s (take m xs)) (sym at) ∙ drop-take s (e - s) xs)
-
-pub same_front : (xs ys : List ℕ) (s e : ℕ) → s ≤ e → take e ys ≡ take e xs → slice_range ys s e ≡ slice_range xs s e
-same_front xs ys s e h same = slice_front ys s e h ∙ ap (drop s) same ∙ sym (slice_front xs s e h)
 
 -- a part in two
 pub slice_join : (xs : List ℕ) (s e n : ℕ) → s ≤ e → slice_range xs s (e + n) ≡ slice_range xs s e ++ slice_range xs e (e + n)
@@ -46,6 +40,13 @@ part_fits xs s e limit h within is = rw (part_len xs s e h within) (omega (arith
 
 pub part_some : (xs : List ℕ) (s e : ℕ) → s ≤ e → e ≤ length xs → s ≢ e → slice_range xs s e ≢ []
 part_some xs s e h within differ none = differ (omega (arith, sym (part_len xs s e h within) ∙ ap length none))
+
+-- what is unread is no more than the largest head
+pub unread_len : {R : Type 0} (reader : Reader R) → length (unread reader) ≡ reader.end - reader.start
+unread_len reader = part_len reader.buffer.items reader.start reader.end reader.ordered (search rules)
+
+pub unread_fits : {R : Type 0} (reader : Reader R) → length (unread reader) ≤ reader.limits.head
+unread_fits reader = part_fits reader.buffer.items reader.start reader.end reader.limits.head reader.ordered (search rules) (search rules)
 
 -- one more read into a buffer
 pub read_more : (old new : List ℕ) (s e n : ℕ) (a b c : Option (List ℕ)) → s ≤ e → take e new ≡ take e old → Consumes a b (slice_range old s e) → Consumes b c (slice_range new e (e + n)) → Consumes a c (slice_range new s (e + n))

@@ -1,6 +1,6 @@
 -- Only what code keeps: nothing here is to be believed.
 use Rattle.std.specs.Prelude.{◌≡◌, ℕ, ◌≤◌, ⊤, ◌⊎◌, IsOk, Bool, true, false, ◌++◌, List, length, drop, Option, Some, None, Result, Ok, Err}
-use Rattle.httparse.specs.Grammar.{RequestHead, ResponseHead, ChunkLine, Field, LineEnd, print_section, ReadsSection}
+use Rattle.httparse.specs.Grammar.{ChunkLine, Field, LineEnd, print_section, ReadsSection}
 use Rattle.httparse.specs.Spans.{IsRequestWithin, IsRequestOf, IsResponseWithin, IsResponseOf, IsChunkLineAt}
 use Rattle.httparse.specs.declared.spans.HeaderSpan.{HeaderSpan}
 use Rattle.disco_values.specs.declared.fault.Fault.{Fault}
@@ -69,17 +69,23 @@ abbrev pub PiecesSoFar : Limits → List ℕ → List ℕ → Option (List ℕ) 
 PiecesSoFar limits body input left = (pieces : List (List ℕ)) × (next : List ℕ) × ReadsPieces limits input pieces next × (body ≡ joined pieces) × (left ≡ Some next)
 
 -- the stream begins with a head that says this, and so much is left
+abbrev pub IsRead : {H S : Type 0} → (H → Result S Fault) → (List ℕ → H → List ℕ → Type 0) → List ℕ → S → Option (List ℕ) → Type 0
+IsRead {H} say begins stream says left = (h : H) × (after : List ℕ) × begins stream h after × (say h ≡ Ok says) × (left ≡ Some after)
+
+-- why no head is read that may be read on: none stands there, or one that is refused, or there was no memory
+abbrev pub IsNotRead : {H S : Type 0} → (H → Result S Fault) → (List ℕ → H → List ℕ → Type 0) → (Fault → List ℕ → Type 0) → Fault → List ℕ → Type 0
+IsNotRead {H} say begins none fault stream = none fault stream ⊎ ((h : H) × (after : List ℕ) × begins stream h after × ((say h ≡ Err fault) ⊎ ((fault ≡ OutOfMemory) × IsOk (say h))))
+
+-- the same of the head of a request
 abbrev pub HeadRead : Limits → List ℕ → Heading → Option (List ℕ) → Type 0
-HeadRead limits stream says left = (h : RequestHead) × (after : List ℕ) × Begins limits stream h after × (heading h ≡ Ok says) × (left ≡ Some after)
+HeadRead limits stream says left = IsRead heading (Begins limits) stream says left
 
--- why no head is read that may be read on
 abbrev pub HeadRefused : Limits → Fault → List ℕ → Type 0
-HeadRefused limits fault stream = PartRefused limits part.RequestHead fault stream ⊎ ((h : RequestHead) × (after : List ℕ) × Begins limits stream h after × ((heading h ≡ Err fault) ⊎ ((fault ≡ OutOfMemory) × IsOk (heading h))))
+HeadRefused limits fault stream = IsNotRead heading (Begins limits) (PartRefused limits part.RequestHead) fault stream
 
--- the stream begins with the head of a reply that says this, and so much is left
+-- and of the head of a reply
 abbrev pub ReplyRead : Limits → List ℕ → Received → Option (List ℕ) → Type 0
-ReplyRead limits stream says left = (h : ResponseHead) × (after : List ℕ) × BeginsReply limits stream h after × (received h ≡ Ok says) × (left ≡ Some after)
+ReplyRead limits stream says left = IsRead received (BeginsReply limits) stream says left
 
--- why no head of a reply is read that may be read on
 abbrev pub ReplyHeadRefused : Limits → Fault → List ℕ → Type 0
-ReplyHeadRefused limits fault stream = PartRefused limits part.ReplyHead fault stream ⊎ ((h : ResponseHead) × (after : List ℕ) × BeginsReply limits stream h after × ((received h ≡ Err fault) ⊎ ((fault ≡ OutOfMemory) × IsOk (received h))))
+ReplyHeadRefused limits fault stream = IsNotRead received (BeginsReply limits) (PartRefused limits part.ReplyHead) fault stream

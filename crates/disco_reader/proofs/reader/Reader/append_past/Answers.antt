@@ -1,7 +1,7 @@
 use Rattle.std.proofs.Common.{◌≡◌, ◌+◌, ◌-◌, ◌≤◌, rules, arith, drop, take, length, ◌++◌, []}
 use Rattle.std.specs.Io.KnownBytes.{Consumes}
 use Rattle.disco_reader.specs.Streams.{unread}
-use Rattle.disco_reader.proofs.Slices.{part_len}
+use Rattle.disco_reader.proofs.Slices.{unread_len}
 use Rattle.disco_reader.proofs.Taken.{body_parts, piece_size, taken_past}
 use Rattle.disco_reader.proofs.reader.Reader.append_past.Goals as goal
 
@@ -12,7 +12,7 @@ returns-in_ok-fill_behind-in-Ok-clause-taken g c =
     let from = c.in-Ok.from in
     let mid = c.drain.new.body in
     let body = c.fill_behind.new.body in
-    let len = part_len self.buffer.items self.start self.end self.ordered (search rules) in
+    let len = unread_len self in
     let front : take from mid.items ≡ c.args.body.now.items ++ u = search rules in
     let same : take from body.items ≡ take from mid.items = search rules in
     let empty : unread c.drain.new.self ≡ [] = search rules in

@@ -4,7 +4,7 @@ use Rattle.disco_values.specs.declared.fault.Fault.TheVariants.{HeadTooLarge}
 use Rattle.disco_reader.specs.Parts.{HasNo}
 use Rattle.disco_reader.specs.Streams.{unread, ahead}
 use Rattle.disco_reader.proofs.Known.{Keeps-then}
-use Rattle.disco_reader.proofs.Slices.{part_fits, part_some, part_len}
+use Rattle.disco_reader.proofs.Slices.{part_some, unread_fits, unread_len}
 use Rattle.disco_reader.proofs.Refusals.{bytes_front, front_refused, failed, end_refused}
 use Rattle.disco_reader.proofs.reader.Reader.find.Goals as goal
 
@@ -15,7 +15,7 @@ returns-in_err-found-clause-refused g c =
     let fault = c.in_err-found.field-0.0 in
     rw (p.1, p.2, sym c.loop-found.invariant.1)
     (front_refused self.limits c.args.part fault (ahead g.R.Source.remaining c.args.self.now) (unread self) (g.R.Source.remaining self.source) c.loop-found.invariant.0
-    (part_fits self.buffer.items self.start self.end self.limits.head self.ordered (search rules) (search rules))
+    (unread_fits self)
     (bytes_front self.limits c.args.part fault (unread self) c.in_err-found.ensures.looked))
 
 pub returns-in_err-more_for-clause-refused : goal.returns-in_err-more_for-clause-refused
@@ -23,8 +23,8 @@ returns-in_err-more_for-clause-refused g c =
     let p = err_from_is_err_and c.from_residual-in_err-more_for.result c.from_residual-in_err-more_for.ensures.1 in
     let self = c.loop-found.self in
     let none : HasNo c.args.part (unread self) = search rules in
-    let len = part_len self.buffer.items self.start self.end self.ordered (search rules) in
-    let fits = part_fits self.buffer.items self.start self.end self.limits.head self.ordered (search rules) (search rules) in
+    let len = unread_len self in
+    let fits = unread_fits self in
     rw (p.1, p.2, sym c.loop-found.invariant.1)
     (elim c.in_err-more_for.ensures.fault [
       | inl full ↦
@@ -39,7 +39,7 @@ returns-then-not-branch-clause-refused g c =
     let none : HasNo c.args.part (unread self) = search rules in
     let now = c.more_for.new.self in
     let same : unread now ≡ unread self = search rules in
-    let len = part_len now.buffer.items now.start now.end now.ordered (search rules) in
+    let len = unread_len now in
     rw (sym c.loop-found.invariant.1)
     (end_refused self.limits c.args.part (ahead g.R.Source.remaining c.args.self.now) (unread now) (g.R.Source.remaining now.source)
     (Keeps-then _ _ _ (Keeps-then _ _ _ c.loop-found.invariant.0 c.look.ensures.ahead) c.more_for.ensures.ahead)

@@ -1,9 +1,12 @@
 use Rattle.std.proofs.Common.{rules, IfSome}
 use Rattle.std.proofs.lemmas.Result.{err_from_is_err_and}
+use Rattle.disco_message.specs.Received.{received}
+use Rattle.disco_reader.specs.declared.looking.Part.TheVariants as part
 use Rattle.disco_reader.specs.Found.{ReplyRead, ReplyHeadRefused}
-use Rattle.disco_reader.specs.Replies.{ExtentRefused}
+use Rattle.disco_reader.specs.Replies.{BeginsReply, ExtentRefused}
+use Rattle.disco_reader.specs.Parts.{PartRefused}
 use Rattle.disco_reader.specs.Streams.{ahead}
-use Rattle.disco_reader.proofs.Receiving.{refused_head, refused_body}
+use Rattle.disco_reader.proofs.Messages.{refused_head, refused_body, no_room}
 use Rattle.disco_reader.proofs.reader.Reader.try_reply.Goals as goal
 
 pub returns-in_err-head-clause-refused : goal.returns-in_err-head-clause-refused
@@ -12,7 +15,7 @@ returns-in_err-head-clause-refused g c =
     let limits = c.args.self.now.limits in
     let fault = c.in_err-head.field-0.0 in
     let refused : IfSome (ahead g.R.Source.remaining c.args.self.now) (ReplyHeadRefused limits fault) = search rules in
-    rw (p.1, p.2) (refused_head limits fault (ahead g.R.Source.remaining c.args.self.now) refused)
+    rw (p.1, p.2) (refused_head (λ h. received h) (BeginsReply limits) (PartRefused limits part.ReplyHead) (λ says. ExtentRefused limits says.extent) (λ says. no_room limits says.extent) fault (ahead g.R.Source.remaining c.args.self.now) refused)
 
 pub returns-in_err-body-clause-refused : goal.returns-in_err-body-clause-refused
 returns-in_err-body-clause-refused g c =
@@ -24,4 +27,4 @@ returns-in_err-body-clause-refused g c =
     let fault = c.in_err-body.field-0.0 in
     let found : IfSome first (λ stream. ReplyRead limits stream says mid) = search rules in
     let refused : IfSome mid (ExtentRefused limits says.extent fault) = search rules in
-    rw (p.1, p.2) (refused_body limits fault first mid says found refused)
+    rw (p.1, p.2) (refused_body (λ h. received h) (BeginsReply limits) (PartRefused limits part.ReplyHead) (λ says. ExtentRefused limits says.extent) fault first mid says found refused)
