@@ -2,7 +2,7 @@
 ghost use Rattle.std.specs.Prelude.{◌≡◌, ℕ, ◌≤◌, ◌<◌, List, None, Option, IfOk, length};
 ghost use Rattle.std.specs.Io.{ReadsAtMost, WritesAtMost};
 ghost use Rattle.std.specs.Io.KnownBytes.{Keeps, ReadConsumes, WriteAppends};
-ghost use Rattle.disco_reader.specs.Causes.{Counts};
+ghost use Rattle.disco_reader.specs.Causes.{Counts, Raises};
 
 use std::io::{ErrorKind, Read, Write};
 
@@ -66,6 +66,15 @@ impl<T> Counted<T> {
     {
         Counted { inner, failures: 0 }
     }
+
+    /// Counts a failure.
+    fn fail(&mut self) -> Failed
+        ensures inner { self.new.inner ≡ self.old.inner }
+        ensures raised { Raises self.old.failures self.new.failures }
+    {
+        self.failures = self.failures.saturating_add(1);
+        Failed
+    }
 }
 
 impl<R: Read> Source for Counted<R> {
@@ -84,8 +93,7 @@ impl<R: Read> Source for Counted<R> {
                 }
             }
         }
-        self.failures = self.failures.saturating_add(1);
-        Err(Failed)
+        Err(self.fail())
     }
 
     fn failures(&self) -> u64 {
@@ -111,8 +119,7 @@ impl<W: Write> Sink for Counted<W> {
                 }
             }
         }
-        self.failures = self.failures.saturating_add(1);
-        Err(Failed)
+        Err(self.fail())
     }
 
     fn failures(&self) -> u64 {
