@@ -1,5 +1,5 @@
 -- What reads do to known bytes, one after another.
-use Rattle.std.proofs.Common.{ℕ, List, [], ◌++◌, Option, Some, None, append_assoc, sym, ◌∙◌, ap, refl}
+use Rattle.std.proofs.Common.{ℕ, List, [], ◌++◌, Option, Some, None, append_assoc, sym, ◌∙◌, ap, refl, subst, IfSome}
 use Rattle.std.specs.Io.KnownBytes.{Keeps, Consumes, prepend_known}
 
 pub Keeps-same : (a : Option (List ℕ)) → Keeps a a
@@ -11,6 +11,12 @@ Keeps-then None b c h k = tt
 Keeps-then (Some xs) (Some ys) (Some zs) h k = k ∙ h
 Keeps-then (Some xs) None c h k = elim h [ ]
 Keeps-then (Some xs) (Some ys) None h k = elim k [ ]
+
+-- what holds of what is ahead holds of what was ahead
+pub kept_for : (a b : Option (List ℕ)) (P : List ℕ → Type 0) → Keeps a b → IfSome b P → IfSome a P
+kept_for None b P h p = tt
+kept_for (Some xs) (Some ys) P h p = subst P h p
+kept_for (Some xs) None P h p = elim h [ ]
 
 pub Consumes-kept : (a b c : Option (List ℕ)) (xs : List ℕ) → Keeps a b → Consumes b c xs → Consumes a c xs
 Consumes-kept None b c xs h k = tt

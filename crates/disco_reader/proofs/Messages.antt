@@ -33,7 +33,7 @@ module _ {H S : Type 0} (say : H → Result S Fault) (begins : List ℕ → H �
   pub refused_body : (fault : Fault) (first mid : Option (List ℕ)) (says : S) → IfSome first (λ stream. IsRead say begins stream says mid) → IfSome mid (body says fault) → IfSome first (IsNone fault)
   refused_body fault None mid says found refused = tt
   refused_body fault (Some stream) mid says found refused =
-    inr (found.0, found.1, found.2, inr (says, found.3, known_is mid found.1 (body says fault) found.4 refused))
+      inr (found.0, found.1, found.2, inr (says, found.3, known_is mid found.1 (body says fault) found.4 refused))
 
   module _ (no_memory : (says : S) (after : List ℕ) → body says OutOfMemory after) where
     readable : (h : H) (after : List ℕ) (r : Result S Fault) → say h ≡ r → IsOk r → Behind OutOfMemory h after
@@ -43,15 +43,15 @@ module _ {H S : Type 0} (say : H → Result S Fault) (begins : List ℕ → H �
     refused : (fault : Fault) (stream : List ℕ) → IsNotRead say begins none fault stream → IsNone fault stream
     refused fault stream (inl part) = inl part
     refused fault stream (inr x) =
-      inr (
-        x.0,
-        x.1,
-        x.2,
-        elim x.3 [
-          | inl e ↦ inl e
-          | inr m ↦ subst (λ (f : Fault). Behind f x.0 x.1) (sym m.0) (readable x.0 x.1 (say x.0) refl m.1)
-        ],
-      )
+        inr (
+          x.0,
+          x.1,
+          x.2,
+          elim x.3 [
+            | inl e ↦ inl e
+            | inr m ↦ subst (λ (f : Fault). Behind f x.0 x.1) (sym m.0) (readable x.0 x.1 (say x.0) refl m.1)
+          ],
+        )
 
     pub refused_head : (fault : Fault) (first : Option (List ℕ)) → IfSome first (IsNotRead say begins none fault) → IfSome first (IsNone fault)
     refused_head fault None h = tt

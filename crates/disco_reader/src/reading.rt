@@ -1,9 +1,8 @@
 //! Requests that are read.
-ghost use Rattle.std.specs.Prelude.{◌≡◌, ◌⊎◌, [], ℕ, List, IfOk, IfErr, IfNone, IfSome, IsFalse, IsTrue, IsOk, is_err, Ok, Err, Some, OnOk, ◌-◌};
-ghost use Rattle.httparse.specs.Grammar.{RequestHead};
-ghost use Rattle.httparse.specs.Spans.{IsRequestAt, IsRequestWithin};
-ghost use Rattle.disco_values.specs.declared.fault.Fault.TheVariants.{ReadFailed, OutOfMemory};
-ghost use Rattle.disco_message.specs.Heading.{heading};
+ghost use Rattle.std.specs.Prelude.{◌≡◌, ◌⊎◌, [], ℕ, List, IfOk, IfErr, IfNone, IfSome, IsFalse, IsTrue, is_err, Ok, Some, OnOk, ◌-◌, drop};
+ghost use Rattle.std.specs.Io.KnownBytes.{prepend_known};
+ghost use Rattle.httparse.specs.Spans.{IsRequestOf, IsRequestWithin};
+ghost use Rattle.disco_values.specs.declared.fault.Fault.TheVariants.{BadRequest, UnsupportedCoding, OutOfMemory, ReadFailed};
 ghost use Rattle.disco_message.specs.declared.framing.Framing.TheVariants.{Sized};
 ghost use Rattle.disco_reader.specs.Causes.{Cause, is_of_reading};
 
@@ -23,9 +22,11 @@ impl<R: Source> Reader<R> {
 
     /// What the head that was found says.
     fn copy_head(&self, room: HeadRoom, line: &RequestSpans) -> Result<Head, Fault>
-        requires { IsRequestWithin (unread self.now) self.now.spans.items line.now }
-        ensures fault { IfErr result (λ fault. IsTrue (is_of_reading fault)) }
-        ensures says { (h : RequestHead) → IsRequestAt (unread self.now) self.now.spans.items line.now h → (result ≡ heading h) ⊎ ((result ≡ Err OutOfMemory) × IsOk (heading h)) }
+        requires within { IsRequestWithin (unread self.now) self.now.spans.items line.now }
+        requires found { IsRequestOf (unread self.now) self.now.spans.items line.now }
+        ensures fault { IfErr result (λ fault. (fault ≡ BadRequest) ⊎ ((fault ≡ UnsupportedCoding) ⊎ (fault ≡ OutOfMemory))) }
+        ensures head { IfOk result (λ says. IfSome (ahead R.remaining self.now) (λ stream. HeadRead self.now.limits stream says (prepend_known (drop line.now.len (unread self.now)) (R.remaining self.now.source)))) }
+        ensures refused { IfErr result (λ fault. IfSome (ahead R.remaining self.now) (HeadRefused self.now.limits fault)) }
     {
         Head::new(room, self.unread(), &self.spans, line)
     }

@@ -1,10 +1,8 @@
 //! Replies that are read, as a client does.
-ghost use Rattle.std.specs.Prelude.{◌≡◌, ◌≤◌, ◌⊎◌, ◌+◌, ◌++◌, ◌<◌, ℕ, List, length, vec_len, IfOk, IfErr, IfSome, IsFalse, IsTrue, IsOk, is_err, Err, Some, OnOk};
-ghost use Rattle.std.specs.Io.KnownBytes.{Consumes};
-ghost use Rattle.httparse.specs.Grammar.{ResponseHead};
-ghost use Rattle.httparse.specs.Spans.{IsResponseAt, IsResponseWithin};
-ghost use Rattle.disco_values.specs.declared.fault.Fault.TheVariants.{BodyTooLarge, ReadFailed, OutOfMemory};
-ghost use Rattle.disco_message.specs.Received.{received};
+ghost use Rattle.std.specs.Prelude.{◌≡◌, ◌≤◌, ◌⊎◌, ◌+◌, ◌++◌, ◌<◌, ℕ, List, length, vec_len, IfOk, IfErr, IfSome, IsFalse, IsTrue, is_err, Some, OnOk, drop};
+ghost use Rattle.std.specs.Io.KnownBytes.{Consumes, prepend_known};
+ghost use Rattle.httparse.specs.Spans.{IsResponseOf, IsResponseWithin};
+ghost use Rattle.disco_values.specs.declared.fault.Fault.TheVariants.{BadRequest, BodyTooLarge, ReadFailed, OutOfMemory};
 ghost use Rattle.disco_message.specs.declared.received.Extent.TheVariants.{UntilEnd};
 ghost use Rattle.disco_reader.specs.Causes.{Cause, is_of_reading};
 
@@ -30,9 +28,11 @@ impl<R: Source> Reader<R> {
 
     /// What the head that was found says.
     fn copy_reply_head(&self, alloc: Global, line: &ResponseSpans) -> Result<ReceivedHead, Fault>
-        requires { IsResponseWithin (unread self.now) self.now.spans.items line.now }
-        ensures fault { IfErr result (λ fault. IsTrue (is_of_reading fault)) }
-        ensures says { (h : ResponseHead) → IsResponseAt (unread self.now) self.now.spans.items line.now h → (result ≡ received h) ⊎ ((result ≡ Err OutOfMemory) × IsOk (received h)) }
+        requires within { IsResponseWithin (unread self.now) self.now.spans.items line.now }
+        requires found { IsResponseOf (unread self.now) self.now.spans.items line.now }
+        ensures fault { IfErr result (λ fault. (fault ≡ BadRequest) ⊎ (fault ≡ OutOfMemory)) }
+        ensures head { IfOk result (λ says. IfSome (ahead R.remaining self.now) (λ stream. ReplyRead self.now.limits stream says (prepend_known (drop line.now.len (unread self.now)) (R.remaining self.now.source)))) }
+        ensures refused { IfErr result (λ fault. IfSome (ahead R.remaining self.now) (ReplyHeadRefused self.now.limits fault)) }
     {
         ReceivedHead::new(alloc, self.unread(), &self.spans, line)
     }

@@ -1,38 +1,26 @@
 use Rattle.std.proofs.Common.{◌≡◌, rules, drop, sym}
 use Rattle.std.proofs.lemmas.Result.{err_from_is_err_and}
-use Rattle.httparse.specs.Spans.{IsRequestOf, IsRequestWithin}
 use Rattle.disco_message.specs.Heading.{heading}
-use Rattle.disco_reader.specs.declared.looking.Part.TheVariants as part
-use Rattle.disco_reader.specs.Parts.{PartRefused}
 use Rattle.disco_reader.specs.Requests.{Begins}
+use Rattle.disco_reader.specs.Found.{HeadRefused}
 use Rattle.disco_reader.specs.Streams.{unread, ahead}
-use Rattle.disco_reader.proofs.Heads.{request_here, head_read, head_refused}
-use Rattle.disco_reader.proofs.Slices.{unread_fits}
+use Rattle.disco_reader.proofs.Heads.{read_on}
+use Rattle.disco_reader.proofs.Known.{kept_for}
 use Rattle.disco_reader.proofs.reader.Reader.read_head.Goals as goal
 
 pub returns-in_ok-head-in-Some-RequestHead-clause-head : goal.returns-in_ok-head-in-Some-RequestHead-clause-head
 returns-in_ok-head-in-Some-RequestHead-clause-head g c =
     let self = c.find.new.self in
-    let line = c.in-Some-RequestHead.line in
-    let found : IsRequestOf (unread self) self.spans.items line = search rules in
-    let within : IsRequestWithin (unread self) self.spans.items line = search rules in
     let first = c.args.self.now in
     let limits : self.limits ≡ first.limits = search rules in
-    let here = request_here self.limits (unread self) self.spans.items line found.0 (unread_fits self) (search rules) within.section.len_fits found.1 in
     let source : c.take.new.self.source ≡ self.source = search rules in
-    let rest : unread c.take.new.self ≡ drop line.len (unread self) = search rules in
-    rw (sym limits, source) (head_read (λ h. heading h) (Begins self.limits) (unread self) line.len found.0 here (ahead g.R.Source.remaining first) (unread c.take.new.self) (g.R.Source.remaining self.source) c.in_ok-head-in-Some-RequestHead.head
-    (search rules) rest (c.in_ok-head-in-Some-RequestHead.ensures.says found.0 found.1))
+    rw (sym limits, source) (read_on (λ h. heading h) (Begins self.limits) (ahead g.R.Source.remaining first) (ahead g.R.Source.remaining self) (drop c.in-Some-RequestHead.line.len (unread self)) (unread c.take.new.self) (g.R.Source.remaining self.source) c.in_ok-head-in-Some-RequestHead.head
+    (search rules) (search rules) c.in_ok-head-in-Some-RequestHead.ensures.head)
 
 pub returns-in_err-head-in-Some-RequestHead-clause-refused : goal.returns-in_err-head-in-Some-RequestHead-clause-refused
 returns-in_err-head-in-Some-RequestHead-clause-refused g c =
     let p = err_from_is_err_and c.from_residual-in_err-head-in-Some-RequestHead.result c.from_residual-in_err-head-in-Some-RequestHead.ensures.1 in
     let self = c.find.new.self in
-    let line = c.in-Some-RequestHead.line in
-    let found : IsRequestOf (unread self) self.spans.items line = search rules in
-    let within : IsRequestWithin (unread self) self.spans.items line = search rules in
     let first = c.args.self.now in
     let limits : self.limits ≡ first.limits = search rules in
-    let here = request_here self.limits (unread self) self.spans.items line found.0 (unread_fits self) (search rules) within.section.len_fits found.1 in
-    rw (p.1, p.2, sym limits) (head_refused (λ h. heading h) (Begins self.limits) (unread self) line.len found.0 here (PartRefused self.limits part.RequestHead) (ahead g.R.Source.remaining first) (g.R.Source.remaining self.source) c.in_err-head-in-Some-RequestHead.field-0.0
-    (search rules) (c.in_err-head-in-Some-RequestHead.ensures.says found.0 found.1))
+    rw (p.1, p.2, sym limits) (kept_for (ahead g.R.Source.remaining first) (ahead g.R.Source.remaining self) (HeadRefused self.limits c.in_err-head-in-Some-RequestHead.field-0.0) (search rules) c.in_err-head-in-Some-RequestHead.ensures.refused)
