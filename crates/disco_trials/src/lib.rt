@@ -1,8 +1,8 @@
 //! What the programs of trials share: a clock, and the names of the trials that are files.
 #![tactic(auto)]
 
-mod names;
+mod files;
 mod ticks;
 
-pub use names::names;
+pub use files::names;
 pub use ticks::Ticks;
