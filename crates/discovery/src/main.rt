@@ -1,14 +1,15 @@
 //! `discovery`: a service registry. Its words, its standard streams and its exit status are those
-//! that `disco_prog` answers for.
+//! that its commands answer for.
 #![tactic(auto)]
 
 ghost use Rattle.disco_press.specs.Openings.{Opens};
 
 use disco_editions::Naming;
+use disco_fleet::fleet;
 use disco_options::{Verb, without_words};
 use disco_press::Opening;
-use disco_prog::{fleet, serve};
 use disco_replay::replay;
+use disco_serve::serve;
 use std::alloc::Global;
 use std::io::{Read, Write};
 use std::marker::Brand;

@@ -1,0 +1,6 @@
+//! The command `serve`: a server on a port.
+#![tactic(auto)]
+
+mod serving;
+
+pub use serving::serve;
