@@ -26,7 +26,7 @@ pub record HasCancelled (old new : State) (now : ℕ) (ks : List Key) (gone : �
 -- with one cancel more, what was noted of the first so many cancels is noted of one more
 pub record NotesOneMore {S : Type 0} (hub : S → State) (noted : S → S → (Past → Past) → Type 0) (now : ℕ) (k : Key) (mid new : S) : Type 0 where
   pub more : (old : S) (ks : List Key) (i : ℕ) → slice_get ks i ≡ Some k → HasCancelled (hub old) (hub mid) now ks i
-    → noted old mid (λ p. cancelled (rules_of (hub old)) p now ks i) → noted old new (λ p. cancelled (rules_of (hub old)) p now ks (i + 1))
+      → noted old mid (λ p. cancelled (rules_of (hub old)) p now ks i) → noted old new (λ p. cancelled (rules_of (hub old)) p now ks (i + 1))
 
 -- what was noted is noted, and no more
 pub record NotesAsBefore {S : Type 0} (noted : S → S → (Past → Past) → Type 0) (mid new : S) : Type 0 where

@@ -8,10 +8,10 @@ ghost use Rattle.disco_http.specs.Sinks.{sink_of};
 ghost use Rattle.disco_http.specs.declared.serving.End.TheVariants as end;
 ghost use Rattle.disco_server.specs.Serving.{Serves};
 
-use disco_timers::Clock;
 use crate::service::HubService;
 use disco_http::{Served, Writer, serve};
 use disco_reader::{Reader, Sink, Source};
+use disco_timers::Clock;
 use std::alloc::Global;
 
 /// Answers the requests of a connection over a hub, one after another, until it ends.

@@ -1,7 +1,6 @@
 //! A desk that answers the requests of a worker's connections.
 ghost use Rattle.std.specs.Prelude.{◌≡◌};
 
-use disco_timers::Clock;
 use crate::gate::{Gate, Point};
 use disco_answers::{Shared, answer};
 use disco_editions::Naming;
@@ -9,6 +8,7 @@ use disco_http::Service;
 use disco_message::{Reply, Request};
 use disco_press::{Desk, Seat};
 use disco_routes::Routes;
+use disco_timers::Clock;
 use std::alloc::Global;
 use std::sync::{Mutex, Wait};
 

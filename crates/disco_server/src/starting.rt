@@ -2,7 +2,6 @@
 ghost use Rattle.std.specs.Prelude.{◌≡◌, ◌⊎◌, IfErr};
 ghost use Rattle.disco_values.specs.declared.fault.Fault.TheVariants.{OutOfMemory, ReadFailed};
 
-use disco_timers::Clock;
 use crate::desk_service::Shop;
 use crate::door::{Door, Refusal};
 use crate::gate::Gate;
@@ -10,6 +9,7 @@ use crate::worker::{Worker, work};
 use disco_editions::Naming;
 use disco_message::Limits;
 use disco_press::{Desk, Seat};
+use disco_timers::Clock;
 use disco_values::Fault;
 use std::alloc::{AllocError, Global};
 use std::net::TcpListener;

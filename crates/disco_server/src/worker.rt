@@ -1,6 +1,5 @@
 //! A worker, which serves one connection after another.
 use crate::attending::{Buffers, attend};
-use disco_timers::Clock;
 use crate::desk_service::{DeskService, Shop};
 use crate::door::{Door, Refusal};
 use crate::gate::Gate;
@@ -9,6 +8,7 @@ use disco_editions::Naming;
 use disco_message::Limits;
 use disco_press::Seat;
 use disco_routes::Routes;
+use disco_timers::Clock;
 use std::alloc::{AllocError, Global};
 use std::net::TcpListener;
 use std::sync::{Mutex, Wait};
