@@ -1,7 +1,8 @@
 -- The number of each key's last change, as changes come and leave.
-use Rattle.std.proofs.Common.{◌≡◌, ℕ, zero, suc, ◌+◌, ◌-◌, ◌<◌, ◌==◌, Bool, true, false, cond, T, List, [], ◌∷◌, ◌++◌, length, Option, Some, None, IsSome, option_and_then, refl, sym, ap, subst, ◌∙◌, arith}
+use Rattle.std.proofs.Common.{◌≡◌, ℕ, zero, suc, ◌+◌, ◌-◌, ◌<◌, ◌==◌, Bool, true, false, cond, T, List, [], ◌∷◌, ◌++◌, length, Option, Some, None, IsSome, is_some, nat_lt, option_and_then, refl, sym, ap, subst, ◌∙◌, arith}
 use Rattle.std.proofs.Math.Dec.{eqb_refl}
 use Rattle.std.proofs.lemmas.Bool.{le-ltb, lt-ltb, eqb-true}
+use Rattle.std.proofs.lemmas.Option.{same_Some}
 use Rattle.std.specs.FinMap.{FinMap, get}
 use Rattle.std.specs.List.{slice_get}
 use Rattle.std.specs.Option.{option_or, unwrap_or}
@@ -10,7 +11,7 @@ use Rattle.disco_values.specs.declared.key.Key.{Key}
 use Rattle.disco_history.specs.Change.{Entry, key_of, last}
 use Rattle.disco_history.proofs.Keys.{same_is}
 use Rattle.disco_history.specs.Slots.{AltersAt, opened, written}
-use Rattle.disco_queue.specs.Numbers.{AreNumbered, last_number, later_or, left_by, numbered}
+use Rattle.disco_queue.specs.Numbers.{AreNumbered, LeavesNone, last_number, later_or, left_by, numbered}
 
 abbrev Places : Type 0
 Places = FinMap key_cmp ℕ
@@ -126,3 +127,33 @@ last_at before es k (Some n) is = ap (numbered before es) is ∙ found before (l
 -- what the numbers find is the last change of each key
 pub last_numbered : (places : Places) (before : ℕ) (es : List Entry) (k : Key) → AreNumbered places before es → option_and_then (numbered before es) (get places k) ≡ last es k
 last_numbered places before es k are = last_at before es k (get places k) (are k)
+
+-- ---- which places stand empty
+
+shows : (before n : ℕ) (es : List Entry) (o : Option Entry) → Placed before n es o → nat_lt 0 n ≡ is_some o
+shows before n es o (nowhere z none) = ap (nat_lt 0) z ∙ sym (ap is_some none)
+shows before n es o (there i e at some is) = lt-ltb 0 n (omega (arith, at)) ∙ sym (ap is_some some)
+
+-- just the keys of the changes have places that don't
+pub filled : (places : Places) (before : ℕ) (es : List Entry) → AreNumbered places before es → (k : Key) → nat_lt 0 (unwrap_or (get places k) 0) ≡ is_some (last es k)
+filled places before es are k = ap (nat_lt 0) (are k) ∙ shows before (last_number before es k) es (last es k) (placed before es k)
+
+pub none_written : (number : ℕ) (k : Key) (old new : Places) → 0 < number → AltersAt (written number) k old new → LeavesNone old new
+none_written number k old new some alters p is = one (same_key p k) (get old p) (sym (alters p) ∙ is)
+  where
+    one : (b : Bool) (o : Option ℕ) → cond b (written number o) o ≡ Some 0 → o ≡ Some 0
+    one false o e = e
+    one true None e = e
+    one true (Some n) e = absurd (omega (arith, some, same_Some number 0 e))
+
+pub none_left : (number : ℕ) (k : Key) (old new : Places) → AltersAt (left_by number) k old new → LeavesNone old new
+none_left number k old new alters p is = one (same_key p k) (get old p) (sym (alters p) ∙ is)
+  where
+    kept : (b : Bool) (n : ℕ) → cond b None (Some n) ≡ Some 0 → Some n ≡ Some 0
+    kept true n e = absurd (cc)
+    kept false n e = e
+
+    one : (b : Bool) (o : Option ℕ) → cond b (left_by number o) o ≡ Some 0 → o ≡ Some 0
+    one false o e = e
+    one true None e = e
+    one true (Some n) e = kept (n == number) n e

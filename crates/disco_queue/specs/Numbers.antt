@@ -24,6 +24,10 @@ number_at places k = unwrap_or (get places k) 0
 abbrev pub AreNumbered : FinMap key_cmp ℕ → ℕ → List Entry → Type 0
 AreNumbered places before es = (k : Key) → number_at places k ≡ last_number before es k
 
+-- no place stands empty that stood not
+abbrev pub LeavesNone : FinMap key_cmp ℕ → FinMap key_cmp ℕ → Type 0
+LeavesNone old new = (k : Key) → get new k ≡ Some 0 → get old k ≡ Some 0
+
 -- the change of a number
 abbrev pub numbered : ℕ → List Entry → ℕ → Option Entry
 numbered before es number = if nat_lt before number then slice_get es (number - before - 1) else None

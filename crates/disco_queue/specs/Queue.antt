@@ -1,11 +1,13 @@
 -- The recently changed queue as plain data.
-use Rattle.std.specs.Prelude.{◌≡◌, ℕ, ◌+◌, ◌-◌, ◌^◌, ◌<◌, ◌≤◌, List, drop, length, IsSome}
+use Rattle.std.specs.Prelude.{◌≡◌, ℕ, ◌+◌, ◌-◌, ◌^◌, ◌<◌, ◌≤◌, Bool, List, drop, if◌then◌else◌, is_some, length, nat_lt, IsSome, Some}
 use Rattle.std.specs.FinMap.{FinMap, get}
-use Rattle.disco_values.specs.Key.{key_cmp}
+use Rattle.std.specs.Option.{unwrap_or}
+use Rattle.disco_values.specs.Key.{key_cmp, same_key}
 use Rattle.disco_values.specs.declared.key.Key.{Key}
-use Rattle.disco_queue.specs.Timed.{Timed}
+use Rattle.disco_history.specs.Change.{last}
+use Rattle.disco_queue.specs.Timed.{Timed, changes}
 
--- how many changes it keeps at most, how many leading ones it dropped, those that it keeps, room for more, and the keys that have a place
+-- how many changes it keeps at most, how many leading ones it dropped, those that it keeps, room for more, and the places of keys, each with a number that is 0 where it stands empty
 pub record Queue : Type 0 where
   pub max : ℕ
   pub base : ℕ
@@ -24,6 +26,22 @@ HasRoom q = length q.kept < q.max → 0 < q.room
 -- there is a place for the number of the key's next change
 abbrev pub HasPlace : Key → Queue → Type 0
 HasPlace k q = IsSome (get q.places k)
+
+-- the key's place stands empty
+abbrev pub StandsEmpty : Key → Queue → Type 0
+StandsEmpty k q = get q.places k ≡ Some 0
+
+-- the key has a place, which stands empty where there was none, and each other place stays
+abbrev pub Opens : Key → Queue → Queue → Type 0
+Opens k old new = (p : Key) → get new.places p ≡ (if same_key p k then Some (unwrap_or (get old.places p) 0) else get old.places p)
+
+-- just the keys of kept changes have places that don't stand empty
+abbrev pub AreFilled : Queue → Type 0
+AreFilled q = (k : Key) → nat_lt 0 (unwrap_or (get q.places k) 0) ≡ is_some (last (changes q.kept) k)
+
+-- no place stands empty that stood not
+abbrev pub AddsNoneEmpty : Queue → Queue → Type 0
+AddsNoneEmpty old new = (k : Key) → StandsEmpty k new → StandsEmpty k old
 
 -- the same but for room and places, which no answer shows
 pub record IsSameQueue (old new : Queue) : Type 0 where

@@ -6,10 +6,10 @@ ghost use Rattle.std.specs.VecDeque.{deque_capacity, deque_len};
 ghost use Rattle.disco_values.specs.declared.fault.Fault.TheVariants.{OutOfMemory};
 ghost use Rattle.disco_history.specs.Change.{Entry, is_proper, key_of, seen};
 ghost use Rattle.disco_history.specs.Mentions.{delta};
-ghost use Rattle.disco_queue.specs.Numbers.{AreNumbered};
+ghost use Rattle.disco_queue.specs.Numbers.{AreNumbered, LeavesNone};
 ghost use Rattle.disco_queue.specs.Seen.{change_of};
 ghost use Rattle.disco_queue.specs.Base.{base_after_change, base_after_cleaning, first_before, leaving};
-ghost use Rattle.disco_queue.specs.Queue.{HasPlace, HasRoom, IsSameQueue, Keeps, newest, version};
+ghost use Rattle.disco_queue.specs.Queue.{AddsNoneEmpty, AreFilled, HasPlace, HasRoom, IsSameQueue, Keeps, Opens, newest, version};
 ghost use Rattle.disco_queue.specs.Timed.{Timed, changes};
 
 use crate::kept::Kept;
@@ -57,6 +57,7 @@ fn drop_front(kept: &mut VecDeque<Kept>, base: &mut u64, numbers: &mut Numbers)
     ensures len { deque_len kept.new + 1 ≡ deque_len kept.old }
     ensures capacity { deque_capacity kept.new ≡ deque_capacity kept.old }
     ensures base { base.new ≡ base.old + 1 }
+    ensures empty { LeavesNone numbers.old numbers.new }
     ensures numbers { (es : List Entry) → AreNumbered numbers.old base.old (map change_of kept.old.items ++ es) → AreNumbered numbers.new base.new (map change_of kept.new.items ++ es) }
 {
     if let Some(oldest) = kept.pop_front() {
@@ -105,6 +106,13 @@ impl ChangedQueue {
         self.base + self.kept.len() as u64
     }
 
+    /// What holds of every queue. Does nothing.
+    pub fn check(&self)
+        ensures { AreFilled self.now }
+    {
+        let _base = self.base;
+    }
+
     /// Makes room for one more change, which is of this key, where the queue is not full, and a place
     /// for the key. No answer shows either. Refused only as `OutOfMemory`, and only where room or
     /// place isn't there already; then no place is made.
@@ -113,6 +121,7 @@ impl ChangedQueue {
         ensures history { (h : List Timed) → Keeps self.old h → Keeps self.new h }
         ensures room { OnOk result (HasRoom self.new) }
         ensures place { OnOk result (HasPlace key.now self.new) }
+        ensures opens { OnOk result (Opens key.now self.old self.new) }
         ensures needed { OnErr result (HasRoom self.old → HasPlace key.now self.old → ⊥) }
         ensures given_back { OnErr result (self.new.places ≡ self.old.places) }
         ensures memory { IfErr result (λ e. e ≡ OutOfMemory) }
@@ -123,7 +132,8 @@ impl ChangedQueue {
     }
 
     /// The change comes last, with its moment `now`, in milliseconds. Where the queue is full, the
-    /// oldest change leaves. Takes no memory: room and place are there after `ready`.
+    /// oldest change leaves, and the place of its key with it where it was the key's last. Takes no
+    /// memory: room and place are there after `ready`.
     pub fn push(&mut self, change: Change, now: u64)
         requires room { HasRoom self.old }
         requires place { HasPlace (key_of (seen change)) self.old }
@@ -133,6 +143,7 @@ impl ChangedQueue {
         ensures base { self.new.base ≡ base_after_change self.old.max self.old.base (version self.old + 1) }
         ensures kept { self.new.kept ≡ newest self.old.max (self.old.kept ++ (seen change, now) ∷ []) }
         ensures version { version self.new ≡ version self.old + 1 }
+        ensures empty { AddsNoneEmpty self.old self.new }
         ensures history { (h : List Timed) → Keeps self.old h → Keeps self.new (h ++ (seen change, now) ∷ []) }
         ensures history_base { (h : List Timed) → Keeps self.old h → self.new.base ≡ base_after_change self.old.max self.old.base (length (h ++ (seen change, now) ∷ [])) }
     {
@@ -159,6 +170,7 @@ impl ChangedQueue {
         ensures version { version self.new ≡ version self.old }
         ensures room { HasRoom self.old → HasRoom self.new }
         ensures grows { self.new.room ≡ self.old.room + result }
+        ensures empty { AddsNoneEmpty self.old self.new }
         ensures history { (h : List Timed) → Keeps self.old h → Keeps self.new h }
         ensures history_base { (h : List Timed) → Keeps self.old h → self.new.base ≡ base_after_cleaning now retention self.old.base h }
     {
@@ -214,6 +226,7 @@ impl ChangedQueue {
         ensures base { self.new.base ≡ self.old.base + 1 }
         ensures kept { self.new.kept ≡ drop 1 self.old.kept }
         ensures room { self.new.room ≡ self.old.room + 1 }
+        ensures empty { AddsNoneEmpty self.old self.new }
     {
         drop_front(&mut self.kept, &mut self.base, &mut self.numbers);
     }
@@ -225,6 +238,7 @@ impl ChangedQueue {
         ensures dropped { result ≡ first_before bound self.old.kept }
         ensures kept { self.new.kept ≡ drop result self.old.kept }
         ensures room { self.new.room ≡ self.old.room + result }
+        ensures empty { AddsNoneEmpty self.old self.new }
     {
         let mut dropped = 0;
         while self.oldest_is_before(bound) {

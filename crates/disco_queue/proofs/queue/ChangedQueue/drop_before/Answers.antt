@@ -23,4 +23,5 @@ loop-self-preserved c =
       kept = step.kept ∙ ap (drop 1) before.kept ∙ drop-drop 1 c.loop-self.dropped c.args.self.now.kept;
       left = omega (arith, first_gone c.args.bound kept some, ap (first_before c.args.bound) step.kept, before.left);
       room = omega (arith, step.room, before.room);
+      empty = λ k is. before.empty k (step.empty k is);
     }

@@ -1,4 +1,4 @@
-use Rattle.std.proofs.Common.{◌≡◌, ◌≤◌, ◌<◌, ◌+◌, List, [], ◌∷◌, ◌++◌, length, map, IsSome, refl, sym, ap, subst, ◌∙◌, arith}
+use Rattle.std.proofs.Common.{◌≡◌, ◌≤◌, ◌<◌, ◌+◌, List, [], ◌∷◌, ◌++◌, length, map, IsSome, Some, refl, sym, ap, subst, ◌∙◌, arith}
 use Rattle.std.specs.FinMap.{get}
 use Rattle.std.specs.VecDeque.{deque_len}
 use borrow.Author.Tests.{leb-true, leb-false}
@@ -11,7 +11,7 @@ use Rattle.disco_queue.specs.Queue.{Keeps, Queue, version}
 use Rattle.disco_queue.specs.Seen.{change_of, timed}
 use Rattle.disco_queue.specs.contracts.queue.ChangedQueue.{the_view}
 use Rattle.disco_queue.proofs.Histories.{keeps_dropped, keeps_pushed}
-use Rattle.disco_queue.proofs.Numbering.{number_written}
+use Rattle.disco_queue.proofs.Numbering.{none_written, number_written}
 use Rattle.disco_queue.proofs.queue.ChangedQueue.push.Goals as goal
 use Rattle.disco_queue.proofs.queue.ChangedQueue.push.Goals.{then-is_full, else-is_full}
 
@@ -53,3 +53,12 @@ returns-clause-history c h keeps =
       | else-is_full w ↦ rw (w.self-inside-is) (record { contents = before.contents; version = before.version })
     ] in
     keeps_pushed (the_view j) _ h (seen c.args.change, c.args.now) refl (ap (map timed) c.push_back_reserved.ensures.items ∙ map-append timed j.kept.items _) between
+
+pub returns-clause-empty : goal.returns-clause-empty
+returns-clause-empty c =
+    let i = c.self.inside in
+    let put = none_written (c.version-number.result + 1) c.key.result.now i.numbers c.put.new.self (omega arith) c.put.ensures in
+    λ k is. subst (λ (q : Queue). get q.places k ≡ Some 0) c.self.view_is (elim c.if-is_full.branch [
+      | then-is_full w ↦ put k (w.drop_front.ensures.empty k (rw (w.self-inside-is) at is))
+      | else-is_full w ↦ put k (rw (w.self-inside-is) at is)
+    ])
