@@ -30,12 +30,9 @@ use Rattle.disco_registry.specs.Op.{Ask, asked_key, register, cancel, renew, set
 use Rattle.disco_registry.specs.Settle.{settle}
 use Rattle.disco_registry.specs.State as registry
 use Rattle.disco_core.specs.Past.{Past, duration_at, history, marks_after, nothing, renewals_after, with_change, with_done}
-use Rattle.disco_core.specs.Moves.{GoesOn, Moves, counted_by, lease_by, step_for}
-use Rattle.disco_core.specs.State.{AreLeasesOf, IsFor, Remembers, StandsFor, State, change_in, moment_in}
+use Rattle.disco_core.specs.Moves.{GoesOn, Moves, counted_by, lease_by}
+use Rattle.disco_core.specs.State.{AreLeasesOf, IsFor, Prepared, Remembers, StandsFor, State, is_renewal}
 use Rattle.disco_core.specs.Tied.{AreLeased}
-use Rattle.disco_core.specs.declared.registered.Ready.{Ready}
-use Rattle.disco_core.specs.declared.leases.Step.{Step}
-use Rattle.disco_core.specs.declared.leases.Step.TheVariants.{Renewed, Touched}
 
 -- ---- what is accepted
 
@@ -172,7 +169,7 @@ own_of : (k : Key) (r : Row) (o : Option Entry) → ((e : Entry) → o ≡ Some 
 own_of k r None held is = absurd (cc)
 own_of k r (Some e) held is = ap (λ (x : Row). x.key) (sym (same_Some e.0 r is)) ∙ sym (held e refl)
 
-module _ (s : registry.State) (v w : Leases) (p : Past) (now : ℕ) (c : Option Entry) (step : Step) (stands : registry.StandsFor s (history p)) (agree : AreLeasesOf v p) where
+module _ (s : registry.State) (v w : Leases) (p : Past) (now : ℕ) (c : Option Entry) (renewal : Bool) (stands : registry.StandsFor s (history p)) (agree : AreLeasesOf v p) where
   at_key : (k : Key) → record_at s.held k ≡ get (reg (history p)) k
   at_key k = ap (λ m. record_at m k) stands.held ∙ get-said_reg (history p) k
 
@@ -185,61 +182,61 @@ module _ (s : registry.State) (v w : Leases) (p : Past) (now : ℕ) (c : Option 
   lasting : (k : Key) (r : Row) → record_at s.held k ≡ Some r → lasts (lease_at v k) ≡ Some r.lease.duration_secs
   lasting k r there = agree.durations k ∙ ap rows_last (sym (at_key k) ∙ there)
 
-  goes_on_mark : (k : Key) (r : Row) → record_at s.held k ≡ Some r → GoesOn k step now v w → (q : Key) → mark_of (lease_at w q) ≡ get (insert p.marks k (now + duration_at p k)) q
+  goes_on_mark : (k : Key) (r : Row) → record_at s.held k ≡ Some r → GoesOn k renewal now v w → (q : Key) → mark_of (lease_at w q) ≡ get (insert p.marks k (now + duration_at p k)) q
   goes_on_mark k r there goes =
       put_mark k (option_map (extended now) (lease_at v k)) (now + duration_at p k) v w p.marks
       (extended_mark now r.lease.duration_secs (lease_at v k) (lasting k r there) ∙ ap (λ d. Some (now + d)) (sym (duration k r there))) goes.leases agree.marks
 
-  stays_mark : (k : Key) → Stays (record_at s.held k) c → Moves c k step now v w → (q : Key) → mark_of (lease_at w q) ≡ get (insert p.marks k (now + duration_at p k)) q
-  stays_mark k (same r there none) moves = goes_on_mark k r there (subst (λ (x : Option Entry). Moves x k step now v w) none moves)
+  stays_mark : (k : Key) → Stays (record_at s.held k) c → Moves c k renewal now v w → (q : Key) → mark_of (lease_at w q) ≡ get (insert p.marks k (now + duration_at p k)) q
+  stays_mark k (same r there none) moves = goes_on_mark k r there (subst (λ (x : Option Entry). Moves x k renewal now v w) none moves)
   stays_mark k (modified r status overridden moment there is) moves =
       let e : Entry = (modified_at r status overridden moment, Modified) in
-      let follows = subst (λ (x : Option Entry). Moves x k step now v w) is moves in
+      let follows = subst (λ (x : Option Entry). Moves x k renewal now v w) is moves in
       put_mark k (lease_by e now) (now + duration_at p k) v w p.marks (ap (λ d. Some (now + d)) (sym (duration k r there)))
       (subst (λ (x : Key). Sets x (lease_by e now) v w) (own k r there) follows.leases) agree.marks
 
-  comes_mark : (k j : Key) → Comes k c → Moves c j step now v w → (q : Key) → mark_of (lease_at w q) ≡ get (insert p.marks k now) q
+  comes_mark : (k j : Key) → Comes k c → Moves c j renewal now v w → (q : Key) → mark_of (lease_at w q) ≡ get (insert p.marks k now) q
   comes_mark k j comes moves =
       let e : Entry = (comes.row, Added) in
-      let follows = subst (λ (x : Option Entry). Moves x j step now v w) comes.change moves in
+      let follows = subst (λ (x : Option Entry). Moves x j renewal now v w) comes.change moves in
       put_mark k (lease_by e now) now v w p.marks refl (subst (λ (x : Key). Sets x (lease_by e now) v w) comes.key follows.leases) agree.marks
 
-  goes_mark : (k j : Key) → Goes (record_at s.held k) c → Moves c j step now v w → (q : Key) → mark_of (lease_at w q) ≡ get (remove p.marks k) q
+  goes_mark : (k j : Key) → Goes (record_at s.held k) c → Moves c j renewal now v w → (q : Key) → mark_of (lease_at w q) ≡ get (remove p.marks k) q
   goes_mark k j gone moves =
-      let follows = subst (λ (x : Option Entry). Moves x j step now v w) gone.change moves in
+      let follows = subst (λ (x : Option Entry). Moves x j renewal now v w) gone.change moves in
       out_mark k v w p.marks (subst (λ (x : Key). Sets x None v w) (own k gone.row gone.there) follows.leases) agree.marks
 
-  marks_on : (ask : Ask) → asked (limits_of s) (record_at s.held) (len s.held) ask now ≡ Ok c → Moves c (asked_key ask) step now v w → (q : Key) → mark_of (lease_at w q) ≡ get (marks_after p now ask) q
+  marks_on : (ask : Ask) → asked (limits_of s) (record_at s.held) (len s.held) ask now ≡ Ok c → Moves c (asked_key ask) renewal now v w → (q : Key) → mark_of (lease_at w q) ≡ get (marks_after p now ask) q
   marks_on (register posted) is moves = comes_mark posted.key posted.key (registers (limits_of s) s.held posted now c (own posted.key) is) moves
   marks_on (cancel k) is moves = goes_mark k k (goes (record_at s.held k) now c is) moves
-  marks_on (renew k) is moves = let r = renews (record_at s.held k) c is in goes_on_mark k r.0 r.1 (subst (λ (x : Option Entry). Moves x k step now v w) r.2 moves)
+  marks_on (renew k) is moves = let r = renews (record_at s.held k) c is in goes_on_mark k r.0 r.1 (subst (λ (x : Option Entry). Moves x k renewal now v w) r.2 moves)
   marks_on (set_status k text) is moves = stays_mark k (sets_status (status_named text) (record_at s.held k) now c is) moves
   marks_on (drop_status k text) is moves = stays_mark k (drops_status (status_given text) (record_at s.held k) now c is) moves
   marks_on (add_metadata k es) is moves = comes_mark k k (adds_metadata (record_at s.held k) es now k c (own k) is) moves
 
-  stays_count : (k : Key) → Stays (record_at s.held k) c → step ≡ Touched → Moves c k step now v w → w.renewals ≡ v.renewals
+  stays_count : (k : Key) → Stays (record_at s.held k) c → renewal ≡ false → Moves c k renewal now v w → w.renewals ≡ v.renewals
   stays_count k (same r there none) touched moves =
-      let goes = subst (λ (x : Option Entry). Moves x k step now v w) none moves in
+      let goes = subst (λ (x : Option Entry). Moves x k renewal now v w) none moves in
       goes.renewals (has_lease r.lease.duration_secs (lease_at v k) (lasting k r there)) ∙ ap (λ x. counted_by x v.renewals) touched
-  stays_count k (modified r status overridden moment there is) touched moves = let follows = subst (λ (x : Option Entry). Moves x k step now v w) is moves in follows.renewals
+  stays_count k (modified r status overridden moment there is) touched moves = let follows = subst (λ (x : Option Entry). Moves x k renewal now v w) is moves in follows.renewals
 
-  change_count : (e : Entry) (k : Key) → c ≡ Some e → Moves c k step now v w → w.renewals ≡ v.renewals
-  change_count e k is moves = let follows = subst (λ (x : Option Entry). Moves x k step now v w) is moves in follows.renewals
+  change_count : (e : Entry) (k : Key) → c ≡ Some e → Moves c k renewal now v w → w.renewals ≡ v.renewals
+  change_count e k is moves = let follows = subst (λ (x : Option Entry). Moves x k renewal now v w) is moves in follows.renewals
 
-  renew_count : (k : Key) (r : Row) → record_at s.held k ≡ Some r → c ≡ None → step ≡ Renewed → Moves c k step now v w → w.renewals ≡ counted v.renewals
+  renew_count : (k : Key) (r : Row) → record_at s.held k ≡ Some r → c ≡ None → renewal ≡ true → Moves c k renewal now v w → w.renewals ≡ counted v.renewals
   renew_count k r there none renewed moves =
-      let goes = subst (λ (x : Option Entry). Moves x k step now v w) none moves in
+      let goes = subst (λ (x : Option Entry). Moves x k renewal now v w) none moves in
       goes.renewals (has_lease r.lease.duration_secs (lease_at v k) (lasting k r there)) ∙ ap (λ x. counted_by x v.renewals) renewed
 
-  count_on : (ask : Ask) → asked (limits_of s) (record_at s.held) (len s.held) ask now ≡ Ok c → step ≡ step_for ask → Moves c (asked_key ask) step now v w → w.renewals ≡ renewals_after v.renewals ask
-  count_on (register posted) is step_is moves = let comes = registers (limits_of s) s.held posted now c (own posted.key) is in change_count (comes.row, Added) posted.key comes.change moves
-  count_on (cancel k) is step_is moves = let gone = goes (record_at s.held k) now c is in change_count (cancelled_at gone.row gone.moment, Deleted) k gone.change moves
-  count_on (renew k) is step_is moves = let r = renews (record_at s.held k) c is in renew_count k r.0 r.1 r.2 step_is moves
-  count_on (set_status k text) is step_is moves = stays_count k (sets_status (status_named text) (record_at s.held k) now c is) step_is moves
-  count_on (drop_status k text) is step_is moves = stays_count k (drops_status (status_given text) (record_at s.held k) now c is) step_is moves
-  count_on (add_metadata k es) is step_is moves = let comes = adds_metadata (record_at s.held k) es now k c (own k) is in change_count (comes.row, Added) k comes.change moves
+  count_on : (ask : Ask) → asked (limits_of s) (record_at s.held) (len s.held) ask now ≡ Ok c → renewal ≡ is_renewal ask → Moves c (asked_key ask) renewal now v w → w.renewals ≡ renewals_after v.renewals ask
+  count_on (register posted) is renewal_is moves = let comes = registers (limits_of s) s.held posted now c (own posted.key) is in change_count (comes.row, Added) posted.key comes.change moves
+  count_on (cancel k) is renewal_is moves = let gone = goes (record_at s.held k) now c is in change_count (cancelled_at gone.row gone.moment, Deleted) k gone.change moves
+  count_on (renew k) is renewal_is moves = let r = renews (record_at s.held k) c is in renew_count k r.0 r.1 r.2 renewal_is moves
+  count_on (set_status k text) is renewal_is moves = stays_count k (sets_status (status_named text) (record_at s.held k) now c is) renewal_is moves
+  count_on (drop_status k text) is renewal_is moves = stays_count k (drops_status (status_given text) (record_at s.held k) now c is) renewal_is moves
+  count_on (add_metadata k es) is renewal_is moves = let comes = adds_metadata (record_at s.held k) es now k c (own k) is in change_count (comes.row, Added) k comes.change moves
 
-  closed_on : (o : Option Entry) (k : Key) → Moves o k step now v w → w.closed ≡ v.closed
+  closed_on : (o : Option Entry) (k : Key) → Moves o k renewal now v w → w.closed ≡ v.closed
   closed_on None k moves = moves.closed
   closed_on (Some e) k moves = moves.closed
 
@@ -252,15 +249,15 @@ module _ (s : registry.State) (v w : Leases) (p : Past) (now : ℕ) (c : Option 
       change_closed most (Some e) = refl
 
   -- the leases are those of what has happened with what was asked
-  pub leases_on : (most : ℕ) (ask : Ask) (k : Key) (t : registry.State) → registry.StandsFor t (history (with_done most p now ask c)) → AreLeased t.held w → accepts s ask now ≡ Ok c → k ≡ asked_key ask → step ≡ step_for ask → Moves c k step now v w
+  pub leases_on : (most : ℕ) (ask : Ask) (k : Key) (t : registry.State) → registry.StandsFor t (history (with_done most p now ask c)) → AreLeased t.held w → accepts s ask now ≡ Ok c → k ≡ asked_key ask → renewal ≡ is_renewal ask → Moves c k renewal now v w
       → AreLeasesOf w (with_done most p now ask c)
-  leases_on most ask k t after leased is key step_is moves =
+  leases_on most ask k t after leased is key renewal_is moves =
       let does = left (limits_of s) s.version (asked (limits_of s) (record_at s.held) (len s.held) ask now) c is in
-      let moves_it = subst (λ (x : Key). Moves c x step now v w) key moves in
+      let moves_it = subst (λ (x : Key). Moves c x renewal now v w) key moves in
       record {
         durations = λ q. leased q ∙ ap (λ m. rows_last (record_at m q)) after.held ∙ ap rows_last (get-said_reg (history (with_done most p now ask c)) q);
         marks = marks_on ask does moves_it;
-        renewals = count_on ask does step_is moves_it ∙ ap (λ n. renewals_after n ask) agree.renewals;
+        renewals = count_on ask does renewal_is moves_it ∙ ap (λ n. renewals_after n ask) agree.renewals;
         closed = closed_on c k moves ∙ agree.closed ∙ same_closed most ask;
       }
 
@@ -274,18 +271,18 @@ remembers : (q : Queue) (most : ℕ) (p : Past) (now : ℕ) (ask : Ask) (c : Opt
 remembers q most p now ask c is = record { kept = is.kept; base = is.base }
 
 -- a hub that has done what was ready stands for what has happened with it
-pub stands_on : (old new : State) (ready : Ready) (p : Past) (ask : Ask) → IsFor old ready ask → StandsFor old p → registry.StandsFor new.registry (commit.appended (history p) (change_in ready))
-    → Remembers new.queue (with_change old.queue.max p (moment_in ready) (option_map seen ready.kept)) → option_map seen ready.kept ≡ change_in ready → AreLeased new.registry.held new.leases
-    → Moves (change_in ready) ready.key ready.step ready.moment old.leases new.leases → StandsFor new (with_done old.queue.max p (moment_in ready) ask (change_in ready))
-stands_on old new ready p ask is stands held recent kept leased moves =
+pub stands_on : (old new : State) (ready : Prepared) (p : Past) (ask : Ask) (kept : Option Entry) → IsFor old ready ask → StandsFor old p → registry.StandsFor new.registry (commit.appended (history p) ready.change)
+    → Remembers new.queue (with_change old.queue.max p ready.moment kept) → kept ≡ ready.change → AreLeased new.registry.held new.leases
+    → Moves ready.change ready.key ready.renewal ready.moment old.leases new.leases → StandsFor new (with_done old.queue.max p ready.moment ask ready.change)
+stands_on old new ready p ask kept is stands held recent kept_is leased moves =
     let most = old.queue.max in
-    let now = moment_in ready in
-    let c = change_in ready in
+    let now = ready.moment in
+    let c = ready.change in
     let held_now : registry.StandsFor new.registry (history (with_done most p now ask c)) = subst (registry.StandsFor new.registry) (longer most p now ask c) held in
     record {
       registry = held_now;
-      queue = remembers new.queue most p now ask c (subst (λ (x : Option Entry). Remembers new.queue (with_change most p now x)) kept recent);
-      leases = leases_on old.registry old.leases new.leases p now c ready.step stands.registry stands.leases most ask ready.key new.registry held_now leased is.accepted is.key is.step moves;
+      queue = remembers new.queue most p now ask c (subst (λ (x : Option Entry). Remembers new.queue (with_change most p now x)) kept_is recent);
+      leases = leases_on old.registry old.leases new.leases p now c ready.renewal stands.registry stands.leases most ask ready.key new.registry held_now leased is.accepted is.key is.renewal moves;
     }
 
 -- where nothing has happened there are no leases

@@ -15,7 +15,6 @@ use Rattle.disco_index.specs.Vips.{VipKeys}
 use Rattle.disco_history.specs.Change.{Entry}
 use Rattle.disco_core.specs.Moves.{GoesOn, OthersStay, counted_by}
 use Rattle.disco_core.specs.State.{IsSwept}
-use Rattle.disco_core.specs.declared.leases.Step.{Step}
 
 itself : (k : Key) → same_key k k ≡ true
 itself k = ap is_eq (tied_itself keys_total k)
@@ -42,10 +41,10 @@ none_moves now None is = refl
 none_moves now (Some l) is = absurd (cc)
 
 -- a lease that moves, or is missing, goes on
-pub went_on : {A : Type 0} (r : Result A Fault) (k : Key) (step : Step) (now : ℕ) (old new : Leases) → OnOk r (Sets k (option_map (extended now) (lease_at old k)) old new) → OnErr r (new ≡ old) → OnErr r (lease_at old k ≡ None)
-    → OnOk r (new.renewals ≡ counted_by step old.renewals) → new.closed ≡ old.closed → GoesOn k step now old new
-went_on (Ok x) k step now old new sets same none count closed = record { leases = sets; renewals = λ _. count; closed = closed }
-went_on (Err e) k step now old new sets same none count closed = record {
+pub went_on : {A : Type 0} (r : Result A Fault) (k : Key) (renewal : Bool) (now : ℕ) (old new : Leases) → OnOk r (Sets k (option_map (extended now) (lease_at old k)) old new) → OnErr r (new ≡ old) → OnErr r (lease_at old k ≡ None)
+    → OnOk r (new.renewals ≡ counted_by renewal old.renewals) → new.closed ≡ old.closed → GoesOn k renewal now old new
+went_on (Ok x) k renewal now old new sets same none count closed = record { leases = sets; renewals = λ _. count; closed = closed }
+went_on (Err e) k renewal now old new sets same none count closed = record {
   leases = moved_to k (option_map (extended now) (lease_at old k)) old old new same (stays_as k old _ (none_moves now (lease_at old k) none));
   renewals = λ some. absurd (let bad = subst (λ (o : Option Lease). IsSome o) none some in cc);
   closed = closed;

@@ -28,7 +28,6 @@ use Rattle.disco_values.specs.declared.action.Action.TheVariants.{Added, Modifie
 use Rattle.disco_core.specs.State as core
 use Rattle.disco_core.specs.Moves.{Moves, lease_by}
 use Rattle.disco_core.specs.State.{AddsAny, HasVipPlaces}
-use Rattle.disco_core.specs.declared.leases.Step.{Step}
 use Rattle.disco_core.specs.Tied.{AreLeased, IsTied}
 
 abbrev lasts : Option Lease → Option ℕ
@@ -88,9 +87,9 @@ leased_by_change r Modified now old new sets m leased = leased_put r Modified (S
 leased_by_change r Deleted now old new sets m leased = leased_out r.key old new sets m leased
 
 -- leases that follow what is ready last as long as the records say
-pub leased_by : (c : Option Entry) (k : Key) (step : Step) (now : ℕ) (old new : Leases) → Moves c k step now old new → (m : FinMap key_cmp Entry) → AreLeased m old → AreLeased (held_after m c) new
-leased_by None k step now old new moves m leased = λ q. moved k now old new moves.leases q ∙ leased q
-leased_by (Some c) k step now old new moves m leased = leased_by_change c.0 c.1 now old new moves.leases m leased
+pub leased_by : (c : Option Entry) (k : Key) (renewal : Bool) (now : ℕ) (old new : Leases) → Moves c k renewal now old new → (m : FinMap key_cmp Entry) → AreLeased m old → AreLeased (held_after m c) new
+leased_by None k renewal now old new moves m leased = λ q. moved k now old new moves.leases q ∙ leased q
+leased_by (Some c) k renewal now old new moves m leased = leased_by_change c.0 c.1 now old new moves.leases m leased
 
 -- ---- numbers
 

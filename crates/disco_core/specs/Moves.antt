@@ -1,18 +1,10 @@
--- What the private steps of a commit do to leases and places. Nothing here need be believed.
-use Rattle.std.specs.Prelude.{◌≡◌, ℕ, Option, Some, None, IsSome, option_map}
+-- What the private steps of a commit do to leases and places. Nothing here is to be believed: no public clause cites it.
+use Rattle.std.specs.Prelude.{◌≡◌, ℕ, Bool, if◌then◌else◌, Option, Some, None, IsSome, option_map}
 use Rattle.disco_values.specs.declared.action.Action.TheVariants.{Added, Modified, Deleted}
 use Rattle.disco_values.specs.declared.key.Key.{Key}
 use Rattle.disco_history.specs.Change.{Entry, key_of}
 use Rattle.disco_index.specs.Vips.{KeepsOthers, VipKeys}
 use Rattle.disco_lease.specs.Leases.{Lease, Leases, Sets, counted, extended, lease_at, marked}
-use Rattle.disco_registry.specs.Op.{Ask, renew}
-use Rattle.disco_core.specs.declared.leases.Step.{Step}
-use Rattle.disco_core.specs.declared.leases.Step.TheVariants.{Renewed, Touched}
-
--- what an accepted operation does to a lease whose record stays
-abbrev pub step_for : Ask → Step
-step_for (renew k) = Renewed
-step_for _ = Touched
 
 -- the lease that a change at a moment gives
 abbrev pub lease_by : Entry → ℕ → Option Lease
@@ -20,15 +12,14 @@ lease_by (r, Added) now = Some (marked r.lease.duration_secs now)
 lease_by (r, Modified) now = Some (extended now (marked r.lease.duration_secs now))
 lease_by (r, Deleted) now = None
 
--- the number of renewals after a step
-abbrev pub counted_by : Step → ℕ → ℕ
-counted_by Renewed n = counted n
-counted_by Touched n = n
+-- the number of renewals after an operation
+abbrev pub counted_by : Bool → ℕ → ℕ
+counted_by renewal n = if renewal then counted n else n
 
 -- the key's lease, if it has one, goes on for its duration from now
-pub record GoesOn (k : Key) (step : Step) (now : ℕ) (old new : Leases) : Type 0 where
+pub record GoesOn (k : Key) (renewal : Bool) (now : ℕ) (old new : Leases) : Type 0 where
   pub leases : Sets k (option_map (extended now) (lease_at old k)) old new
-  pub renewals : IsSome (lease_at old k) → new.renewals ≡ counted_by step old.renewals
+  pub renewals : IsSome (lease_at old k) → new.renewals ≡ counted_by renewal old.renewals
   pub closed : new.closed ≡ old.closed
 
 -- the change's key has the lease that the change gives
@@ -37,10 +28,10 @@ pub record Follows (c : Entry) (now : ℕ) (old new : Leases) : Type 0 where
   pub renewals : new.renewals ≡ old.renewals
   pub closed : new.closed ≡ old.closed
 
--- the leases follow what is ready: its change, if there is one, else its step
-abbrev pub Moves : Option Entry → Key → Step → ℕ → Leases → Leases → Type 0
-Moves None k step now old new = GoesOn k step now old new
-Moves (Some c) k step now old new = Follows c now old new
+-- the leases follow what is ready: its change, if there is one, else the lease of its key goes on
+abbrev pub Moves : Option Entry → Key → Bool → ℕ → Leases → Leases → Type 0
+Moves None k renewal now old new = GoesOn k renewal now old new
+Moves (Some c) k renewal now old new = Follows c now old new
 
 -- each place but those of the entry is as it was
 abbrev pub OthersStay : Option Entry → VipKeys → VipKeys → Type 0

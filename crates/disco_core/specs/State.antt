@@ -1,9 +1,9 @@
 -- What a core is, and what its commits need.
-use Rattle.std.specs.Prelude.{◌≡◌, ℕ, Bool, true, Option, Some, None, Ok, IfSome, option_map}
+use Rattle.std.specs.Prelude.{◌≡◌, ℕ, Bool, true, false, Option, Some, None, Ok, option_map}
 use Rattle.std.specs.FinMap.{FinMap, get}
 use Rattle.disco_values.specs.Key.{key_cmp}
 use Rattle.disco_values.specs.declared.key.Key.{Key}
-use Rattle.disco_history.specs.Change.{Entry, is_proper, key_of, seen}
+use Rattle.disco_history.specs.Change.{Entry, key_of}
 use Rattle.disco_history.specs.Registry.{put_of, reg}
 use Rattle.disco_index.specs.Vips as vips
 use Rattle.disco_index.specs.Vips.{Adds, HasNoneEmpty, HasPlaces, VipKeys}
@@ -14,10 +14,8 @@ use Rattle.disco_queue.specs.Queue.{HasRoom, Keeps, Queue}
 use Rattle.disco_registry.specs.Commit as commit
 use Rattle.disco_registry.specs.State as registry
 use Rattle.disco_registry.specs.Accept.{Limits, accepts, limits_of}
-use Rattle.disco_registry.specs.Op.{Ask, asked_key}
-use Rattle.disco_core.specs.Moves.{step_for}
+use Rattle.disco_registry.specs.Op.{Ask, asked_key, renew}
 use Rattle.disco_core.specs.Past.{Past, history}
-use Rattle.disco_core.specs.declared.registered.Ready.{Ready}
 use Rattle.disco_settings.specs.declared.settings.Settings.{Settings}
 
 abbrev pub limits : Settings → Limits
@@ -106,20 +104,24 @@ IsSweptAfter held (Some c) v l = IsSwept v (get held (key_of c)) × IsFilled (ke
 abbrev pub AddsNoPlaces : State → State → Type 0
 AddsNoPlaces old new = vips.KeepsPlaces new.vips old.vips × leases.KeepsPlaces new.leases old.leases × (new.queue.places ≡ old.queue.places)
 
--- the change that is ready, if there is one
-abbrev pub change_in : Ready → Option Entry
-change_in r = r.ready
+-- whether an operation is a renewal
+abbrev pub is_renewal : Ask → Bool
+is_renewal (renew k) = true
+is_renewal _ = false
 
--- the moment at which it was made ready
-abbrev pub moment_in : Ready → ℕ
-moment_in r = r.moment
+-- an operation that is ready: its key, whether it is a renewal, its moment, and the change that it makes, if it makes one
+pub record Prepared : Type 0 where
+  pub key : Key
+  pub renewal : Bool
+  pub moment : ℕ
+  pub change : Option Entry
 
 -- the core can commit it without memory
-abbrev pub IsReady : State → Ready → Type 0
-IsReady s r = commit.IsReady s.registry r.ready × HasPlacesFor s.vips s.leases (change_in r) × HasRoomFor s.queue (change_in r) × (option_map seen r.kept ≡ change_in r) × IfSome r.kept (λ c. is_proper c ≡ true)
+abbrev pub IsReady : State → Prepared → Type 0
+IsReady s r = commit.IsReady s.registry r.change × HasPlacesFor s.vips s.leases r.change × HasRoomFor s.queue r.change
 
 -- what is ready is what was asked of the core, which accepts it
-pub record IsFor (s : State) (r : Ready) (ask : Ask) : Type 0 where
-  pub accepted : accepts s.registry ask (moment_in r) ≡ Ok (change_in r)
+pub record IsFor (s : State) (r : Prepared) (ask : Ask) : Type 0 where
+  pub accepted : accepts s.registry ask r.moment ≡ Ok r.change
   pub key : r.key ≡ asked_key ask
-  pub step : r.step ≡ step_for ask
+  pub renewal : r.renewal ≡ is_renewal ask

@@ -3,7 +3,8 @@ ghost use Rattle.std.specs.Prelude.{◌≡◌, None, Some};
 ghost use Rattle.disco_history.specs.Change.{key_of, seen};
 ghost use Rattle.disco_lease.specs.Leases.{HasPlace, IsFilled, Sets, extended, lease_at, marked};
 ghost use Rattle.disco_registry.specs.Op.{ask_of};
-ghost use Rattle.disco_core.specs.Moves.{Follows, GoesOn, step_for};
+ghost use Rattle.disco_core.specs.Moves.{Follows, GoesOn};
+ghost use Rattle.disco_core.specs.State.{is_renewal};
 
 use disco_history::Change;
 use disco_instance::Record;
@@ -11,20 +12,11 @@ use disco_lease::LeaseBook;
 use disco_registry::Op;
 use disco_values::{Action, Key};
 
-/// What an accepted operation does to the lease of an instance whose record stays as it is.
-#[derive(Clone, Copy, Debug)]
-pub(crate) enum Step {
-    Renewed,
-    Touched,
-}
-
-pub(crate) fn step_of(op: &Op) -> Step
-    ensures { result ≡ step_for (ask_of op.now) }
+/// Whether an operation is a renewal.
+pub(crate) fn is_renewal(op: &Op) -> bool
+    ensures { result ≡ is_renewal (ask_of op.now) }
 {
-    match op {
-        Op::Renew(_) => Step::Renewed,
-        _ => Step::Touched,
-    }
+    matches!(op, Op::Renew(_))
 }
 
 /// Starts the lease of an instance that registers.
@@ -48,7 +40,7 @@ fn keep_going(leases: &mut LeaseBook, rec: &Record, now: u64)
     ensures closed { leases.new.closed ≡ leases.old.closed }
 {
     start(leases, rec, now);
-    keep(leases, &rec.key, Step::Touched, now);
+    keep(leases, &rec.key, false, now);
 }
 
 /// Ends the lease of an instance that goes, and gives back its place.
@@ -78,12 +70,14 @@ pub(crate) fn follow(leases: &mut LeaseBook, change: &Change, now: u64)
     }
 }
 
-/// Moves the lease of an instance whose record stays as it is. The instance is held, so it has one.
-pub(crate) fn keep(leases: &mut LeaseBook, key: &Key, step: Step, now: u64)
-    ensures { GoesOn key.now step now leases.old leases.new }
+/// Moves the lease of an instance whose record stays as it is, and counts a renewal. The instance is
+/// held, so it has a lease.
+pub(crate) fn keep(leases: &mut LeaseBook, key: &Key, renewal: bool, now: u64)
+    ensures { GoesOn key.now renewal now leases.old leases.new }
 {
-    let _ = match step {
-        Step::Renewed => leases.renew(key, now),
-        Step::Touched => leases.touch(key, now),
+    let _ = if renewal {
+        leases.renew(key, now)
+    } else {
+        leases.touch(key, now)
     };
 }

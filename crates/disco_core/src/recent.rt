@@ -1,7 +1,7 @@
 //! How the queue of recent changes follows a change.
 ghost use Rattle.std.specs.Prelude.{◌≡◌, ◌<◌, ◌-◌, ◌^◌, IfOk, IfSome, option_map, true};
 ghost use Rattle.disco_history.specs.Change.{is_proper, seen};
-ghost use Rattle.disco_queue.specs.Queue.{version};
+ghost use Rattle.disco_queue.specs.Queue.{AddsNoneEmpty, version};
 ghost use Rattle.disco_registry.specs.Commit.{version_after};
 ghost use Rattle.disco_core.specs.Past.{Past, with_change};
 ghost use Rattle.disco_core.specs.State.{HasRoomFor, Remembers};
@@ -30,6 +30,7 @@ pub(crate) fn remember(queue: &mut ChangedQueue, change: Option<Change>, now: u6
     ensures past { (p : Past) → Remembers queue.old p → Remembers queue.new (with_change queue.old.max p now (option_map seen change)) }
     ensures version { version queue.new ≡ version_after (version queue.old) (option_map seen change) }
     ensures max { queue.new.max ≡ queue.old.max }
+    ensures empty { AddsNoneEmpty queue.old queue.new }
 {
     if let Some(change) = change {
         queue.push(change, now);

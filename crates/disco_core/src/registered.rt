@@ -21,11 +21,11 @@ ghost use Rattle.disco_query.specs.Query.{is_delta};
 ghost use Rattle.disco_cache.specs.Payloads.{IsTrue};
 ghost use Rattle.disco_core.specs.Past.{Past, cleaned, history, minute_closed, nothing, taken_in, with_done};
 ghost use Rattle.disco_core.specs.Refusals.{doc_of_id, doc_of_key, refusal_of, refusal_of_id};
-ghost use Rattle.disco_core.specs.Moves.{Moves, OthersStay, step_for};
-ghost use Rattle.disco_core.specs.State.{AddsNoPlaces, HasPlacesFor, HasRoomFor, IsFor, IsReady, IsSameCore, IsSwept, IsSweptAfter, StandsFor, change_in, moment_in, rules, rules_of};
+ghost use Rattle.disco_core.specs.Moves.{Moves, OthersStay};
+ghost use Rattle.disco_core.specs.State.{AddsNoPlaces, HasPlacesFor, HasRoomFor, IsFor, IsReady, IsSameCore, IsSwept, IsSweptAfter, StandsFor, is_renewal, rules, rules_of};
 
 use crate::counts::count;
-use crate::leases::{Step, keep, step_of};
+use crate::leases::{is_renewal, keep};
 use crate::recent::{remember, shared};
 use crate::{leases, vips};
 use disco_cache::Payload;
@@ -79,23 +79,38 @@ impl Model for Core {
 pub struct Ready {
     ready: disco_registry::Ready,
     key: Key,
-    step: Step,
+    renewal: bool,
     /// The change once more, for the queue.
     kept: Option<Change>,
+    /// In milliseconds.
     moment: u64,
+}
+
+impl Model for Ready {
+    ghost use Rattle.std.specs.Prelude.{◌≡◌, IfSome, option_map, true};
+    ghost use Rattle.disco_history.specs.Change.{is_proper, seen};
+    ghost use Rattle.disco_core.specs.State.{Prepared};
+
+    ghost Value = { Prepared };
+
+    ghost view = { λ r. record { key = r.key; renewal = r.renewal; moment = r.moment; change = r.ready } };
+
+    ghost invariant = { λ r. (option_map seen r.kept ≡ r.ready) × IfSome r.kept (λ c. is_proper c ≡ true) };
 }
 
 impl Ready {
     /// The change that its commit makes, where there is one.
     pub fn to_come(&self) -> Option<&Change>
-        ensures change { option_map (λ c. seen c.now) result ≡ change_in self.now }
+        ensures change { option_map (λ c. seen c.now) result ≡ self.now.change }
+        ensures proper { IfSome result (λ c. is_proper c.now ≡ true) }
     {
         self.ready.change()
     }
 
     /// The change to come once more, where there is one. Refused only as `OutOfMemory`.
     pub fn change(&self) -> Result<Option<Change>, Fault>
-        ensures change { IfOk result (λ o. option_map seen o ≡ change_in self.now) }
+        ensures change { IfOk result (λ o. option_map seen o ≡ self.now.change) }
+        ensures proper { IfOk result (λ o. IfSome o (λ c. is_proper c ≡ true)) }
         ensures memory { IfErr result (λ e. e ≡ OutOfMemory) }
     {
         Ok(shared(self.ready.change())?)
@@ -106,18 +121,17 @@ impl Ready {
 fn with_kept(
     ready: disco_registry::Ready,
     key: Key,
-    step: Step,
+    renewal: bool,
     moment: u64,
 ) -> Result<Ready, Fault>
-    ensures ready { IfOk result (λ r. (r.ready ≡ ready) × (r.key ≡ key) × (r.step ≡ step) × (r.moment ≡ moment)) }
-    ensures kept { IfOk result (λ r. (option_map seen r.kept ≡ change_in r) × IfSome r.kept (λ c. is_proper c ≡ true)) }
+    ensures ready { IfOk result (λ r. r ≡ record { key = key; renewal = renewal; moment = moment; change = ready }) }
     ensures memory { IfErr result (λ e. e ≡ OutOfMemory) }
 {
     let kept = shared(ready.change())?;
     Ok(Ready {
         ready,
         key,
-        step,
+        renewal,
         kept,
         moment,
     })
@@ -126,16 +140,15 @@ fn with_kept(
 /// Makes the registry ready for an operation. Refused as the operation is, and as `OutOfMemory`.
 fn accept(held: &mut Registry, op: Op, now: u64) -> Result<Ready, Fault>
     ensures same { registry.IsSameRegistry held.old held.new }
-    ensures ready { IfOk result (λ r. accepts held.old (ask_of op) now ≡ Ok (change_in r) × commit.IsReady held.new r.ready) }
-    ensures moment { IfOk result (λ r. moment_in r ≡ now) }
-    ensures asked { IfOk result (λ r. (r.key ≡ asked_key (ask_of op)) × (r.step ≡ step_for (ask_of op))) }
-    ensures kept { IfOk result (λ r. (option_map seen r.kept ≡ change_in r) × IfSome r.kept (λ c. is_proper c ≡ true)) }
+    ensures ready { IfOk result (λ r. accepts held.old (ask_of op) now ≡ Ok r.change × commit.IsReady held.new r.change) }
+    ensures moment { IfOk result (λ r. r.moment ≡ now) }
+    ensures asked { IfOk result (λ r. (r.key ≡ asked_key (ask_of op)) × (r.renewal ≡ is_renewal (ask_of op))) }
     ensures refused { IfErr result (Refuses held.old (ask_of op) now) }
 {
-    let step = step_of(&op);
+    let renewal = is_renewal(&op);
     let key = op.key().clone()?;
     let ready = held.ready(op, now)?;
-    with_kept(ready, key, step, now)
+    with_kept(ready, key, renewal, now)
 }
 
 /// Makes the places that a change needs. Refused only as `OutOfMemory`, with places half made.
@@ -210,12 +223,12 @@ fn follow(
     requires tally { counts.old ≡ tally_in registry.now.held }
     requires index { vip.IsIndexOf index.old registry.now.held }
     requires few { len registry.now.held ≤ registry.now.version }
-    requires ready { commit.IsReady registry.now ready.now.ready }
-    requires places { HasPlacesFor index.old book.old (change_in ready.now) }
-    ensures counts { counts.new ≡ tally_in (held_after registry.now.held (change_in ready.now)) }
-    ensures vips { vip.IsIndexOf index.new (held_after registry.now.held (change_in ready.now)) }
-    ensures swept { IsSweptAfter registry.now.held (change_in ready.now) index.new book.new }
-    ensures leases { Moves (change_in ready.now) ready.now.key ready.now.step ready.now.moment book.old book.new }
+    requires ready { commit.IsReady registry.now ready.now.change }
+    requires places { HasPlacesFor index.old book.old ready.now.change }
+    ensures counts { counts.new ≡ tally_in (held_after registry.now.held ready.now.change) }
+    ensures vips { vip.IsIndexOf index.new (held_after registry.now.held ready.now.change) }
+    ensures swept { IsSweptAfter registry.now.held ready.now.change index.new book.new }
+    ensures leases { Moves ready.now.change ready.now.key ready.now.renewal ready.now.moment book.old book.new }
 {
     let _version = registry.version();
     match ready.ready.change() {
@@ -224,7 +237,7 @@ fn follow(
             vips::follow(index, registry, change);
             leases::follow(book, change, ready.moment);
         }
-        None => keep(book, &ready.key, ready.step, ready.moment),
+        None => keep(book, &ready.key, ready.renewal, ready.moment),
     }
 }
 
@@ -272,8 +285,8 @@ impl Core {
     /// or a recent change stays that was not there.
     pub fn ready(&mut self, op: Op, now: u64) -> Result<Ready, Fault>
         ensures same { IsSameCore self.old self.new }
-        ensures ready { IfOk result (λ r. accepts self.old.registry (ask_of op) now ≡ Ok (change_in r) × IsReady self.new r) }
-        ensures moment { IfOk result (λ r. moment_in r ≡ now) }
+        ensures ready { IfOk result (λ r. accepts self.old.registry (ask_of op) now ≡ Ok r.change × IsReady self.new r) }
+        ensures moment { IfOk result (λ r. r.moment ≡ now) }
         ensures asked { IfOk result (λ r. IsFor self.new r (ask_of op)) }
         ensures refused { IfErr result (Refuses self.old.registry (ask_of op) now) }
         ensures given_back { OnErr result (AddsNoPlaces self.old self.new) }
@@ -289,14 +302,15 @@ impl Core {
     }
 
     /// Does what is ready, which has to be of this core as it is. Takes no memory, and gives back the
-    /// places of vips and of the lease that the change leaves empty.
+    /// places of vips, of the lease and of a recent change that the change leaves empty.
     pub fn commit(&mut self, ready: Ready) -> Applied
         requires { IsReady self.old ready }
-        ensures change { done_by result ≡ change_in ready }
+        ensures change { done_by result ≡ ready.change }
         ensures proper { changes_properly result ≡ true }
-        ensures takes { Takes self.old.registry (change_in ready) self.new.registry }
-        ensures swept { IsSweptAfter self.old.registry.held (change_in ready) self.new.vips self.new.leases }
-        ensures history { (p : Past) (ask : Ask) → IsFor self.old ready ask → StandsFor self.old p → StandsFor self.new (with_done self.old.queue.max p (moment_in ready) ask (done_by result)) }
+        ensures takes { Takes self.old.registry ready.change self.new.registry }
+        ensures swept { IsSweptAfter self.old.registry.held ready.change self.new.vips self.new.leases }
+        ensures empty { recent.AddsNoneEmpty self.old.queue self.new.queue }
+        ensures history { (p : Past) (ask : Ask) → IsFor self.old ready ask → StandsFor self.old p → StandsFor self.new (with_done self.old.queue.max p ready.moment ask (done_by result)) }
         ensures rules { rules_of self.new ≡ rules_of self.old }
     {
         let _version = self.registry.version();
