@@ -8,7 +8,11 @@ use Rattle.disco_history.specs.Change.{Entry}
 use Rattle.disco_registry.specs.Accept.{accepts}
 use Rattle.disco_registry.specs.Op.{cancel}
 use Rattle.disco_registry.proofs.Histories.{accepts_after}
-use Rattle.disco_hub.specs.Expiry.{Expires, after_next, cancel_of, cancelled}
+use Rattle.disco_history.specs.Registry.{reg}
+use Rattle.disco_cache.specs.Docs.{Docs}
+use Rattle.std.specs.FinMap.{get}
+use Rattle.disco_hub.specs.Kept.{Forgets}
+use Rattle.disco_hub.specs.Expiry.{Expires, ForgetsEach, ForgetsNext, after_next, cancel_of, cancelled}
 use Rattle.disco_core.specs.Past.{Past, after_ask, history, with_done}
 use Rattle.disco_core.specs.State.{Rules}
 use Rattle.disco_hub.specs.State.{State, StandsFor, rules_of}
@@ -19,10 +23,21 @@ pub none_yet : (rules : Rules) (p : Past) (now : ℕ) (ks : List Key) → p ≡ 
 unfolding cancelled
 none_yet rules p now ks = refl
 
+-- nothing is dropped yet
+none_forgot : (rules : Rules) (p : Past) (now : ℕ) (ks : List Key) (docs : Docs) → ForgetsEach rules p now ks 0 docs docs
+unfolding ForgetsEach
+none_forgot rules p now ks docs = refl
+
+-- one more is cancelled
+forgot_more : (rules : Rules) (p : Past) (now : ℕ) (ks : List Key) (i : ℕ) (old mid new : Docs) → ForgetsEach rules p now ks i old mid → ForgetsNext rules (cancelled rules p now ks i) now (slice_get ks i) mid new → ForgetsEach rules p now ks (i + 1) old new
+unfolding ForgetsEach
+forgot_more rules p now ks i old mid new did next = subst (λ n. ForgetsEach rules p now ks n old new) (sym (add-one i)) (mid, did, next)
+
 pub did_nothing : (s : State) (now : ℕ) (ks : List Key) → HasCancelled s s now ks 0
 did_nothing s now ks = record {
   stands = λ p stands. subst (StandsFor s) (none_yet (rules_of s) p now ks) stands;
   accepted = λ p stands i k lt is. absurd (omega (arith, lt));
+  docs = λ p stands. none_forgot (rules_of s) p now ks s.docs;
   rules = refl;
 }
 
@@ -74,6 +89,9 @@ module _ (old mid new : State) (now : ℕ) (ks : List Key) (i : ℕ) (k : Key) (
   did_more cancels same = record {
     stands = λ p stands. let does = cancels (so_far p) (did.stands p stands) in subst (StandsFor new) (left p does.0 (says p (Ok does.0) does.1)) does.2;
     accepted = λ p stands j q lt is. accepted_too cancels p stands j q (below_of j i lt) is;
+    docs = λ p stands.
+        let does = cancels (so_far p) (did.stands p stands) in
+        forgot_more (rules_of old) p now ks i old.docs mid.docs new.docs (did.docs p stands) (record { key = k; change = does.0; is_next = there; accepted = says p (Ok does.0) does.1; docs = does.3 });
     rules = same ∙ did.rules;
   }
 
@@ -88,6 +106,7 @@ module _ (old mid new : State) (now : ℕ) (ks : List Key) (i : ℕ) (k : Key) (
           next = λ other. (k, there, says p (Err e) (none.1 other));
         },
         none.0,
+        subst (ForgetsEach (rules_of old) p now ks i old.docs) (sym none.2) (did.docs p stands),
       )
 
 -- no list was found
@@ -100,6 +119,7 @@ none_gone s now ks e memory some = λ p stands. (
     next = λ other. absurd (other memory);
   },
   (did_nothing s now (ks p)).stands p stands,
+  (did_nothing s now (ks p)).docs p stands,
 )
 
 -- ---- one cancel
@@ -109,9 +129,9 @@ at_history s p k now stands = accepts_after s.core.registry (history p) stands.c
 
 pub one_gone : (old new : State) (now : ℕ) (k key : Key) (c : Option Entry) → key ≡ k → Writes old new (cancel key) now c → Cancels old new now k
 one_gone old new now k key c same done = λ p stands.
-    subst (λ (x : Key). (c : Option Entry) × (cancel_of (rules_of old) p now x ≡ Ok c) × StandsFor new (with_done (rules_of old).queue p now (cancel x) c)) same
-    (c, sym (at_history old p key now stands) ∙ done.accepted, done.history p stands)
+    subst (λ (x : Key). (c : Option Entry) × (cancel_of (rules_of old) p now x ≡ Ok c) × StandsFor new (with_done (rules_of old).queue p now (cancel x) c) × Forgets (get (reg (history p))) c old.docs new.docs) same
+    (c, sym (at_history old p key now stands) ∙ done.accepted, done.history p stands, done.docs p stands)
 
 pub one_refused : (old new : State) (now : ℕ) (k key : Key) (e : Fault) → key ≡ k → Declines old new (cancel key) now e → CancelsNone old new now k e
 one_refused old new now k key e same refused = λ p stands.
-    (refused.history p stands, λ other. ap (cancel_of (rules_of old) p now) (sym same) ∙ sym (at_history old p key now stands) ∙ refused.cause other)
+    (refused.history p stands, λ other. ap (cancel_of (rules_of old) p now) (sym same) ∙ sym (at_history old p key now stands) ∙ refused.cause other, refused.docs)

@@ -1,14 +1,16 @@
 -- What becomes of kept documents: those that a change doesn't name stay true.
-use Rattle.std.proofs.Common.{◌≡◌, ℕ, ◌≤◌, ◌==◌, ◌&&◌, ◌||◌, not, Bool, true, false, cond, List, [], ◌∷◌, ◌++◌, ◌⊎◌, inl, inr, Option, Some, None, option_map, Result, Ok, Err, IfOk, OnErr, refl, sym, ap, subst, ◌∙◌, arith}
+use Rattle.std.proofs.Common.{◌≡◌, ℕ, ◌≤◌, ◌==◌, ◌&&◌, ◌||◌, not, Bool, true, false, cond, List, [], ◌∷◌, ◌++◌, ◌⊎◌, inl, inr, Option, Some, None, option_map, is_some, nat_lt, Result, Ok, Err, IfOk, IfSome, OnErr, refl, sym, ap, subst, ◌∙◌, arith}
+use borrow.Author.Tests.{ltb-true}
 use Rattle.std.proofs.lemmas.List.{length-append, map-append, take-append-le}
 use Rattle.std.proofs.lemmas.Option.{same_Some}
-use Rattle.std.specs.FinMap.{FinMap, empty, get, get-empty, get-insert, insert, len, values}
+use Rattle.std.specs.FinMap.{FinMap, contains_key, empty, get, get-empty, get-insert, insert, len, values}
 use Rattle.std.specs.Option.{option_map_or}
 use Rattle.std.specs.Ordering.{is_eq}
 use Rattle.std.specs.declared.cmp.Ordering.{Ordering}
 use Rattle.std.specs.declared.cmp.Ordering.TheVariants.{Less, Equal, Greater}
 use Rattle.disco_instance.specs.Row.{Row}
 use Rattle.disco_values.specs.declared.fault.Fault.{Fault}
+use Rattle.disco_values.specs.declared.key.Key.{Key}
 use Rattle.disco_values.specs.declared.fault.Fault.TheVariants.{DeltaDisabled, NotFound}
 use Rattle.disco_values.specs.declared.form.Form.{Form}
 use Rattle.disco_history.specs.Change.{Entry, key_of}
@@ -37,7 +39,7 @@ use Rattle.disco_query.proofs.Orders.{docs_total, exact_docs}
 use Rattle.disco_core.specs.Past.{Past, history, with_done}
 use Rattle.disco_core.specs.Refusals.{refusal_of}
 use Rattle.disco_core.specs.State as core
-use Rattle.disco_hub.specs.Kept.{Forgets, KeepsAtMost}
+use Rattle.disco_hub.specs.Kept.{Forgets, IsAsKept, Keeps, KeepsAtMost}
 use Rattle.disco_hub.specs.State.{AreKept, MayServe, is_cached}
 
 -- ---- a change that doesn't name a document
@@ -99,14 +101,14 @@ always : (a : Bool) → (a || true) ≡ false → ⊥
 always true e = absurd (cc)
 always false e = absurd (cc)
 
-stays_true : (q : Query) (text : List ℕ) (base version : ℕ) (f : Form) (h : List Entry) (c : Entry) → is_named (get (reg h) (key_of c)) (Some c.0) (asked_by q) ≡ false → is_cached q ≡ true
+stays_true : (on : Bool) (q : Query) (text : List ℕ) (base version : ℕ) (f : Form) (h : List Entry) (c : Entry) → is_named (get (reg h) (key_of c)) (Some c.0) (asked_by q) ≡ false → is_cached on q ≡ true
     → IsTrueFor q text base version f h → IsTrueFor q text base version f (h ++ c ∷ [])
-stays_true query.Apps text base version f h c unnamed kept t = absurd (always _ unnamed)
-stays_true query.Delta text base version f h c unnamed kept t = absurd (always _ unnamed)
-stays_true (query.App name) text base version f h c unnamed kept t = still (query.App name) text base version f h c unnamed refl refl t
-stays_true (query.Vip vip) text base version f h c unnamed kept t = still (query.Vip vip) text base version f h c unnamed refl refl t
-stays_true (query.Svip vip) text base version f h c unnamed kept t = still (query.Svip vip) text base version f h c unnamed refl refl t
-stays_true (query.Instance key) text base version f h c unnamed kept t = absurd (cc)
+stays_true on query.Apps text base version f h c unnamed kept t = absurd (always _ unnamed)
+stays_true on query.Delta text base version f h c unnamed kept t = absurd (always _ unnamed)
+stays_true on (query.App name) text base version f h c unnamed kept t = still (query.App name) text base version f h c unnamed refl refl t
+stays_true on (query.Vip vip) text base version f h c unnamed kept t = still (query.Vip vip) text base version f h c unnamed refl refl t
+stays_true on (query.Svip vip) text base version f h c unnamed kept t = still (query.Svip vip) text base version f h c unnamed refl refl t
+stays_true on (query.Instance key) text base version f h c unnamed kept t = absurd (cc)
 
 -- ---- what is kept
 
@@ -116,12 +118,12 @@ none_there k d is = absurd (the (sym (get-empty doc_cmp k) ∙ is))
     the : None ≡ Some d → ⊥
     the e = absurd (cc)
 
-pub none_kept : (p : Past) → AreKept empty p
-none_kept p = record { keys = λ k d is. absurd (none_there k d is); served = λ k d is. absurd (none_there k d is) }
+pub none_kept : (on : Bool) (p : Past) → AreKept on empty p
+none_kept on p = record { keys = λ k d is. absurd (none_there k d is); served = λ k d is. absurd (none_there k d is) }
 
 -- nothing but the base moves, and that forward
-pub moved_on : (docs : FinMap doc_cmp Payload) (p q : Past) → history q ≡ history p → p.base ≤ q.base → AreKept docs p → AreKept docs q
-moved_on docs p q same le kept = record {
+pub moved_on : (on : Bool) (docs : FinMap doc_cmp Payload) (p q : Past) → history q ≡ history p → p.base ≤ q.base → AreKept on docs p → AreKept on docs q
+moved_on on docs p q same le kept = record {
   keys = kept.keys;
   served = λ k d is. let may = kept.served k d is in record { true_now = subst (λ h. IsTrue d h) (sym same) may.true_now; start = λ of_delta. omega (arith, may.start of_delta, le) };
 }
@@ -131,33 +133,41 @@ there_before : (b : Bool) (o : Option Payload) (d : Payload) → cond b None o �
 there_before true o d is = absurd (cc)
 there_before false o d is = (refl, is)
 
-module _ (s : registry.State) (p q : Past) (stands : registry.StandsFor s (history p)) (c : Entry) (old new : Docs) (forgets : Forgets s.held (Some c) old new) (same : history q ≡ history p ++ c ∷ []) (le : p.base ≤ q.base) (kept : AreKept old.docs p) where
-  held_is : record_at s.held (key_of c) ≡ get (reg (history p)) (key_of c)
-  held_is = ap (λ m. record_at m (key_of c)) stands.held ∙ get-said_reg (history p) (key_of c)
+-- what the registry holds of a key is what its history says
+held_is : (s : registry.State) (h : List Entry) → registry.StandsFor s h → (k : Key) → record_at s.held k ≡ get (reg h) k
+held_is s h stands k = ap (λ m. record_at m k) stands.held ∙ get-said_reg h k
 
+pub forgets_in : (s : registry.State) (h : List Entry) → registry.StandsFor s h → (o : Option Entry) (old new : Docs) → Forgets (record_at s.held) o old new → Forgets (get (reg h)) o old new
+forgets_in s h stands None old new is = is
+forgets_in s h stands (Some c) old new is = record {
+  docs = λ k. is.docs k ∙ ap (λ (r : Option Row). cond (is_named r (Some c.0) (asked_by k.query)) None (get old.docs k)) (held_is s h stands (key_of c));
+  max = is.max;
+}
+
+module _ (on : Bool) (p q : Past) (c : Entry) (old new : Docs) (forgets : Forgets (get (reg (history p))) (Some c) old new) (same : history q ≡ history p ++ c ∷ []) (le : p.base ≤ q.base) (kept : AreKept on old.docs p) where
   module _ (k : DocKey) (d : Payload) (is : get new.docs k ≡ Some d) where
-    before : (is_named (record_at s.held (key_of c)) (Some c.0) (asked_by k.query) ≡ false) × (get old.docs k ≡ Some d)
+    before : (is_named (get (reg (history p)) (key_of c)) (Some c.0) (asked_by k.query) ≡ false) × (get old.docs k ≡ Some d)
     before = there_before _ _ d (sym (forgets.docs k) ∙ is)
 
     unnamed : is_named (get (reg (history p)) (key_of c)) (Some c.0) (asked_by d.key.query) ≡ false
-    unnamed = (λ i. is_named (sym held_is i) (Some c.0) (asked_by ((kept.keys k d before.1).0 i).query)) ∙ before.0
+    unnamed = ap (λ (x : DocKey). is_named (get (reg (history p)) (key_of c)) (Some c.0) (asked_by x.query)) (kept.keys k d before.1).0 ∙ before.0
 
     served_on : MayServe d q
     served_on =
         let may = kept.served k d before.1 in
         let key = kept.keys k d before.1 in record {
-          true_now = subst (λ h. IsTrue d h) (sym same) (stays_true d.key.query d.text d.base d.version d.key.form (history p) c unnamed (ap (λ (x : DocKey). is_cached x.query) key.0 ∙ key.1) may.true_now);
+          true_now = subst (λ h. IsTrue d h) (sym same) (stays_true on d.key.query d.text d.base d.version d.key.form (history p) c unnamed (ap (λ (x : DocKey). is_cached on x.query) key.0 ∙ key.1) may.true_now);
           start = λ of_delta. omega (arith, may.start of_delta, le);
         }
 
-  changed : AreKept new.docs q
+  changed : AreKept on new.docs q
   changed = record { keys = λ k d is. kept.keys k d (before k d is).1; served = served_on }
 
 -- what is kept after an operation
-pub docs_after : (s : registry.State) (p : Past) → registry.StandsFor s (history p) → (most now : ℕ) (ask : Ask) (o : Option Entry) (old new : Docs) → Forgets s.held o old new → AreKept old.docs p → AreKept new.docs (with_done most p now ask o)
-docs_after s p stands most now ask None old new is kept = moved_on new.docs p (with_done most p now ask None) refl (omega arith) (subst (λ (v : Docs). AreKept v.docs p) (sym is) kept)
-docs_after s p stands most now ask (Some c) old new forgets kept =
-    changed s p (with_done most p now ask (Some c)) stands c old new forgets (map-append (λ (t : Timed). t.0) p.timed ((c, now) ∷ [])) (omega arith) kept
+pub docs_after : (on : Bool) (p : Past) (most now : ℕ) (ask : Ask) (o : Option Entry) (old new : Docs) → Forgets (get (reg (history p))) o old new → AreKept on old.docs p → AreKept on new.docs (with_done most p now ask o)
+docs_after on p most now ask None old new is kept = moved_on on new.docs p (with_done most p now ask None) refl (omega arith) (subst (λ (v : Docs). AreKept on v.docs p) (sym is) kept)
+docs_after on p most now ask (Some c) old new forgets kept =
+    changed on p (with_done most p now ask (Some c)) c old new forgets (map-append (λ (t : Timed). t.0) p.timed ((c, now) ∷ [])) (omega arith) kept
 
 -- ---- what is kept of a load
 
@@ -166,30 +176,52 @@ equal Less e = absurd (cc)
 equal Equal e = refl
 equal Greater e = absurd (cc)
 
-one_of : (d e : Payload) (k : DocKey) (old : FinMap doc_cmp Payload) (b : Bool) → same_doc k d.key ≡ b → is_cached d.key.query ≡ true → cond b (Some d) (get old k) ≡ Some e
-    → (get old k ≡ Some e) ⊎ ((e ≡ d) × (d.key ≡ k) × (is_cached k.query ≡ true))
-one_of d e k old true same kept is =
+-- what is kept where one more is
+one_of : (on : Bool) (d e : Payload) (k : DocKey) (old : FinMap doc_cmp Payload) (b : Bool) → same_doc k d.key ≡ b → is_cached on d.key.query ≡ true → cond b (Some d) (get old k) ≡ Some e
+    → (get old k ≡ Some e) ⊎ ((e ≡ d) × (d.key ≡ k) × (is_cached on k.query ≡ true))
+one_of on d e k old true same kept is =
     let key : k ≡ d.key = exact_docs k d.key (equal _ same) in
-    inr (sym (same_Some d e is), sym key, ap (λ (x : DocKey). is_cached x.query) key ∙ kept)
-one_of d e k old false same kept is = inl is
+    inr (sym (same_Some d e is), sym key, ap (λ (x : DocKey). is_cached on x.query) key ∙ kept)
+one_of on d e k old false same kept is = inl is
 
-pub unchanged : (d : Payload) (old new : Docs) → new ≡ old → KeepsAtMost d old new
-unchanged d old new same k e is = inl (ap (λ (v : Docs). get v.docs k) (sym same) ∙ is)
+module _ (on : Bool) (d : Payload) (old new : Docs) (p : Past) (may : MayServe d p) (kept : AreKept on old.docs p) where
+  one_more : Keeps on d old new → AreKept on new.docs p
+  one_more one =
+      let found = λ (k : DocKey) (e : Payload) (is : get new.docs k ≡ Some e). one_of on d e k old.docs (same_doc k d.key) refl one.cached (sym (ap (λ (v : Docs). get v.docs k) one.kept ∙ get-insert docs_total old.docs d.key d k) ∙ is) in record {
+        keys = λ k e is. elim (found k e is) [ inl before ↦ kept.keys k e before | inr it ↦ (ap (λ (x : Payload). x.key) it.0 ∙ it.1, it.2) ];
+        served = λ k e is. elim (found k e is) [ inl before ↦ kept.served k e before | inr it ↦ subst (λ (x : Payload). MayServe x p) (sym it.0) may ];
+      }
 
-same_docs : (d : Payload) (old new : Docs) → new.docs ≡ old.docs → KeepsAtMost d old new
-same_docs d old new same k e is = inl (ap (λ (m : FinMap doc_cmp Payload). get m k) (sym same) ∙ is)
+  pub keeps : KeepsAtMost on d old new → AreKept on new.docs p
+  keeps (inl same) = subst (λ (v : Docs). AreKept on v.docs p) (sym same) kept
+  keeps (inr one) = one_more one
 
-pub kept_at_most : (d : Payload) (old new : Docs) (r : Result Bool Fault) → is_cached d.key.query ≡ true → IfOk r (λ kept. new.docs ≡ cond kept (insert old.docs d.key d) old.docs) → OnErr r (new ≡ old) → KeepsAtMost d old new
-kept_at_most d old new (Ok true) kept is none k e there =
-    one_of d e k old.docs (same_doc k d.key) refl kept (sym (ap (λ (m : FinMap doc_cmp Payload). get m k) is ∙ get-insert docs_total old.docs d.key d k) ∙ there)
-kept_at_most d old new (Ok false) kept is none k e there = same_docs d old new is k e there
-kept_at_most d old new (Err f) kept is none k e there = unchanged d old new none k e there
+pub kept_at_most : (on : Bool) (d : Payload) (old new : Docs) (r : Result Bool Fault) → is_cached on d.key.query ≡ true → get old.docs d.key ≡ None → IfOk r (λ kept. kept ≡ (contains_key old.docs d.key || nat_lt (len old.docs) old.max))
+    → IfOk r (λ kept. new.docs ≡ cond kept (insert old.docs d.key d) old.docs) → new.max ≡ old.max → OnErr r (new ≡ old) → KeepsAtMost on d old new
+kept_at_most on d old new (Ok true) cached absent room docs max none = inr (record {
+  cached = cached;
+  absent = absent;
+  room = ltb-true (len old.docs) old.max (sym (room ∙ ap (λ (o : Option Payload). is_some o || nat_lt (len old.docs) old.max) absent));
+  kept = λ i. record { docs = docs i; max = max i };
+})
+kept_at_most on d old new (Ok false) cached absent room docs max none = inl (λ i. record { docs = docs i; max = max i })
+kept_at_most on d old new (Err f) cached absent room docs max none = inl none
 
-pub keeps : (d : Payload) (old new : Docs) (p : Past) → KeepsAtMost d old new → MayServe d p → AreKept old.docs p → AreKept new.docs p
-keeps d old new p at_most may kept = record {
-  keys = λ k e is. elim (at_most k e is) [ inl before ↦ kept.keys k e before | inr one ↦ (ap (λ (x : Payload). x.key) one.0 ∙ one.1, one.2) ];
-  served = λ k e is. elim (at_most k e is) [ inl before ↦ kept.served k e before | inr one ↦ subst (λ (x : Payload). MayServe x p) (sym one.0) may ];
-}
+-- a delta is cached where it is served
+pub cached_on : (on : Bool) (q : Query) → is_cached true q ≡ true → (is_delta q ≡ true → on ≡ true) → is_cached on q ≡ true
+cached_on on query.Apps is deltas = refl
+cached_on on query.Delta is deltas = deltas refl
+cached_on on (query.App name) is deltas = refl
+cached_on on (query.Vip vip) is deltas = refl
+cached_on on (query.Svip vip) is deltas = refl
+cached_on on (query.Instance key) is deltas = absurd (cc)
+
+-- a document is as it is kept, or none is kept
+pub is_as_kept : (s : Docs) (k : DocKey) (d e : Payload) → get s.docs k ≡ Some e → d ≡ e → IsAsKept s k d
+is_as_kept s k d e is same = subst (λ (o : Option Payload). IfSome o (λ e. d ≡ e)) (sym is) same
+
+pub is_not_kept : (s : Docs) (k : DocKey) (d : Payload) → get s.docs k ≡ None → IsAsKept s k d
+is_not_kept s k d none = subst (λ (o : Option Payload). IfSome o (λ e. d ≡ e)) (sym none) tt
 
 -- a kept document isn't refused
 pub allowed : (on : Bool) (q : Query) (h : List Entry) (d : Payload) → d.key.query ≡ q → IsTrue d h → (is_delta q ≡ true → on ≡ true) → refusal_of on q h ≡ None

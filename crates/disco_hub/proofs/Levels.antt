@@ -25,7 +25,7 @@ use Rattle.disco_rounds.proofs.Pressed.{IsNoted, begun_pressed, copied_pressed, 
 pub stands_on : (old new : State) (p : Past) → new ≡ record old { rounds = new.rounds } → StandsFor old p → StandsFor new p
 stands_on old new p is stands = record {
   core = subst (λ (x : State). core.StandsFor x.core p) (sym is) stands.core;
-  docs = subst (λ (x : State). AreKept x.docs.docs p) (sym is) stands.docs;
+  docs = subst (λ (x : State). AreKept x.core.delta x.docs.docs p) (sym is) stands.docs;
 }
 
 pub copied_changes : (cs : List Entry) (l : List Note) → copied_in (l ++ map change cs) ≡ copied_in l

@@ -1,21 +1,39 @@
--- What the private steps of a hub do to kept documents. Nothing here is to be believed.
-use Rattle.std.specs.Prelude.{◌≡◌, ◌⊎◌, true, Option, Some, None}
-use Rattle.std.specs.FinMap.{FinMap, get}
-use Rattle.disco_values.specs.Key.{key_cmp}
+-- What calls do to kept documents.
+use Rattle.std.specs.Prelude.{◌≡◌, ◌<◌, ◌⊎◌, Bool, true, Option, Some, None, IfSome}
+use Rattle.std.specs.FinMap.{get, insert, len}
+use Rattle.disco_instance.specs.Row.{Row}
+use Rattle.disco_values.specs.declared.key.Key.{Key}
 use Rattle.disco_history.specs.Change.{Entry, key_of}
-use Rattle.disco_history.specs.Held.{record_at}
 use Rattle.disco_history.specs.Query.{is_named}
 use Rattle.disco_documents.specs.Documents.{asked_by}
 use Rattle.disco_cache.specs.Docs.{Docs, Drops}
 use Rattle.disco_query.specs.declared.key.DocKey.{DocKey}
 use Rattle.disco_cache.specs.declared.payload.Payload.{Payload}
+use Rattle.disco_rounds.specs.declared.copied.Copied.{Copied}
+use Rattle.disco_rounds.specs.declared.copied.Copied.TheVariants.{Doc, Drop}
 use Rattle.disco_hub.specs.State.{is_cached}
 
--- the documents that a change names, if there is one, are dropped: by the held record of its key, and by its own, which names what went as it was held
-abbrev pub Forgets : FinMap key_cmp Entry → Option Entry → Docs → Docs → Type 0
+-- just the documents that a change names are dropped, if there is one: by the record of its key before it, and by its own
+abbrev pub Forgets : (Key → Option Row) → Option Entry → Docs → Docs → Type 0
 Forgets held None old new = new ≡ old
-Forgets held (Some c) old new = Drops (λ k. is_named (record_at held (key_of c)) (Some c.0) (asked_by k.query)) old new
+Forgets held (Some c) old new = Drops (λ k. is_named (held (key_of c)) (Some c.0) (asked_by k.query)) old new
 
--- each document was kept before, or is that one, which is of no instance
-abbrev pub KeepsAtMost : Payload → Docs → Docs → Type 0
-KeepsAtMost d old new = (k : DocKey) (e : Payload) → get new.docs k ≡ Some e → (get old.docs k ≡ Some e) ⊎ ((e ≡ d) × (d.key ≡ k) × (is_cached k.query ≡ true))
+-- a document is kept that was not, and had room
+pub record Keeps (on : Bool) (d : Payload) (old new : Docs) : Type 0 where
+  pub cached : is_cached on d.key.query ≡ true
+  pub absent : get old.docs d.key ≡ None
+  pub room : len old.docs < old.max
+  pub kept : new ≡ record old { docs = insert old.docs d.key d }
+
+-- all that was kept is, and at most that document more
+abbrev pub KeepsAtMost : Bool → Payload → Docs → Docs → Type 0
+KeepsAtMost on d old new = (new ≡ old) ⊎ Keeps on d old new
+
+-- the document of a key is given as it is kept, where it is kept
+abbrev pub IsAsKept : Docs → DocKey → Payload → Type 0
+IsAsKept s k d = IfSome (get s.docs k) (λ e. d ≡ e)
+
+-- and so is what is copied of it
+abbrev pub IsCopiedAsKept : Docs → DocKey → Copied → Type 0
+IsCopiedAsKept s k (Doc d) = IsAsKept s k d.value
+IsCopiedAsKept s k (Drop j) = get s.docs k ≡ None

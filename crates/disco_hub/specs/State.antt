@@ -40,20 +40,21 @@ pub record MayServe (d : Payload) (p : Past) : Type 0 where
   pub true_now : IsTrue d (history p)
   pub start : is_delta d.key.query ≡ true → d.base ≤ p.base
 
--- documents of single instances are cached nowhere
-abbrev pub is_cached : Query → Bool
-is_cached (query.Instance key) = false
-is_cached _ = true
+-- documents of single instances are cached nowhere, and deltas only where they are served
+abbrev pub is_cached : Bool → Query → Bool
+is_cached on (query.Instance key) = false
+is_cached on query.Delta = on
+is_cached on _ = true
 
--- each kept document is of its key, which is of no instance, and may be served
-pub record AreKept (docs : FinMap doc_cmp Payload) (p : Past) : Type 0 where
-  pub keys : (k : DocKey) (d : Payload) → get docs k ≡ Some d → (d.key ≡ k) × (is_cached k.query ≡ true)
+-- each kept document is of its key, may be cached, where deltas are on or off, and may be served
+pub record AreKept (on : Bool) (docs : FinMap doc_cmp Payload) (p : Past) : Type 0 where
+  pub keys : (k : DocKey) (d : Payload) → get docs k ≡ Some d → (d.key ≡ k) × (is_cached on k.query ≡ true)
   pub served : (k : DocKey) (d : Payload) → get docs k ≡ Some d → MayServe d p
 
 -- it holds what is left of what happened, and each document that it keeps may be served now
 pub record StandsFor (s : State) (p : Past) : Type 0 where
   pub core : core.StandsFor s.core p
-  pub docs : AreKept s.docs.docs p
+  pub docs : AreKept s.core.delta s.docs.docs p
 
 -- nothing has happened to it, no document is kept and none was published, and no round is open
 pub record IsEmptyHub (settings : Settings) (s : State) : Type 0 where

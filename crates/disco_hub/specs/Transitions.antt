@@ -3,7 +3,9 @@ use Rattle.std.specs.Prelude.{◌≡◌, ◌≢◌, ℕ, Bool, List, [], Option,
 use Rattle.disco_values.specs.declared.fault.Fault.{Fault}
 use Rattle.disco_values.specs.declared.fault.Fault.TheVariants.{NoRound, OutOfMemory, RoundOpen}
 use Rattle.disco_values.specs.declared.form.Form.{Form}
+use Rattle.std.specs.FinMap.{get}
 use Rattle.disco_history.specs.Change.{Entry}
+use Rattle.disco_history.specs.Registry.{reg}
 use Rattle.disco_registry.specs.Accept.{Refuses, accepts}
 use Rattle.disco_registry.specs.Op.{Ask}
 use Rattle.disco_lease.specs.declared.minute.Minute.{Minute}
@@ -15,6 +17,7 @@ use Rattle.disco_rounds.specs.declared.copied.Copied.{Copied}
 use Rattle.disco_core.specs.Past.{Past, cleaned, history, minute_closed, with_done}
 use Rattle.disco_core.specs.Refusals.{doc_of_id, refusal_of, refusal_of_id}
 use Rattle.disco_core.specs.State.{AddsNoPlaces, IsSweptAfter}
+use Rattle.disco_hub.specs.Kept.{Forgets, IsAsKept, IsCopiedAsKept, KeepsAtMost}
 use Rattle.disco_hub.specs.State.{IsCopied, MayServe, State, StandsFor, open_round, rules_of}
 
 -- ---- operations
@@ -25,17 +28,19 @@ pub record KeepsRest (old new : State) : Type 0 where
   pub rounds : new.rounds ≡ old.rounds
   pub room : new.docs.max ≡ old.docs.max
 
--- an operation is accepted at a moment, with this change or none: it has happened then, and no place of what it found stands empty
+-- an operation is accepted at a moment, with this change or none: it has happened then, no place of what it found stands empty, and just the kept documents that it names are dropped
 pub record Writes (old new : State) (ask : Ask) (now : ℕ) (change : Option Entry) : Type 0 where
   pub accepted : accepts old.core.registry ask now ≡ Ok change
+  pub docs : (p : Past) → StandsFor old p → Forgets (get (reg (history p))) change old.docs new.docs
   pub history : (p : Past) → StandsFor old p → StandsFor new (with_done (rules_of old).queue p now ask change)
   pub swept : IsSweptAfter old.core.registry.held change new.core.vips new.core.leases
 
--- an operation is refused at a moment: nothing has happened, and no place is there that was not
+-- an operation is refused at a moment: nothing has happened, no place is there that was not, and what was kept is
 pub record Declines (old new : State) (ask : Ask) (now : ℕ) (e : Fault) : Type 0 where
   pub cause : Refuses old.core.registry ask now e
   pub history : (p : Past) → StandsFor old p → StandsFor new p
   pub given_back : AddsNoPlaces old.core new.core
+  pub docs : new.docs ≡ old.docs
 
 -- the recent changes that are older than the retention are forgotten, so that deltas start from this version, and nothing else is
 pub record Cleans (old new : State) (now from : ℕ) : Type 0 where
@@ -75,11 +80,12 @@ pub record IsDocOfId (s : State) (id : List ℕ) (f : Form) (d : Payload) : Type
 abbrev pub WithholdsId : State → List ℕ → Fault → Type 0
 WithholdsId s id e = e ≢ OutOfMemory → (p : Past) → StandsFor s p → refusal_of_id id (history p) ≡ Some e
 
--- a load moves no more than what is kept, and keeps what may be served
-pub record Loads (old new : State) : Type 0 where
-  pub core : new.core ≡ old.core
+-- a load of a key gives this document, as it is kept where it is kept, keeps it at most, and moves nothing else
+pub record Loads (old new : State) (k : DocKey) (d : Payload) : Type 0 where
+  pub as_kept : IsAsKept old.docs k d
+  pub keeps : KeepsAtMost old.core.delta d old.docs new.docs
   pub history : (p : Past) → StandsFor old p → StandsFor new p
-  pub rest : KeepsRest old new
+  pub rest : new ≡ record old { docs = new.docs }
 
 -- ---- rounds
 
@@ -96,9 +102,10 @@ pub record BeginsRound (old new : State) (n : ℕ) : Type 0 where
 abbrev pub RefusesRound : State → Fault → Type 0
 RefusesRound s e = e ≢ OutOfMemory → (e ≡ RoundOpen) × (open_round s ≢ None)
 
--- what is copied is of the first key that is left of the open round
-abbrev pub IsNextCopy : State → Copied → Type 0
-IsNextCopy s c = (p : Past) → StandsFor s p → IfSome (open_round s) (λ r. IfSome (slice_get r.left 0) (λ k. IsCopied k c p))
+-- what is copied is of the first key that is left of the open round, and as it is kept where it is kept
+pub record IsNextCopy (s : State) (c : Copied) : Type 0 where
+  pub copied : (p : Past) → StandsFor s p → IfSome (open_round s) (λ r. IfSome (slice_get r.left 0) (λ k. IsCopied k c p))
+  pub as_kept : IfSome (open_round s) (λ r. IfSome (slice_get r.left 0) (λ k. IsCopiedAsKept s.docs k c))
 
 -- the first key that is left is copied, and kept where it has a document
 pub record CopiesOne (old new : State) (c : Copied) : Type 0 where

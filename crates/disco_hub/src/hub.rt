@@ -7,9 +7,13 @@ ghost use Rattle.disco_registry.specs.Op.{Ask, ask_of};
 ghost use Rattle.disco_registry.specs.State as registry;
 ghost use Rattle.disco_query.specs.Query.{is_delta};
 ghost use Rattle.disco_core.specs.Past.{Past, history, taken_in, with_done};
+ghost use Rattle.disco_queue.specs.Queue.{AddsNoneEmpty};
+ghost use Rattle.disco_history.specs.Registry.{reg};
+ghost use Rattle.std.specs.FinMap.{get};
 ghost use Rattle.disco_core.specs.Refusals.{doc_of_key};
-ghost use Rattle.disco_core.specs.State.{AddsNoPlaces, IsFor, IsReady, IsSweptAfter, change_in, moment_in};
+ghost use Rattle.disco_core.specs.State.{AddsNoPlaces, IsFor, IsReady, IsSweptAfter};
 ghost use Rattle.disco_hub.specs.Expiry.{Expires};
+ghost use Rattle.disco_hub.specs.Kept.{Forgets, IsCopiedAsKept};
 ghost use Rattle.disco_hub.specs.Transitions.{BeginsRound, Cleans, Closes, CopiesOne, Declines, EndsRound, HasNoneLeft, IsDocOf, IsDocOfId, IsNextCopy, KeepsRest, Loads, MovesRounds, RefusesCopy, RefusesRound, Withholds, WithholdsId, Writes};
 ghost use Rattle.disco_rounds.specs.Press.{put_copy};
 ghost use Rattle.disco_rounds.specs.Rounds.{Advances, StaysOpen};
@@ -77,8 +81,8 @@ impl Hub {
     /// lease stays that was not there.
     pub fn ready(&mut self, op: Op, now: u64) -> Result<Ready, Fault>
         ensures same { IsSameHub self.old self.new }
-        ensures ready { IfOk result (λ r. accepts self.old.core.registry (ask_of op) now ≡ Ok (change_in r) × IsReady self.new.core r) }
-        ensures moment { IfOk result (λ r. moment_in r ≡ now) }
+        ensures ready { IfOk result (λ r. accepts self.old.core.registry (ask_of op) now ≡ Ok r.change × IsReady self.new.core r) }
+        ensures moment { IfOk result (λ r. r.moment ≡ now) }
         ensures asked { IfOk result (λ r. IsFor self.new.core r (ask_of op)) }
         ensures refused { IfErr result (Refuses self.old.core.registry (ask_of op) now) }
         ensures given_back { OnErr result (AddsNoPlaces self.old.core self.new.core) }
@@ -87,16 +91,17 @@ impl Hub {
     }
 
     /// Does what is ready, which has to be of this hub as it is. Takes no memory, and gives back the
-    /// places of vips and of the lease that the change leaves empty. What is kept afterwards may be
-    /// served: the kept documents that the change names are dropped. That all others stay is shown by
-    /// rows, and said by no clause.
+    /// places of vips, of the lease and of a recent change that the change leaves empty. Just the kept
+    /// documents that the change names are dropped.
     pub fn commit(&mut self, ready: Ready) -> Applied
         requires { IsReady self.old.core ready }
-        ensures change { done_by result ≡ change_in ready }
+        ensures change { done_by result ≡ ready.change }
         ensures proper { changes_properly result ≡ true }
-        ensures takes { Takes self.old.core.registry (change_in ready) self.new.core.registry }
-        ensures swept { IsSweptAfter self.old.core.registry.held (change_in ready) self.new.core.vips self.new.core.leases }
-        ensures history { (p : Past) (ask : Ask) → IsFor self.old.core ready ask → StandsFor self.old p → StandsFor self.new (with_done (rules_of self.old).queue p (moment_in ready) ask (done_by result)) }
+        ensures takes { Takes self.old.core.registry ready.change self.new.core.registry }
+        ensures swept { IsSweptAfter self.old.core.registry.held ready.change self.new.core.vips self.new.core.leases }
+        ensures empty { AddsNoneEmpty self.old.core.queue self.new.core.queue }
+        ensures docs { (p : Past) → StandsFor self.old p → Forgets (get (reg (history p))) ready.change self.old.docs self.new.docs }
+        ensures history { (p : Past) (ask : Ask) → IsFor self.old.core ready ask → StandsFor self.old p → StandsFor self.new (with_done (rules_of self.old).queue p ready.moment ask (done_by result)) }
         ensures rest { KeepsRest self.old self.new }
     {
         forget(&mut self.cache, &self.core, &ready);
@@ -163,15 +168,18 @@ impl Hub {
         expire(self.alloc, self, now)
     }
 
-    /// The document that is asked for, shared. An app's name has to be in upper case. That a kept
-    /// document is answered as it is, and one that is written now is kept where there is memory and
-    /// room, is shown by rows, and said by no clause. Refused as
-    /// `NotFound` exactly where an app, a vip, a secure vip or an instance is asked for and there is
-    /// none, as `DeltaDisabled` exactly for a delta where deltas are off, and as `OutOfMemory`.
+    /// The document that is asked for, shared: the kept one where it is kept, and else one that is
+    /// written now, which is kept at most. That it is kept where there is memory and room is shown by
+    /// rows, and said by no clause. An app's name has to be in upper case.
+    ///
+    /// Refused as `NotFound` exactly where an app, a vip, a secure vip or an instance is asked for and
+    /// there is none, as `DeltaDisabled` exactly for a delta where deltas are off, and as
+    /// `OutOfMemory`; then all is as before.
     pub fn load(&mut self, key: &DocKey) -> Result<Arc<Payload, Global>, Fault>
         ensures served { IfOk result (λ d. IsDocOf self.old (rules_of self.old).delta key.now d.value) }
         ensures refused { IfErr result (Withholds self.old (rules_of self.old).delta key.now) }
-        ensures loads { Loads self.old self.new }
+        ensures loads { IfOk result (λ d. Loads self.old self.new key.now d.value) }
+        ensures as_before { OnErr result (self.new ≡ self.old) }
     {
         if key.query.is_delta() && !self.core.serves_deltas() {
             return Err(Fault::DeltaDisabled);
@@ -215,10 +223,9 @@ impl Hub {
         self.rounds.begin(self.alloc, &self.cache)
     }
 
-    /// What a copy of the first key that is left of the open round gives: its document, or that there
-    /// is none; nothing where no key is left. Nothing is kept, and the round stays as it was. That a
-    /// kept document is given as it is, is shown by rows, and said by no clause. Refused as `NoRound` where none is open, and as
-    /// `OutOfMemory`.
+    /// What a copy of the first key that is left of the open round gives: its document, the kept one
+    /// where it is kept, or that there is none; nothing where no key is left. Nothing is kept, and the
+    /// round stays as it was. Refused as `NoRound` where none is open, and as `OutOfMemory`.
     pub fn next_copy(&self) -> Result<Option<Copied>, Fault>
         ensures copied { IfOk result (λ o. IfSome o (IsNextCopy self.now)) }
         ensures next { IfOk result (λ o. IfSome (open_round self.now) (λ r. is_some (slice_get r.left 0) ≡ is_some o)) }
@@ -234,6 +241,7 @@ impl Hub {
     /// What a copy of a key gives.
     fn copied(&self, key: &DocKey) -> Result<Copied, Fault>
         ensures copied { IfOk result (λ c. (p : Past) → StandsFor self.now p → IsCopied key.now c p) }
+        ensures as_kept { IfOk result (IsCopiedAsKept self.now.docs key.now) }
         ensures memory { IfErr result (λ e. e ≡ OutOfMemory) }
     {
         if let Some(doc) = self.cache.get(key) {

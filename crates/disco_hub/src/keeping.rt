@@ -1,8 +1,10 @@
 //! Which documents are kept, and which a change drops.
-ghost use Rattle.std.specs.Prelude.{◌≡◌};
+ghost use Rattle.std.specs.Prelude.{◌≡◌, Bool, None, true};
+ghost use Rattle.std.specs.FinMap.{get};
 ghost use Rattle.disco_instance.specs.Row.{row};
 ghost use Rattle.disco_history.specs.Change.{seen};
-ghost use Rattle.disco_core.specs.State.{change_in};
+ghost use Rattle.disco_history.specs.Held.{record_at};
+ghost use Rattle.disco_query.specs.Query.{is_delta};
 ghost use Rattle.disco_hub.specs.Kept.{Forgets, KeepsAtMost};
 ghost use Rattle.disco_hub.specs.State.{is_cached};
 
@@ -26,24 +28,25 @@ fn record(change: &Change) -> &Record
 
 /// Drops the documents that a ready change names, if there is one. Takes no memory.
 pub(crate) fn forget(cache: &mut DocCache, core: &Core, ready: &Ready)
-    ensures { Forgets core.now.registry.held (change_in ready.now) cache.old cache.new }
+    ensures { Forgets (record_at core.now.registry.held) ready.now.change cache.old cache.new }
 {
     if let Some(change) = ready.to_come() {
         cache.invalidate(core.held(change.key()), Some(record(change)));
     }
 }
 
-/// Whether documents of a query are kept.
+/// Whether documents of a query are kept, where deltas are served.
 fn keeps(query: &Query) -> bool
-    ensures { result ≡ is_cached query.now }
+    ensures { result ≡ is_cached true query.now }
 {
     !matches!(query, Query::Instance(_))
 }
 
-/// Keeps a document, where there is memory and room for it.
+/// Keeps a document of which none is kept, where there is memory and room for it. A delta is one that
+/// is served.
 pub(crate) fn keep(cache: &mut DocCache, doc: &Arc<Payload, Global>)
-    ensures kept { KeepsAtMost doc.now.value cache.old cache.new }
-    ensures max { cache.new.max ≡ cache.old.max }
+    requires { get cache.old.docs doc.now.value.key ≡ None }
+    ensures kept { (on : Bool) → (is_delta doc.now.value.key.query ≡ true → on ≡ true) → KeepsAtMost on doc.now.value cache.old cache.new }
 {
     if !keeps(&doc.key.query) {
         return;

@@ -1,11 +1,13 @@
-use Rattle.std.proofs.Common.{◌≡◌, None, true, ap, rules, sym, subst, ◌∙◌}
+use Rattle.std.proofs.Common.{◌≡◌, None, true, ap, inl, refl, rules, sym, subst, ◌∙◌}
+use Rattle.std.specs.FinMap.{get}
 use Rattle.disco_query.specs.Query.{is_delta}
 use Rattle.disco_query.specs.declared.key.DocKey.{DocKey}
 use Rattle.disco_cache.specs.declared.payload.Payload.{Payload}
 use Rattle.disco_core.specs.Past.{history}
 use Rattle.disco_core.specs.Refusals.{refusal_of}
-use Rattle.disco_hub.specs.State.{MayServe, State, StandsFor, rules_of}
-use Rattle.disco_hub.proofs.Documents.{allowed, keeps, written_now}
+use Rattle.disco_hub.specs.State.{MayServe, State, StandsFor}
+use Rattle.disco_hub.specs.Transitions.{Loads}
+use Rattle.disco_hub.proofs.Documents.{allowed, is_as_kept, is_not_kept, keeps, written_now}
 use Rattle.disco_hub.proofs.hub.Hub.load.Goals.{else-is_delta-via-then-is_delta+else-not-serves_deltas, else-is_delta-via-else-is_delta}
 use Rattle.disco_hub.proofs.hub.Hub.load.Goals as goal
 
@@ -26,20 +28,37 @@ returns-in-Some-clause-served c = record {
       (allowed c.self.inside.core.delta c.args.key.now.query (history p) c.in-Some.doc.now.value (ap (λ (k : DocKey). k.query) c.in-Some.ensures.same_key) may.true_now deltas);
 }
 
+pub returns-in-Some-clause-loads : goal.returns-in-Some-clause-loads
+returns-in-Some-clause-loads c =
+    let d = c.in_ok-try_clone.field-0.value in
+    let i : State = record { core = c.self.inside.core; docs = c.self.inside.cache; rounds = c.self.inside.rounds } in
+    let loads : Loads i i c.args.key.now d = record {
+      as_kept = is_as_kept i.docs c.args.key.now d c.in-Some.doc.now.value (sym c.in-Some.ensures.found) c.in_ok-try_clone.ensures;
+      keeps = inl refl;
+      history = λ p stands. stands;
+      rest = refl;
+    } in
+    subst (λ (s : State). Loads s s c.args.key.now d) c.self.view_is loads
+
 pub returns-clause-loads : goal.returns-clause-loads
-returns-clause-loads c = record {
-  core = ap (λ (s : State). s.core) c.self.view_is;
-  history = λ p stands.
-      let was = subst (λ (s : State). StandsFor s p) (sym c.self.view_is) stands in
-      let d = c.in-Some-2.doc.value in
-      let true_now = rw c.in-Some-2.is at c.in_ok-doc.ensures.true_now in
-      let base = rw c.in-Some-2.is at c.in_ok-doc.ensures.base in
-      let key = rw c.in-Some-2.is at c.in_ok-doc.ensures.key in
-      let may = written_now c.self.inside.core p d was.core (true_now p was.core) (λ of_delta. base (subst (λ (k : DocKey). is_delta k.query ≡ true) key of_delta)) in
-      record { core = was.core; docs = keeps d c.self.inside.cache c.keep.new.cache p c.keep.ensures.kept may was.docs };
-  rest = record {
-    rules = ap (λ (s : State). rules_of s) c.self.view_is;
-    rounds = ap (λ (s : State). s.rounds) c.self.view_is;
-    room = c.keep.ensures.max ∙ ap (λ (s : State). s.docs.max) c.self.view_is;
-  };
-}
+returns-clause-loads c =
+    let i : State = record { core = c.self.inside.core; docs = c.self.inside.cache; rounds = c.self.inside.rounds } in
+    let new : State = record i { docs = c.keep.new.cache } in
+    let d = c.in-Some-2.doc.value in
+    let true_now = rw c.in-Some-2.is at c.in_ok-doc.ensures.true_now in
+    let base = rw c.in-Some-2.is at c.in_ok-doc.ensures.base in
+    let key : d.key ≡ c.args.key.now = rw c.in-Some-2.is at c.in_ok-doc.ensures.key in
+    let deltas : is_delta c.args.key.now.query ≡ true → i.core.delta ≡ true = elim c.else-is_delta.branch [
+      | else-is_delta-via-then-is_delta+else-not-serves_deltas w ↦ λ e. search (rules, w.serves_deltas.ensures, w.if-not-serves_deltas)
+      | else-is_delta-via-else-is_delta w ↦ λ e. search (rules, w.if-is_delta, c.is_delta.ensures, e)
+    ] in
+    let at_most = c.keep.ensures.kept i.core.delta (λ of_delta. deltas (subst (λ (k : DocKey). is_delta k.query ≡ true) key of_delta)) in
+    let loads : Loads i new c.args.key.now d = record {
+      as_kept = is_not_kept i.docs c.args.key.now d (sym c.in_default.ensures.found);
+      keeps = at_most;
+      history = λ p stands.
+          let may = written_now i.core p d stands.core (true_now p stands.core) (λ of_delta. base (subst (λ (k : DocKey). is_delta k.query ≡ true) key of_delta)) in
+          record { core = stands.core; docs = keeps i.core.delta d i.docs new.docs p may stands.docs at_most };
+      rest = refl;
+    } in
+    subst (λ (s : State). Loads s new c.args.key.now d) c.self.view_is loads

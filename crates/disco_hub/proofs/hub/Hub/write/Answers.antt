@@ -9,4 +9,5 @@ returns-in_err-ready-clause-refused c = of_error (Declines c.args.self.now c.rea
   cause = c.in_err-ready.ensures.refused;
   history = λ p stands. search (rules, c.in_err-ready.ensures.same, stands);
   given_back = c.in_err-ready.ensures.given_back;
+  docs = c.in_err-ready.ensures.same.docs;
 })
