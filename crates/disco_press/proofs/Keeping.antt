@@ -85,7 +85,7 @@ module _ (printed : List (List Note)) (roll : Rolled) (hub hub' : State) (next n
   copied_kept roll' c one put is = record {
     shown = kept.shown ∙ ap (λ (r : Rolled). r.published) (sym is);
     past = kept.past;
-    levels = subst (λ (r : Rolled). AreLevels hub' next' (notes_in r.published) r.pending kept.past) (sym is) (copied_levels hub hub' next next' (notes_in roll.published) roll.pending kept.past kept.levels c one.copied one.marked one.rest put);
+    levels = subst (λ (r : Rolled). AreLevels hub' next' (notes_in r.published) r.pending kept.past) (sym is) (copied_levels hub hub' next next' (notes_in roll.published) roll.pending kept.past kept.levels c one.copied.copied one.marked one.rest put);
     version = ap (λ (s : State). s.core.registry.version) one.rest ∙ kept.version;
   }
 

@@ -1,5 +1,5 @@
 //! The desk: what lies under the lock.
-ghost use Rattle.std.specs.Prelude.{◌≡◌, ◌≤◌, [], IfErr, IfOk, true};
+ghost use Rattle.std.specs.Prelude.{◌≡◌, ◌≤◌, [], IfErr, IfOk, OnErr, true};
 ghost use Rattle.std.specs.FinMap as finmap;
 ghost use mathlib.Core.List.{IsPrefix};
 ghost use Rattle.disco_core.specs.Refusals.{doc_of_key};
@@ -47,7 +47,7 @@ impl<J: Naming> Model for Desk<J> {
 
     ghost coded = { Prim.hlevel (codes, code) };
 
-    ghost view = { λ d. record { published = d.roll.published; pending = d.roll.pending; hub = d.hub } };
+    ghost view = { λ d. record { published = d.roll.published; pending = d.roll.pending; hub = d.hub; by_seats = d.book.total; by_none = d.loose } };
 
     ghost invariant = { λ d. IsKept d.printer d.roll d.hub d.next (d.book.total + d.loose) };
 }
@@ -63,7 +63,7 @@ impl<J: Naming> Desk<J> {
         requires roll { (roll.published ≡ []) × (roll.pending ≡ []) }
         requires printer { printer ≡ [] }
         requires book { book.total ≡ 0 }
-        ensures nothing { (result.published ≡ []) × (result.pending ≡ []) }
+        ensures nothing { (result.published ≡ []) × (result.pending ≡ []) × (result.by_seats ≡ 0) × (result.by_none ≡ 0) }
         ensures hub { IsEmptyHub settings.now result.hub }
     {
         Desk {
@@ -88,7 +88,8 @@ impl<J: Naming> Desk<J> {
     pub fn load(&mut self, key: &DocKey) -> Result<Arc<Payload, Global>, Fault>
         ensures served { IfOk result (λ d. IsDocOf self.old.hub (rules_of self.old.hub).delta key.now d.value) }
         ensures refused { IfErr result (Withholds self.old.hub (rules_of self.old.hub).delta key.now) }
-        ensures loads { Loads self.old.hub self.new.hub }
+        ensures loads { IfOk result (λ d. Loads self.old.hub self.new.hub key.now d.value) }
+        ensures as_before { OnErr result (self.new ≡ self.old) }
         ensures noted { NotesNothing self.old self.new }
     {
         self.hub.load(key)

@@ -6,7 +6,7 @@ ghost use Rattle.disco_rounds.specs.Press.{edition_of, note_of};
 ghost use Rattle.disco_rounds.specs.Rounds.{StaysOpen};
 ghost use Rattle.disco_hub.specs.State.{open_round};
 ghost use Rattle.disco_hub.specs.Transitions.{BeginsRound, CopiesOne, EndsRound, HasNoneLeft, RefusesCopy, RefusesRound};
-ghost use Rattle.disco_press.specs.Desks.{Notes, notes_of};
+ghost use Rattle.disco_press.specs.Desks.{CountsNone, Notes, notes_of};
 
 use crate::desk::Desk;
 use core::mem::replace;
@@ -22,6 +22,7 @@ impl<J: Naming> Desk<J> {
     pub fn begin(&mut self) -> Result<usize, Fault>
         ensures begun { IfOk result (BeginsRound self.old.hub self.new.hub) }
         ensures noted { OnOk result (Notes (press.begin ∷ []) self.old self.new) }
+        ensures counted { CountsNone self.old self.new }
         ensures refused { IfErr result (RefusesRound self.old.hub) }
         ensures as_before { OnErr result (self.new ≡ self.old) }
     {
@@ -36,6 +37,7 @@ impl<J: Naming> Desk<J> {
     pub fn copy_one(&mut self) -> Result<Option<Copied>, Fault>
         ensures copied { IfOk result (λ o. IfSome o (CopiesOne self.old.hub self.new.hub)) }
         ensures noted { IfOk result (λ o. IfSome o (λ c. Notes (note_of c ∷ []) self.old self.new)) }
+        ensures counted { CountsNone self.old self.new }
         ensures none { IfOk result (λ o. IfNone o (HasNoneLeft self.old.hub × (self.new ≡ self.old))) }
         ensures refused { IfErr result (RefusesCopy self.old.hub) }
         ensures as_before { OnErr result (self.new ≡ self.old) }
@@ -53,6 +55,7 @@ impl<J: Naming> Desk<J> {
     pub fn publish<R: Wait>(&mut self, rt: &R) -> Result<usize, Fault>
         ensures documents { IfOk result (λ n. n ≡ len (edition_of (notes_of self.old))) }
         ensures published { OnOk result ((self.new.published ≡ self.old.published ++ self.old.pending ∷ []) × (self.new.pending ≡ [])) }
+        ensures counted { CountsNone self.old self.new }
         ensures finished { IfOk result (EndsRound self.old.hub self.new.hub) }
         ensures refused { IfErr result (λ e. StaysOpen e (open_round self.old.hub)) }
         ensures as_before { OnErr result (self.new ≡ self.old) }

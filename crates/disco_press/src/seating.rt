@@ -61,7 +61,7 @@ pub fn open<J: Naming, R: Wait>(
 ) -> Result<(Desk<J>, Vec<Seat<J>>), Fault>
     requires seats { (0 < seats) × (seats ≤ 64) }
     requires opening { Opens J.list J.name J.parts opening }
-    ensures nothing { IfOk result (λ r. (r.0.published ≡ []) × (r.0.pending ≡ [])) }
+    ensures nothing { IfOk result (λ r. (r.0.published ≡ []) × (r.0.pending ≡ []) × (r.0.by_seats ≡ 0) × (r.0.by_none ≡ 0)) }
     ensures hub { IfOk result (λ r. IsEmptyHub settings.now r.0.hub) }
     ensures count { IfOk result (λ r. vec_len r.1 ≡ seats) }
     ensures seats { IfOk result (λ r. All (λ s. IsNew [] s) r.1.items) }

@@ -6,7 +6,7 @@ ghost use Rattle.disco_core.specs.Past.{taken_in};
 ghost use Rattle.disco_hub.specs.Expiry.{Expires, cancelled};
 ghost use Rattle.disco_hub.specs.State.{rules_of};
 ghost use Rattle.disco_hub.specs.Transitions.{Declines, KeepsRest, Writes};
-ghost use Rattle.disco_press.specs.Desks.{Notes, NotesCancels, NotesNothing, note_done};
+ghost use Rattle.disco_press.specs.Desks.{CountsByNone, CountsBySeat, Notes, NotesCancels, NotesNothing, note_done};
 
 use crate::desk::Desk;
 use crate::seat::Seat;
@@ -22,6 +22,7 @@ impl<J: Naming> Desk<J> {
         ensures done { IfOk result (λ a. Writes self.old.hub self.new.hub (ask_of op) now (done_by a)) }
         ensures proper { IfOk result (λ a. changes_properly a ≡ true) }
         ensures noted { IfOk result (λ a. Notes (note_done (done_by a)) self.old self.new) }
+        ensures counted { IfOk result (λ a. CountsByNone (length (note_done (done_by a))) self.old self.new) }
         ensures refused { IfErr result (Declines self.old.hub self.new.hub (ask_of op) now) }
         ensures not_noted { OnErr result (NotesNothing self.old self.new) }
         ensures rest { KeepsRest self.old.hub self.new.hub }
@@ -43,6 +44,7 @@ impl<J: Naming> Desk<J> {
         ensures done { IfOk result (λ a. Writes self.old.hub self.new.hub (ask_of op) now (done_by a)) }
         ensures proper { IfOk result (λ a. changes_properly a ≡ true) }
         ensures noted { IfOk result (λ a. Notes (note_done (done_by a)) self.old self.new) }
+        ensures counted { IfOk result (λ a. CountsBySeat (length (note_done (done_by a))) self.old self.new) }
         ensures count { IfOk result (λ a. seat.new ≡ record seat.old { changes = seat.old.changes + length (note_done (done_by a)) }) }
         ensures refused { IfErr result (Declines self.old.hub self.new.hub (ask_of op) now) }
         ensures not_noted { OnErr result (NotesNothing self.old self.new) }

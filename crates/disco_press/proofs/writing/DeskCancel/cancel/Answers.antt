@@ -16,7 +16,7 @@ pub returns-clause-done : goal.returns-clause-done
 returns-clause-done g c =
     let old = c.args.self.now in
     cancels old c.write.new.self c.args.now c.args.key.now
-    (one_gone old c.write.new.self c.args.now c.args.key.now c.in_ok-key.key c.in_ok-write.field-0 c.in_ok-key.ensures.cases c.in_ok-write.ensures.done c.in_ok-write.ensures.noted)
+    (one_gone old c.write.new.self c.args.now c.args.key.now c.in_ok-key.key c.in_ok-write.field-0 c.in_ok-key.ensures.cases c.in_ok-write.ensures.done c.in_ok-write.ensures.noted c.in_ok-write.ensures.counted)
 
 pub returns-clause-noted : goal.returns-clause-noted
 returns-clause-noted g c = record {
@@ -25,5 +25,5 @@ returns-clause-noted g c = record {
       let new = c.write.new.self in
       let k = c.args.key.now in
       noted_more old mid new c.args.now ks i k is did so_far
-      (one_gone mid new c.args.now k c.in_ok-key.key c.in_ok-write.field-0 c.in_ok-key.ensures.cases c.in_ok-write.ensures.done c.in_ok-write.ensures.noted);
+      (one_gone mid new c.args.now k c.in_ok-key.key c.in_ok-write.field-0 c.in_ok-key.ensures.cases c.in_ok-write.ensures.done c.in_ok-write.ensures.noted c.in_ok-write.ensures.counted);
 }
