@@ -15,7 +15,7 @@ use Rattle.disco_queue.specs.Timed.{Timed}
 use Rattle.disco_core.specs.Past.{Past, history, with_done}
 use Rattle.disco_core.specs.Refusals.{doc_of_id, doc_of_key}
 use Rattle.disco_hub.specs.State.{MayServe, StandsFor, State, rules_of}
-use Rattle.disco_hub.specs.Transitions.{Declines, IsDocOf, IsDocOfId, Loads, Withholds, WithholdsId, Writes}
+use Rattle.disco_hub.specs.Transitions.{Declines, IsDocOf, IsDocOfId, Withholds, WithholdsId, Writes}
 use Rattle.disco_message.specs.ReplyText.{Answer}
 use Rattle.disco_registry.specs.Commit.{done_by}
 use Rattle.disco_registry.specs.Op.{Ask}
@@ -95,11 +95,11 @@ refused_so s asked e now y why is = λ p stands.
 
 -- a load of a key
 pub load_so : (old new : State) (key : DocKey) (now : ℕ) (y : Answer) (r : Result (Arc Payload Global) Fault) → IfOk r (λ d. IsDocOf old (rules_of old).delta key d.value) → IfErr r (Withholds old (rules_of old).delta key)
-    → MatchResult r (λ d. y ≡ with_document d.value.text) (λ e. y ≡ refused e) → Loads old new → IsAnswered old new (Ok (loads key)) now y
+    → MatchResult r (λ d. y ≡ with_document d.value.text) (λ e. y ≡ refused e) → ((p : Past) → StandsFor old p → StandsFor new p) → IsAnswered old new (Ok (loads key)) now y
 load_so old new key now y (Ok d) may why shown on =
-    served old new now y (loads key) (λ p. document_of (rules_of old).delta key (history p)) (λ p q so. so) on.history (Ok d) (λ p stands. ap (unless (Some key)) (may.allowed p stands) ∙ ap (λ k. Ok k) (sym may.key)) may.served tt shown
+    served old new now y (loads key) (λ p. document_of (rules_of old).delta key (history p)) (λ p q so. so) on (Ok d) (λ p stands. ap (unless (Some key)) (may.allowed p stands) ∙ ap (λ k. Ok k) (sym may.key)) may.served tt shown
 load_so old new key now y (Err e) may why shown on =
-    served old new now y (loads key) (λ p. document_of (rules_of old).delta key (history p)) (λ p q so. so) on.history (Err e) tt tt (λ other p stands. ap (unless (Some key)) (why other p stands)) shown
+    served old new now y (loads key) (λ p. document_of (rules_of old).delta key (history p)) (λ p q so. so) on (Err e) tt tt (λ other p stands. ap (unless (Some key)) (why other p stands)) shown
 
 -- the document of an instance
 pub instance_so : (s : State) (key : Key) (form : Form) (now : ℕ) (y : Answer) (r : Result (Arc Payload Global) Fault) → IfOk r (λ d. IsDocOf s true (doc_of_key key form) d.value) → IfErr r (Withholds s true (doc_of_key key form))

@@ -14,7 +14,7 @@ use Rattle.disco_hub.specs.State.{rules_of}
 use Rattle.disco_message.specs.ReplyText.{Answer}
 use Rattle.disco_calls.specs.Calls.{Asks, loads, shows, shows_id, writes, lacks, seen}
 use Rattle.disco_calls.specs.declared.call.Call.{Call}
-use Rattle.disco_press.specs.Desks.{DeskState, IsValid, Notes, NotesNothing, note_done}
+use Rattle.disco_press.specs.Desks.{CountsBySeat, DeskState, IsValid, Notes, NotesNothing, note_done}
 use Rattle.disco_press.specs.Seats.{SeatState}
 use Rattle.disco_answers.specs.Desks.{IsAnsweredBySome, IsAnsweredOn}
 use Rattle.disco_answers.specs.Replies.{IsAnswered, IsReply, Replies, refused}
@@ -44,6 +44,7 @@ quiet_on old new before after asked now y quiet nothing same is = record {
   changes = [];
   noted = (nothing.0, nothing.1 ∙ sym (append-nil old.pending));
   counted = omega (arith, same);
+  by_seat = (omega (arith, nothing.2.0), nothing.2.1);
   replied = λ p stands.
       let r = is p stands in
       (r.0, r.1, ap history (still (rules_of old.hub) p r.0 asked now y quiet r.1) ∙ sym (append-nil (history p)), r.2);
@@ -64,6 +65,11 @@ module _ (old new : DeskState) where
   notes (Ok a) noted nothing = (noted.0, noted.1 ∙ ap (λ ns. old.pending ++ ns) (sym (noted_is (done_by a))))
   notes (Err e) noted nothing = (nothing.0, nothing.1 ∙ sym (append-nil old.pending))
 
+-- the desk counts what its seat counts
+pub counts_too : (old new : DeskState) (r : Result Applied Fault) → IfOk r (λ a. CountsBySeat (length (note_done (done_by a))) old new) → OnErr r (NotesNothing old new) → CountsBySeat (length (changes_by r)) old new
+counts_too old new (Ok a) counted nothing = (counted.0 ∙ ap (λ n. old.by_seats + n) (many_is (done_by a)), counted.1)
+counts_too old new (Err e) counted nothing = (omega (arith, nothing.2.0), nothing.2.1)
+
 pub counts : (before after : SeatState) (r : Result Applied Fault) → IfOk r (λ a. after ≡ record before { changes = before.changes + length (note_done (done_by a)) }) → OnErr r (after ≡ before)
     → after.changes ≡ before.changes + length (changes_by r)
 counts before after (Ok a) counted same = ap (λ (s : SeatState). s.changes) counted ∙ ap (λ n. before.changes + n) (many_is (done_by a))
@@ -82,6 +88,7 @@ refused_on d s called e is now y shown asked gives = record {
   changes = [];
   noted = (refl, sym (append-nil d.pending));
   counted = omega arith;
+  by_seat = (omega arith, refl);
   replied = refused_so d.hub asked e now y (subst (λ r. Gives seen r asked) is gives) shown;
 }
 
@@ -101,7 +108,7 @@ module _ (old new : DeskState) (before after : SeatState) (asked : Result Asks F
   -- the seat learns
   pub learnt : (new' : DeskState) → new' ≡ new → (after' : SeatState) → after'.changes ≡ after.changes → IsAnsweredOn old new' before after' asked now y
   learnt new' stays after' same =
-      subst (λ (d : DeskState). IsAnsweredOn old d before after' asked now y) (sym stays) (record { changes = so.changes; noted = so.noted; counted = same ∙ so.counted; replied = so.replied })
+      subst (λ (d : DeskState). IsAnsweredOn old d before after' asked now y) (sym stays) (record { changes = so.changes; noted = so.noted; counted = same ∙ so.counted; by_seat = so.by_seat; replied = so.replied })
 
 -- a look came before
 pub looked_before : (before mid after : SeatState) (asked : Result Asks Fault) (now : ℕ) (y : Answer) → mid.changes ≡ before.changes → IsPrefix before.known mid.known → IsAnsweredBySome mid after asked now y → IsAnsweredBySome before after asked now y
@@ -118,6 +125,7 @@ looked_before before mid after asked now y same knew so =
           changes = was.answered.changes;
           noted = was.answered.noted;
           counted = was.answered.counted ∙ ap (λ n. n + length was.answered.changes) same;
+          by_seat = was.answered.by_seat;
           replied = was.answered.replied;
         };
         knows = was.knows;

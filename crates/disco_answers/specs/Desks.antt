@@ -10,7 +10,7 @@ use Rattle.disco_cache.specs.declared.payload.Payload.{Payload}
 use Rattle.disco_core.specs.Past.{Past, history}
 use Rattle.disco_rounds.specs.Press.{change}
 use Rattle.disco_hub.specs.State.{StandsFor, rules_of, version_of}
-use Rattle.disco_press.specs.Desks.{DeskState, IsValid, Notes}
+use Rattle.disco_press.specs.Desks.{CountsBySeat, DeskState, IsValid, Notes}
 use Rattle.disco_editions.specs.Looks.{Shows}
 use Rattle.disco_editions.specs.Rolls.{notes_in}
 use Rattle.disco_press.specs.Seats.{SeatState}
@@ -19,11 +19,12 @@ use Rattle.disco_message.specs.ReplyText.{Answer}
 use Rattle.disco_calls.specs.Calls.{Asks, loads}
 use Rattle.disco_answers.specs.Replies.{IsReply, with_document}
 
--- these changes are noted, and counted by the seat; whatever has happened before, this is a reply to it, they come behind it, and the desk stands for what has happened after
+-- these changes are noted, and counted by the seat and as a seat's; whatever has happened before, this is a reply to it, they come behind it, and the desk stands for what has happened after
 pub record IsAnsweredOn (old new : DeskState) (before after : SeatState) (asked : Result Asks Fault) (now : ℕ) (y : Answer) : Type 0 where
   pub changes : List Entry
   pub noted : Notes (map change changes) old new
   pub counted : after.changes ≡ before.changes + length changes
+  pub by_seat : CountsBySeat (length changes) old new
   pub replied : (p : Past) → StandsFor old.hub p → (q : Past) × IsReply (rules_of old.hub) p asked now y q × (history q ≡ history p ++ changes) × StandsFor new.hub q
 
 -- and the desk had no fewer changes than the seat and had published what the seat knew; then the seat knows what it has published

@@ -20,14 +20,14 @@ returns-in-Instance-clause-answered g c =
     let d = c.args.desk.now in
     let s = c.args.seat.now in
     let y = answer_of text_in c.instance.result in
-    subst (λ (k : Call). IsAnsweredOn d d s s (Ok (seen k)) c.args.now y) (sym c.in-Instance.is) (quiet_on d d s s (Ok (shows c.in-Instance.key c.in-Instance.form)) c.args.now y tt (refl, refl) refl c.instance.ensures)
+    subst (λ (k : Call). IsAnsweredOn d d s s (Ok (seen k)) c.args.now y) (sym c.in-Instance.is) (quiet_on d d s s (Ok (shows c.in-Instance.key c.in-Instance.form)) c.args.now y tt (refl, refl, (refl, refl)) refl c.instance.ensures)
 
 pub returns-in-ById-clause-answered : goal.returns-in-ById-clause-answered
 returns-in-ById-clause-answered g c =
     let d = c.args.desk.now in
     let s = c.args.seat.now in
     let y = answer_of text_in c.by_id.result in
-    subst (λ (k : Call). IsAnsweredOn d d s s (Ok (seen k)) c.args.now y) (sym c.in-ById.is) (quiet_on d d s s (Ok (shows_id c.in-ById.id c.in-ById.form)) c.args.now y tt (refl, refl) refl c.by_id.ensures)
+    subst (λ (k : Call). IsAnsweredOn d d s s (Ok (seen k)) c.args.now y) (sym c.in-ById.is) (quiet_on d d s s (Ok (shows_id c.in-ById.id c.in-ById.form)) c.args.now y tt (refl, refl, (refl, refl)) refl c.by_id.ensures)
 
 pub returns-in-Write-clause-answered : goal.returns-in-Write-clause-answered
 returns-in-Write-clause-answered g c =
@@ -38,4 +38,4 @@ returns-in-Lacks-clause-answered g c =
     let d = c.args.desk.now in
     let s = c.args.seat.now in
     let y = answer_of text_in c.lacking.result in
-    subst (λ (k : Call). IsAnsweredOn d d s s (Ok (seen k)) c.args.now y) (sym c.in-Lacks.is) (quiet_on d d s s (Ok (lacks c.in-Lacks.allow)) c.args.now y tt (refl, refl) refl (lacked d.hub c.in-Lacks.allow c.args.now y c.lacking.ensures))
+    subst (λ (k : Call). IsAnsweredOn d d s s (Ok (seen k)) c.args.now y) (sym c.in-Lacks.is) (quiet_on d d s s (Ok (lacks c.in-Lacks.allow)) c.args.now y tt (refl, refl, (refl, refl)) refl (lacked d.hub c.in-Lacks.allow c.args.now y c.lacking.ensures))

@@ -4,7 +4,7 @@ use Rattle.disco_message.specs.declared.status_line.StatusLine.{StatusLine}
 use Rattle.disco_registry.specs.Op.{ask_of}
 use Rattle.disco_answers.specs.Replies.{plain, refused, text_in}
 use Rattle.disco_answers.proofs.Answering.{changes_by, written}
-use Rattle.disco_answers.proofs.Noting.{counts, notes}
+use Rattle.disco_answers.proofs.Noting.{counts, counts_too, notes}
 use Rattle.disco_answers.proofs.desk.write.Goals as goal
 
 pub returns-clause-answered : goal.returns-clause-answered
@@ -16,5 +16,6 @@ returns-clause-answered g c =
       changes = changes_by c.write_as.result;
       noted = notes c.args.desk.now c.write_as.new.self c.write_as.result w.noted w.not_noted;
       counted = counts c.args.seat.now c.write_as.new.seat c.write_as.result w.count w.not_counted;
+      by_seat = counts_too c.args.desk.now c.write_as.new.self c.write_as.result w.counted w.not_noted;
       replied = written c.args.desk.now.hub c.write_as.new.self.hub c.args.now y (ask_of c.args.op) c.write_as.result w.done w.refused shown;
     }
