@@ -110,14 +110,14 @@ module _ (old new : Levels) (w : World) (was : AreLevelsOf old w) where
   pub copied_turns : (c : Copied) → Copies old new c → IsAnswer (rules_of old.hub) w copies (reply.Copied c) × AreLevelsOf new (after (rules_of old.hub) w copies (reply.Copied c))
   copied_turns c is =
       let m = is.one.marked in
-      let levels = copied_levels old.hub new.hub old.next new.next s.published s.pending w.past was.levels c is.one.copied m is.one.rest is.next in
+      let levels = copied_levels old.hub new.hub old.next new.next s.published s.pending w.past was.levels c is.one.copied.copied m is.one.rest is.next in
       let left : left_in s ≡ Some (length m.after.left + 1) = was.keys ∙ ap many_left m.was ∙ ap (λ (ks : List DocKey). Some (length ks)) m.marks.first ∙ ap Some (omega arith) in
       let before = was.levels.pressed.in_step.steps ∙ ap steps_to m.was in
       let steps = levels.pressed.in_step.steps ∙ ap (λ (r : Rounds). steps_to r.round) m.round in
       let one : length (map Some m.after.done) ≡ length (map Some m.before.done) + 1 =
       ap (λ (d : List (DocKey × Bool)). length (map Some d)) m.marks.done ∙ length-map (m.before.done ++ (m.marks.key, is_doc c) ∷ []) Some ∙ length-append m.before.done ((m.marks.key, is_doc c) ∷ []) ∙ ap (λ n. n + 1) (sym (length-map m.before.done Some)) in
       let few : Some (s.keys - length (map Some m.before.done)) ≡ Some (suc (length m.after.left)) = sym (ap (left_after s.keys) before) ∙ left ∙ ap Some (omega arith) in
-      let it = copied_is old.hub new.hub old.next new.next s.published s.pending w.past was.levels c is.one.copied m.before m.marks.key m.after.left m.was m.marks.first in (
+      let it = copied_is old.hub new.hub old.next new.next s.published s.pending w.past was.levels c is.one.copied.copied m.before m.marks.key m.after.left m.was m.marks.first in (
         (length m.after.left, left, of_key c m.marks.key it),
         record {
           levels = levels;

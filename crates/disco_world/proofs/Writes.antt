@@ -9,7 +9,7 @@ use Rattle.disco_core.specs.Past.{Past, after_ask, history, with_done}
 use Rattle.disco_core.specs.State.{Rules}
 use Rattle.disco_rounds.specs.Press.{change}
 use Rattle.disco_hub.specs.State.{State, StandsFor, rules_of}
-use Rattle.disco_hub.specs.Transitions.{Declines, IsDocOf, Loads, Withholds, Writes}
+use Rattle.disco_hub.specs.Transitions.{Declines, IsDocOf, Withholds, Writes}
 use Rattle.disco_query.specs.declared.key.DocKey.{DocKey}
 use Rattle.disco_cache.specs.declared.payload.Payload.{Payload}
 use Rattle.std.specs.declared.alloc.Global.{Global}
@@ -95,10 +95,10 @@ nothing_then rules p asked f = one (ran_out (Refused f))
     one true = refl
     one false = refl
 
-pub loads_so : (old new : State) (key : DocKey) (r : Result (Arc Payload Global) Fault) → IfOk r (λ d. IsDocOf old (rules_of old).delta key d.value) → IfErr r (Withholds old (rules_of old).delta key) → Loads old new → Does old new (λ w. loads (loaded (rules_of old).delta key (history w.past))) (reply_of r)
-loads_so old new key (Ok d) may refused on = λ w stands. ((ap (unless key) (may.allowed w.past stands) ∙ ap (λ k. Ok k) (sym may.key), may.served w.past stands), on.history w.past stands)
+pub loads_so : (old new : State) (key : DocKey) (r : Result (Arc Payload Global) Fault) → IfOk r (λ d. IsDocOf old (rules_of old).delta key d.value) → IfErr r (Withholds old (rules_of old).delta key) → ((p : Past) → StandsFor old p → StandsFor new p) → Does old new (λ w. loads (loaded (rules_of old).delta key (history w.past))) (reply_of r)
+loads_so old new key (Ok d) may refused on = λ w stands. ((ap (unless key) (may.allowed w.past stands) ∙ ap (λ k. Ok k) (sym may.key), may.served w.past stands), on w.past stands)
 loads_so old new key (Err e) may refused on = λ w stands.
-    (λ other. ap (unless key) (refused other w.past stands), subst (StandsFor new) (sym (nothing_then (rules_of old) w.past (loaded (rules_of old).delta key (history w.past)) e)) (on.history w.past stands))
+    (λ other. ap (unless key) (refused other w.past stands), subst (StandsFor new) (sym (nothing_then (rules_of old) w.past (loaded (rules_of old).delta key (history w.past)) e)) (on w.past stands))
 
 -- a deed of the hub leaves the clients
 pub clients_stay : (clients : ℕ → Option Client) (what : Deed) (r : Bool) → clients_done clients what ≡ clients → cond r clients (clients_done clients what) ≡ clients
