@@ -1,7 +1,8 @@
 -- Runs of events, one event on.
-use Rattle.std.proofs.Common.{◌≡◌, ℕ, zero, suc, ◌+◌, ◌<◌, ◌≤◌, List, [], ◌∷◌, ◌++◌, length, get_or, Option, Some, None, Result, option_map, slice_get, refl, sym, ap, subst, ◌∙◌, arith, length-append, add-one}
+use Rattle.std.proofs.Common.{◌≡◌, ℕ, zero, suc, ◌+◌, ◌<◌, ◌≤◌, List, [], ◌∷◌, ◌++◌, length, get_or, cond, if◌then◌else◌, nat_lt, Option, Some, None, Result, option_map, slice_get, refl, sym, ap, subst, ◌∙◌, arith, length-append, add-one}
 use Rattle.std.specs.declared.alloc.Global.{Global}
 use Rattle.std.specs.declared.sync.Arc.{Arc}
+use Rattle.std.proofs.lemmas.Bool.{le-ltb, lt-ltb}
 use Rattle.std.proofs.lemmas.Option.{slice_get-get_or, same_Some}
 use Rattle.disco_cache.specs.declared.payload.Payload.{Payload}
 use Rattle.disco_core.specs.State.{Rules}
@@ -13,6 +14,7 @@ use Rattle.disco_hub.proofs.Levels.{first_levels}
 use Rattle.disco_rounds.proofs.Pressed.{first_pressed}
 use Rattle.std.specs.FinMap.{empty}
 use Rattle.disco_world.specs.Answers.{AreAnswers, AreServed, IsAnswer, IsFirstBadEvent, IsPressed, IsServed, key_asked}
+use Rattle.disco_world.specs.Caching.{AreCached, Cache, Caches, new_cache}
 use Rattle.disco_world.specs.Levels.{AreLevelsOf, Goes}
 use Rattle.disco_world.specs.declared.levels.Levels.{Levels}
 use Rattle.disco_world.proofs.Editions.{Sees, ShowsFresh, sees_at}
@@ -20,7 +22,7 @@ use Rattle.disco_values.specs.declared.fault.Fault.{Fault}
 use Rattle.disco_values.specs.declared.fault.Fault.TheVariants.{BadEvent}
 use Rattle.disco_query.specs.declared.key.DocKey.{DocKey}
 use Rattle.disco_world.specs.Events.{Deed, World, writes, loads, cleans, closes, expires, begins, copies, publishes, looks, takes, shows, bad, after, after_at, deed, new_world, world}
-use Rattle.disco_world.specs.Steps.{AreHeld}
+use Rattle.disco_world.specs.Steps.{AreHeld, cache_of}
 use Rattle.disco_world.specs.declared.clients.Client.{Client}
 use Rattle.disco_world.specs.declared.event.Event.{Event}
 use Rattle.disco_world.specs.declared.event.Reply.{Reply}
@@ -84,11 +86,31 @@ world-suc rules es rs i e r event reply = ap (world rules es rs) (add-one i) ∙
 abbrev pub IsPressedAt : Rules → List Event → List Reply → ℕ → Type 0
 IsPressedAt rules es rs k = let w = world rules es rs k in (edition : KeySet) × (round : Option Round) × IsPressed w.press (history w.past) edition round
 
+-- and it is so with the rounds of a cache
+abbrev pub IsPressedBy : Rules → List Event → List Reply → ℕ → Cache → Type 0
+IsPressedBy rules es rs k s = let w = world rules es rs k in IsPressed w.press (history w.past) s.rounds.edition s.rounds.round
+
+-- the event of index k leaves this
+abbrev pub CachesAt : Rules → List Event → List Reply → ℕ → Event → Reply → Cache → Cache → Type 0
+CachesAt rules es rs k e r old new = let w = world rules es rs k in Caches rules w.past (deed rules w e) r old new
+
+-- what was kept and copied, up to the first i events, which leave this
+pub record IsCourse (most : ℕ) (rules : Rules) (es : List Event) (rs : List Reply) (i : ℕ) (now : Cache) : Type 0 where
+  pub caches : ℕ → Cache
+  pub first : caches 0 ≡ new_cache most
+  pub last : caches i ≡ now
+  pub each : (k : ℕ) (e : Event) (r : Reply) → slice_get es k ≡ Some e → slice_get rs k ≡ Some r → CachesAt rules es rs k e r (caches k) (caches (k + 1))
+  pub pressed : (k : ℕ) → k ≤ i → IsPressedBy rules es rs k (caches k)
+
+-- what was noted is in step with the rounds of some cache
+pub some_pressed : (most : ℕ) (rules : Rules) (es : List Event) (rs : List Reply) (i : ℕ) (now : Cache) → IsCourse most rules es rs i now → (k : ℕ) → k ≤ i → IsPressedAt rules es rs k
+some_pressed most rules es rs i now course k le = ((course.caches k).rounds.edition, (course.caches k).rounds.round, course.pressed k le)
+
 -- what is true of a run after its first i events
-pub record IsRun (rules : Rules) (es : List Event) (rs : List Reply) (i : ℕ) (s : Levels) (clients : ℕ → Option Client) : Type 0 where
+pub record IsRun (most : ℕ) (rules : Rules) (es : List Event) (rs : List Reply) (i : ℕ) (s : Levels) (clients : ℕ → Option Client) : Type 0 where
   pub count : length rs ≡ i
   pub levels : AreLevelsOf s (world rules es rs i)
-  pub pressed : (k : ℕ) → k ≤ i → IsPressedAt rules es rs k
+  pub course : IsCourse most rules es rs i (cache_of s.hub)
   pub held : AreHeld clients (world rules es rs i)
   pub replies : (world rules es rs i).replies ≡ rs
   pub rules_are : rules_of s.hub ≡ rules
@@ -119,23 +141,64 @@ module _ (rules : Rules) (es : List Event) (rs : List Reply) (i : ℕ) (e : Even
   pub answers_more : answers_event rules (world rules es rs i) e r → AreAnswers rules es rs → AreAnswers rules es (rs ++ r ∷ [])
   answers_more here so_far = λ k f q ev rep. answer_at here so_far k f q ev rep (place_of k (length rs))
 
-  pressed_at : (new : Levels) → AreLevelsOf new (after_event rules (world rules es rs i) e r) → ((k : ℕ) → k ≤ i → IsPressedAt rules es rs k) → (k : ℕ) → k ≤ i + 1 → Place k (i + 1) → IsPressedAt rules es (rs ++ r ∷ []) k
-  pressed_at new levels so_far k le (below lt) =
-      subst (λ (w : World). (edition : KeySet) × (round : Option Round) × IsPressed w.press (history w.past) edition round) (sym (same_front k (omega (arith, lt, count)))) (so_far k (omega (arith, lt)))
-  pressed_at new levels so_far k le (at is) =
-      subst (λ n. IsPressedAt rules es (rs ++ r ∷ []) n) (sym is)
-      (subst (λ (w : World). (edition : KeySet) × (round : Option Round) × IsPressed w.press (history w.past) edition round) (sym world_next) (new.hub.rounds.edition, new.hub.rounds.round, record { pressed = levels.levels.pressed; keys = levels.keys }))
-  pressed_at new levels so_far k le (beyond lt) = absurd (omega (arith, le, lt))
+  -- what is kept after the event comes last
+  abbrev extended : (ℕ → Cache) → Cache → ℕ → Cache
+  extended caches new k = if nat_lt k (i + 1) then caches k else new
 
-  pub run_more : (old new : Levels) (held now : ℕ → Option Client) → IsRun rules es rs i old held
-      → ((w : World) → w.replies ≡ rs → AreHeld held w → AreLevelsOf old w → Goes (rules_of old.hub) w e r new now) → rules_of new.hub ≡ rules_of old.hub → IsRun rules es (rs ++ r ∷ []) (i + 1) new now
-  run_more old new held now run goes same =
+  before_it : (caches : ℕ → Cache) (new : Cache) (k : ℕ) → k < i + 1 → extended caches new k ≡ caches k
+  before_it caches new k lt = ap (λ b. cond b (caches k) new) (lt-ltb k (i + 1) lt)
+
+  after_it : (caches : ℕ → Cache) (new : Cache) (k : ℕ) → k ≡ i + 1 → extended caches new k ≡ new
+  after_it caches new k is = ap (λ b. cond b (caches k) new) (le-ltb k (i + 1) (omega (arith, is)))
+
+  module _ (most : ℕ) (old new : Cache) (course : IsCourse most rules es rs i old) where
+    abbrev at_each : ℕ → Cache
+    at_each = extended course.caches new
+
+    here_is : Caches rules (world rules es rs i).past (deed rules (world rules es rs i) e) r old new → CachesAt rules es (rs ++ r ∷ []) i e r (at_each i) (at_each (i + 1))
+    here_is here =
+        subst (λ x. x) (λ j. let w = sym (same_front i (omega (arith, count))) j in Caches rules w.past (deed rules w e) r (sym (before_it course.caches new i (omega arith) ∙ course.last) j) (sym (after_it course.caches new (i + 1) refl) j)) here
+
+    each_at : Caches rules (world rules es rs i).past (deed rules (world rules es rs i) e) r old new → (k : ℕ) (f : Event) (q : Reply) → slice_get es k ≡ Some f → slice_get (rs ++ r ∷ []) k ≡ Some q → Place k (length rs)
+        → CachesAt rules es (rs ++ r ∷ []) k f q (at_each k) (at_each (k + 1))
+    each_at here k f q ev rep (below lt) =
+        let so_far = course.each k f q ev (sym (get_front rs r k lt) ∙ rep) in
+        subst (λ x. x) (λ j. let w = sym (same_front k (omega (arith, lt))) j in Caches rules w.past (deed rules w f) q (sym (before_it course.caches new k (omega (arith, lt, count))) j) (sym (before_it course.caches new (k + 1) (omega (arith, lt, count))) j)) so_far
+    each_at here k f q ev rep (at is) =
+        let same_k : k ≡ i = is ∙ count in
+        let same_e : e ≡ f = same_Some e f (sym event ∙ ap (slice_get es) (sym same_k) ∙ ev) in
+        let same_r : r ≡ q = same_Some r q (sym last_reply ∙ ap (slice_get (rs ++ r ∷ [])) (sym same_k) ∙ rep) in
+        subst (λ x. x) (λ j. CachesAt rules es (rs ++ r ∷ []) (sym same_k j) (same_e j) (same_r j) (at_each (sym same_k j)) (at_each (sym same_k j + 1))) (here_is here)
+    each_at here k f q ev rep (beyond lt) = absurd (let bad = sym (get_past rs r k lt) ∙ rep in cc)
+
+    pressed_at : (levels : Levels) → cache_of levels.hub ≡ new → AreLevelsOf levels (after_event rules (world rules es rs i) e r) → (k : ℕ) → k ≤ i + 1 → Place k (i + 1) → IsPressedBy rules es (rs ++ r ∷ []) k (at_each k)
+    pressed_at levels is_new are k le (below lt) =
+        subst (λ x. x) (λ j. let w = sym (same_front k (omega (arith, lt, count))) j in let s = sym (before_it course.caches new k lt) j in IsPressed w.press (history w.past) s.rounds.edition s.rounds.round) (course.pressed k (omega (arith, lt)))
+    pressed_at levels is_new are k le (at is) =
+        let here : IsPressed (after_event rules (world rules es rs i) e r).press (history (after_event rules (world rules es rs i) e r).past) levels.hub.rounds.edition levels.hub.rounds.round = record { pressed = are.levels.pressed; keys = are.keys } in
+        subst (λ n. IsPressedBy rules es (rs ++ r ∷ []) n (at_each n)) (sym is)
+        (subst (λ x. x) (λ j. let w = sym world_next j in let s = (is_new ∙ sym (after_it course.caches new (i + 1) refl)) j in IsPressed w.press (history w.past) s.rounds.edition s.rounds.round) here)
+    pressed_at levels is_new are k le (beyond lt) = absurd (omega (arith, le, lt))
+
+    pub course_more : (levels : Levels) → cache_of levels.hub ≡ new → AreLevelsOf levels (after_event rules (world rules es rs i) e r) → Caches rules (world rules es rs i).past (deed rules (world rules es rs i) e) r old new
+        → IsCourse most rules es (rs ++ r ∷ []) (i + 1) new
+    course_more levels is_new are here = record {
+      caches = at_each;
+      first = before_it course.caches new 0 (omega arith) ∙ course.first;
+      last = after_it course.caches new (i + 1) refl;
+      each = λ k f q ev rep. each_at here k f q ev rep (place_of k (length rs));
+      pressed = λ k le. pressed_at levels is_new are k le (place_of k (i + 1));
+    }
+
+  pub run_more : (most : ℕ) (old new : Levels) (held now : ℕ → Option Client) → IsRun most rules es rs i old held
+      → ((w : World) → w.replies ≡ rs → AreHeld held w → AreLevelsOf old w → Goes (rules_of old.hub) w e r old.hub new now) → rules_of new.hub ≡ rules_of old.hub → IsRun most rules es (rs ++ r ∷ []) (i + 1) new now
+  run_more most old new held now run goes same =
       let w = world rules es rs i in
-      let done : Goes rules w e r new now = subst (λ l. Goes l w e r new now) run.rules_are (goes w run.replies run.held run.levels) in
+      let done : Goes rules w e r old.hub new now = subst (λ l. Goes l w e r old.hub new now) run.rules_are (goes w run.replies run.held run.levels) in
       record {
         count = length-append rs (r ∷ []) ∙ ap (λ n. n + 1) count;
         levels = subst (AreLevelsOf new) (sym world_next) done.1;
-        pressed = λ k le. pressed_at new done.1 run.pressed k le (place_of k (i + 1));
+        course = course_more most (cache_of old.hub) (cache_of new.hub) run.course new refl done.1 done.3;
         held = subst (AreHeld now) (sym world_next) done.2;
         replies = ap (λ (x : World). x.replies) world_next ∙ ap (λ xs. xs ++ r ∷ []) run.replies;
         rules_are = same ∙ run.rules_are;
@@ -191,9 +254,9 @@ served rules es rs answers fresh = λ i e d event is.
 
 -- ---- the first event that can't be run
 
-pub first_bad : (rules : Rules) (es : List Event) (rs : List Reply) (i : ℕ) (e : Event) (n : ℕ) (s : Levels) (held : ℕ → Option Client) → IsRun rules es rs i s held → slice_get es i ≡ Some e → n ≡ length rs
+pub first_bad : (most : ℕ) (rules : Rules) (es : List Event) (rs : List Reply) (i : ℕ) (e : Event) (n : ℕ) (s : Levels) (held : ℕ → Option Client) → IsRun most rules es rs i s held → slice_get es i ≡ Some e → n ≡ length rs
     → ((w : World) → w.replies ≡ rs → deed (rules_of s.hub) w e ≡ bad) → IsFirstBadEvent rules es (BadEvent (n + 1))
-first_bad rules es rs i e n s held run event number is = record {
+first_bad most rules es rs i e n s held run event number is = record {
   replies = rs;
   event = e;
   before = run.answers;
@@ -213,17 +276,37 @@ no_answers rules es rs none = λ i event reply ev is. absurd (let bad = ap (λ x
 
 -- ---- nothing has happened yet
 
-pub new_levels : (s : Levels) → StandsFor s.hub nothing → s.hub.rounds ≡ record { edition = empty; round = None } → s.published ≡ empty → AreLevelsOf s new_world
-new_levels s stands rounds published = record {
-  levels = first_levels s.hub s.next stands rounds;
-  keys = ap (λ (r : Rounds). option_map (λ (x : Round). length x.left) r.round) (sym rounds);
-  published = published;
+pub new_levels : (s : Levels) → StandsFor s.hub nothing → cache_of s.hub ≡ new_cache s.hub.docs.max → s.published ≡ empty → AreLevelsOf s new_world
+new_levels s stands cache published =
+    let rounds : s.hub.rounds ≡ record { edition = empty; round = None } = ap (λ (c : Cache). c.rounds) cache in
+    record {
+      levels = first_levels s.hub s.next stands rounds;
+      keys = ap (λ (r : Rounds). option_map (λ (x : Round). length x.left) r.round) (sym rounds);
+      published = published;
+    }
+
+new_pressed : (rules : Rules) (es : List Event) (rs : List Reply) (most : ℕ) (k : ℕ) → k ≤ 0 → IsPressedBy rules es rs k (new_cache most)
+unfolding world
+new_pressed rules es rs most zero le = record { pressed = first_pressed; keys = refl }
+new_pressed rules es rs most (suc k) le = absurd (omega (arith, le))
+
+pub new_course : (most : ℕ) (rules : Rules) (es : List Event) (rs : List Reply) (now : Cache) → rs ≡ [] → now ≡ new_cache most → IsCourse most rules es rs 0 now
+new_course most rules es rs now none is = record {
+  caches = λ k. new_cache most;
+  first = refl;
+  last = sym is;
+  each = λ k e r ev rep. absurd (let bad = ap (λ xs. slice_get xs k) (sym none) ∙ rep in cc);
+  pressed = λ k le. new_pressed rules es rs most k le;
 }
 
-pub new_pressed : (rules : Rules) (es : List Event) (rs : List Reply) (k : ℕ) → k ≤ 0 → IsPressedAt rules es rs k
-unfolding world
-new_pressed rules es rs zero le = (empty, None, record { pressed = first_pressed; keys = refl })
-new_pressed rules es rs (suc k) le = absurd (omega (arith, le))
+-- all that was kept and copied
+pub all_cached : (most : ℕ) (rules : Rules) (es : List Event) (rs : List Reply) (i : ℕ) (now : Cache) → length rs ≡ i → IsCourse most rules es rs i now → AreCached most rules es rs
+all_cached most rules es rs i now count course = record {
+  caches = course.caches;
+  first = course.first;
+  each = course.each;
+  pressed = λ k le. course.pressed k (omega (arith, le, count));
+}
 
 -- ---- past the last reply nothing happens
 

@@ -1,5 +1,5 @@
 -- What each deed does to the two levels of documents.
-use Rattle.std.proofs.Common.{◌≡◌, ℕ, suc, ◌+◌, ◌-◌, ◌≤◌, Bool, true, false, cond, List, [], ◌∷◌, ◌++◌, length, map, fold, nat_lt, Option, Some, None, option_map, refl, sym, ap, subst, ◌∙◌, arith}
+use Rattle.std.proofs.Common.{◌≡◌, ℕ, suc, ◌+◌, ◌-◌, ◌≤◌, Bool, true, false, cond, List, [], ◌∷◌, ◌++◌, length, map, fold, nat_lt, Option, Some, None, IfSome, option_map, slice_get, refl, sym, ap, subst, ◌∙◌, arith}
 use Rattle.std.proofs.lemmas.List.{length-append, length-map, take-append-drop}
 use Rattle.std.proofs.lemmas.Option.{same_Some}
 use Rattle.std.specs.FinMap.{empty, get, insert, keys, len, len-entries, len-insert}
@@ -16,16 +16,19 @@ use Rattle.disco_core.specs.State.{Rules}
 use Rattle.disco_hub.specs.Levels.{AreLevels}
 use Rattle.disco_rounds.specs.Press.{Edition, change, edition_of, steps_to}
 use Rattle.disco_rounds.specs.Rounds.{KeySet, Round, Rounds, StaysOpen, add_within, round_keys}
-use Rattle.disco_hub.specs.State.{IsCopied, StandsFor, rules_of}
+use Rattle.disco_hub.specs.Kept.{IsCopiedAsKept}
+use Rattle.disco_hub.specs.State.{IsCopied, State, StandsFor, rules_of}
 use Rattle.disco_hub.specs.Transitions.{BeginsRound, EndsRound}
 use Rattle.disco_rounds.specs.Press.{is_doc, key_of_copy}
 use Rattle.disco_rounds.specs.declared.copied.Copied.{Copied}
 use Rattle.disco_rounds.specs.declared.copied.Copied.TheVariants as copied
 use Rattle.disco_rounds.proofs.KeySets.{same_len}
-use Rattle.disco_hub.proofs.Levels.{begun_levels, copied_is, copied_levels, ended_edition, ended_levels, plain_levels}
+use Rattle.disco_hub.proofs.Levels.{begun_levels, copied_is, copied_levels, ended_edition, ended_len, ended_levels, plain_levels}
 use Rattle.disco_world.specs.Answers.{IsAnswer}
 use Rattle.disco_world.specs.Events.{Deed, World, begins, copies, publishes, looks, after, changes_since, past_after, past_done, ran_out}
+use Rattle.disco_world.specs.Caching.{Caches, IsNext}
 use Rattle.disco_world.specs.Levels.{AreLevelsOf, Copies, Looks}
+use Rattle.disco_world.specs.Steps.{cache_of}
 use Rattle.disco_world.specs.Rounds.{Press, all_of, left_after, left_in, unfinished}
 use Rattle.disco_world.specs.declared.event.Reply.{Reply}
 use Rattle.disco_world.specs.declared.event.Reply.TheVariants as reply
@@ -82,7 +85,7 @@ module _ (old new : Levels) (w : World) (was : AreLevelsOf old w) where
   s = w.press
 
   pub begun_turns : (n : ℕ) → BeginsRound old.hub new.hub n → new.published ≡ old.published → new.next ≡ empty
-      → IsAnswer (rules_of old.hub) w begins (reply.Begun n) × AreLevelsOf new (after (rules_of old.hub) w begins (reply.Begun n))
+      → IsAnswer (rules_of old.hub) w begins (reply.Begun n) × AreLevelsOf new (after (rules_of old.hub) w begins (reply.Begun n)) × Caches (rules_of old.hub) w.past begins (reply.Begun n) (cache_of old.hub) (cache_of new.hub)
   begun_turns n begins_round published next =
       let is = begins_round.begun in
       let edition = old.hub.rounds.edition in
@@ -95,6 +98,7 @@ module _ (old new : Levels) (w : World) (was : AreLevelsOf old w) where
           keys = ap (left_after n) steps ∙ ap Some (omega (arith, is.many)) ∙ ap (λ (r : Rounds). many_left r.round) (sym is.round);
           published = published ∙ was.published;
         },
+        (is, ap (λ (h : State). h.docs) begins_round.rest),
       )
 
   fewer : (n a b c : ℕ) → Some (n - a) ≡ Some (suc b) → c ≡ a + 1 → n - c ≡ b
@@ -107,7 +111,24 @@ module _ (old new : Levels) (w : World) (was : AreLevelsOf old w) where
   of_key (copied.Doc d) k it = (refl, it.1)
   of_key (copied.Drop j) k it = (refl, gone_key j k it)
 
-  pub copied_turns : (c : Copied) → Copies old new c → IsAnswer (rules_of old.hub) w copies (reply.Copied c) × AreLevelsOf new (after (rules_of old.hub) w copies (reply.Copied c))
+  -- it is of the first key that is left, and as it is kept
+  key_is : (c : Copied) (k : DocKey) (p : Past) → IsCopied k c p → key_of_copy c ≡ k
+  key_is (copied.Doc d) k p it = it.0
+  key_is (copied.Drop j) k p it = it.0
+
+  both_of : (P Q R : DocKey → Type 0) (o : Option DocKey) → ((k : DocKey) → P k → R k) → IfSome o P → IfSome o Q → IfSome o (λ k. R k × Q k)
+  both_of P Q R None f p q = tt
+  both_of P Q R (Some k) f p q = (f k p, q)
+
+  both_in : (P Q R : DocKey → Type 0) (o : Option Round) → ((k : DocKey) → P k → R k) → IfSome o (λ r. IfSome (slice_get r.left 0) P) → IfSome o (λ r. IfSome (slice_get r.left 0) Q) → IfSome o (λ r. IfSome (slice_get r.left 0) (λ k. R k × Q k))
+  both_in P Q R None f p q = tt
+  both_in P Q R (Some r) f p q = both_of P Q R (slice_get r.left 0) f p q
+
+  next_is : (h : State) (c : Copied) → ((p : Past) → StandsFor h p → IfSome h.rounds.round (λ r. IfSome (slice_get r.left 0) (λ k. IsCopied k c p))) → (p : Past) → StandsFor h p
+      → IfSome h.rounds.round (λ r. IfSome (slice_get r.left 0) (λ k. IsCopiedAsKept h.docs k c)) → IsNext (cache_of h) c
+  next_is h c copied p stands kept = both_in (λ k. IsCopied k c p) (λ k. IsCopiedAsKept h.docs k c) (λ k. key_of_copy c ≡ k) h.rounds.round (λ k it. key_is c k p it) (copied p stands) kept
+
+  pub copied_turns : (c : Copied) → Copies old new c → IsAnswer (rules_of old.hub) w copies (reply.Copied c) × AreLevelsOf new (after (rules_of old.hub) w copies (reply.Copied c)) × Caches (rules_of old.hub) w.past copies (reply.Copied c) (cache_of old.hub) (cache_of new.hub)
   copied_turns c is =
       let m = is.one.marked in
       let levels = copied_levels old.hub new.hub old.next new.next s.published s.pending w.past was.levels c is.one.copied.copied m is.one.rest is.next in
@@ -124,10 +145,11 @@ module _ (old new : Levels) (w : World) (was : AreLevelsOf old w) where
           keys = ap (left_after s.keys) steps ∙ ap Some (fewer s.keys (length (map Some m.before.done)) (length m.after.left) (length (map Some m.after.done)) few one) ∙ ap (λ (r : Rounds). many_left r.round) (sym m.round);
           published = is.published ∙ was.published;
         },
+        (next_is old.hub c is.one.copied.copied w.past was.levels.stands is.one.copied.as_kept, m, ap (λ (h : State). h.docs) is.one.rest),
       )
 
   pub published_turns : (n k : ℕ) → EndsRound old.hub new.hub k → new.published ≡ old.next → n ≡ len new.published
-      → IsAnswer (rules_of old.hub) w publishes (reply.Published n) × AreLevelsOf new (after (rules_of old.hub) w publishes (reply.Published n))
+      → IsAnswer (rules_of old.hub) w publishes (reply.Published n) × AreLevelsOf new (after (rules_of old.hub) w publishes (reply.Published n)) × Caches (rules_of old.hub) w.past publishes (reply.Published n) (cache_of old.hub) (cache_of new.hub)
   published_turns n k ends published many =
       let is = ends.finished in
       let none : left_in s ≡ Some 0 = was.keys ∙ ap many_left is.was ∙ ap (λ (ks : List DocKey). Some (length ks)) is.whole in
@@ -138,6 +160,7 @@ module _ (old new : Levels) (w : World) (was : AreLevelsOf old w) where
           keys = ap (λ (r : Rounds). many_left r.round) (sym is.edition);
           published = shown;
         },
+        (record { round = is.round; was = is.was; whole = is.whole; edition = is.edition; many = many ∙ ap (λ (m : Edition). len m) shown ∙ ended_len old.hub new.hub old.next new.next s.published s.pending w.past was.levels k is }, ap (λ (h : State). h.docs) ends.rest),
       )
 
 -- ---- what changes nothing
@@ -163,8 +186,8 @@ module _ (old new : Levels) (w : World) (was : AreLevelsOf old w) (same : new �
       → (after (rules_of old.hub) w what r).press ≡ record w.press { pending = w.press.pending ++ map change (changes_since w.past (past_after (rules_of old.hub) w.past what r)) } → AreLevelsOf new (after (rules_of old.hub) w what r)
   quiet_turns what r is press = unchanged (after (rules_of old.hub) w what r) (past_stays what r is) press
 
-  pub refused_publish : (f : Fault) → StaysOpen f old.hub.rounds.round → IsAnswer (rules_of old.hub) w publishes (reply.Refused f) × AreLevelsOf new (after (rules_of old.hub) w publishes (reply.Refused f))
-  refused_publish f stays = (ap unfinished was.keys ∙ why old.hub.rounds.round stays, unchanged (after (rules_of old.hub) w publishes (reply.Refused f)) (past_stays publishes (reply.Refused f) refl) refl)
+  pub refused_publish : (f : Fault) → StaysOpen f old.hub.rounds.round → IsAnswer (rules_of old.hub) w publishes (reply.Refused f) × AreLevelsOf new (after (rules_of old.hub) w publishes (reply.Refused f)) × Caches (rules_of old.hub) w.past publishes (reply.Refused f) (cache_of old.hub) (cache_of new.hub)
+  refused_publish f stays = (ap unfinished was.keys ∙ why old.hub.rounds.round stays, unchanged (after (rules_of old.hub) w publishes (reply.Refused f)) (past_stays publishes (reply.Refused f) refl) refl, ap (λ (l : Levels). cache_of l.hub) same)
     where
       some_left : (ks : List DocKey) → (ks ≡ [] → ⊥) → unfinished (Some (length ks)) ≡ Some KeysLeft
       some_left [] left = absurd (left refl)

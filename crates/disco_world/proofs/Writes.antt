@@ -1,5 +1,5 @@
 -- What a hub answers to a write, and what it stands for then.
-use Rattle.std.proofs.Common.{◌≡◌, ◌≢◌, ℕ, ◌+◌, Bool, true, false, cond, [], ◌∷◌, ◌++◌, length, map, Option, Some, Result, Ok, Err, IfOk, IfErr, refl, sym, ap, subst, ◌∙◌}
+use Rattle.std.proofs.Common.{◌≡◌, ◌≢◌, ℕ, ◌+◌, Bool, true, false, cond, [], ◌∷◌, ◌++◌, length, map, Option, Some, Result, Ok, Err, IfOk, IfErr, OnErr, refl, sym, ap, subst, ◌∙◌}
 use Rattle.std.proofs.lemmas.List.{length-append, length-map}
 use Rattle.disco_instance.specs.Instance.{Gives}
 use Rattle.disco_values.specs.declared.fault.Fault.{Fault}
@@ -9,7 +9,7 @@ use Rattle.disco_core.specs.Past.{Past, after_ask, history, with_done}
 use Rattle.disco_core.specs.State.{Rules}
 use Rattle.disco_rounds.specs.Press.{change}
 use Rattle.disco_hub.specs.State.{State, StandsFor, rules_of}
-use Rattle.disco_hub.specs.Transitions.{Declines, IsDocOf, Withholds, Writes}
+use Rattle.disco_hub.specs.Transitions.{Declines, IsDocOf, Loads, Withholds, Writes}
 use Rattle.disco_query.specs.declared.key.DocKey.{DocKey}
 use Rattle.disco_cache.specs.declared.payload.Payload.{Payload}
 use Rattle.std.specs.declared.alloc.Global.{Global}
@@ -26,7 +26,11 @@ use Rattle.disco_world.specs.Events.{Deed, World, after, changes_since, clients_
 use Rattle.disco_world.specs.declared.clients.Client.{Client}
 use Rattle.disco_world.specs.declared.event.Reply.{Reply}
 use Rattle.disco_world.specs.Levels.{AreLevelsOf}
-use Rattle.disco_world.specs.Steps.{AreHeld, Does, reply_of, reply_to}
+use Rattle.std.specs.FinMap.{get}
+use Rattle.disco_history.specs.Registry.{reg}
+use Rattle.disco_hub.specs.Kept.{Forgets, IsAsKept}
+use Rattle.disco_world.specs.Caching.{Caches, change_of}
+use Rattle.disco_world.specs.Steps.{AreHeld, Does, cache_of, reply_of, reply_to}
 use Rattle.disco_world.specs.declared.levels.Levels.{Levels}
 use Rattle.disco_world.proofs.AllAlong.{past_extends}
 use Rattle.disco_world.proofs.Turning.{plainly}
@@ -77,14 +81,26 @@ module _ (old new : State) (w : World) (now : ℕ) (ask : Ask) where
   after_is (Ok applied.Same) v gives = ap (after_ask (rules_of old).queue w.past now ask) gives
   after_is (Err f) v gives = stays (rules_of old) w.past now (Ok ask) f gives
 
-pub does : (old new : State) (ask : Ask) (asked : Result Ask Fault) (now : ℕ) (r : Result Applied Fault) → asked ≡ Ok ask → IfOk r (λ a. Writes old new ask now (done_by a)) → IfErr r (Declines old new ask now)
+-- what is kept, where the rounds stay
+kept_on : (old new : State) → new.rounds ≡ old.rounds → new.docs ≡ old.docs → cache_of new ≡ cache_of old
+kept_on old new rounds docs = λ i. record { docs = docs i; rounds = rounds i }
+
+caches_by : (old new : State) (ask : Ask) (now : ℕ) (p : Past) (r : Result Applied Fault) (v : ℕ) → new.rounds ≡ old.rounds → Gives done_by r (done (rules_of old) p now (Ok ask)) → StandsFor old p
+    → IfOk r (λ a. Writes old new ask now (done_by a)) → IfErr r (Declines old new ask now) → Caches (rules_of old) p (writes now (Ok ask)) (reply_to r v) (cache_of old) (cache_of new)
+caches_by old new ask now p (Ok (applied.Changed c)) v rounds gives stands wrote refused =
+    (subst (λ o. Forgets (get (reg (history p))) o old.docs new.docs) (sym (ap change_of gives)) (wrote.docs p stands), rounds)
+caches_by old new ask now p (Ok applied.Same) v rounds gives stands wrote refused = kept_on old new rounds (wrote.docs p stands)
+caches_by old new ask now p (Err e) v rounds gives stands wrote refused = kept_on old new rounds refused.docs
+
+pub does : (old new : State) (ask : Ask) (asked : Result Ask Fault) (now : ℕ) (r : Result Applied Fault) → asked ≡ Ok ask → new.rounds ≡ old.rounds → IfOk r (λ a. Writes old new ask now (done_by a)) → IfErr r (Declines old new ask now)
     → Does old new (λ _. writes now asked) (reply_to r new.core.registry.version)
-does old new ask asked now r is done refused = λ w stands.
+does old new ask asked now r is rounds done refused = λ w stands.
     let gives = gives old new w.past ask now r stands done refused in
     let stands_now = stands_after old new ask now r done refused w.past stands in
-    let here : IsAnswer (rules_of old) w (writes now (Ok ask)) (reply_to r new.core.registry.version) × StandsFor new (past_after (rules_of old) w.past (writes now (Ok ask)) (reply_to r new.core.registry.version))
-    = (answer_by old new w now ask r gives stands_now, subst (StandsFor new) (sym (after_is old new w now ask r new.core.registry.version gives)) stands_now) in
-    subst (λ a. IsAnswer (rules_of old) w (writes now a) (reply_to r new.core.registry.version) × StandsFor new (past_after (rules_of old) w.past (writes now a) (reply_to r new.core.registry.version))) (sym is) here
+    let v = new.core.registry.version in
+    let here : IsAnswer (rules_of old) w (writes now (Ok ask)) (reply_to r v) × StandsFor new (past_after (rules_of old) w.past (writes now (Ok ask)) (reply_to r v)) × Caches (rules_of old) w.past (writes now (Ok ask)) (reply_to r v) (cache_of old) (cache_of new)
+    = (answer_by old new w now ask r gives stands_now, subst (StandsFor new) (sym (after_is old new w now ask r v gives)) stands_now, caches_by old new ask now w.past r v rounds gives stands done refused) in
+    subst (λ a. IsAnswer (rules_of old) w (writes now a) (reply_to r v) × StandsFor new (past_after (rules_of old) w.past (writes now a) (reply_to r v)) × Caches (rules_of old) w.past (writes now a) (reply_to r v) (cache_of old) (cache_of new)) (sym is) here
 
 -- ---- loads
 
@@ -95,10 +111,10 @@ nothing_then rules p asked f = one (ran_out (Refused f))
     one true = refl
     one false = refl
 
-pub loads_so : (old new : State) (key : DocKey) (r : Result (Arc Payload Global) Fault) → IfOk r (λ d. IsDocOf old (rules_of old).delta key d.value) → IfErr r (Withholds old (rules_of old).delta key) → ((p : Past) → StandsFor old p → StandsFor new p) → Does old new (λ w. loads (loaded (rules_of old).delta key (history w.past))) (reply_of r)
-loads_so old new key (Ok d) may refused on = λ w stands. ((ap (unless key) (may.allowed w.past stands) ∙ ap (λ k. Ok k) (sym may.key), may.served w.past stands), on w.past stands)
-loads_so old new key (Err e) may refused on = λ w stands.
-    (λ other. ap (unless key) (refused other w.past stands), subst (StandsFor new) (sym (nothing_then (rules_of old) w.past (loaded (rules_of old).delta key (history w.past)) e)) (on w.past stands))
+pub loads_so : (old new : State) (key : DocKey) (r : Result (Arc Payload Global) Fault) → IfOk r (λ d. IsDocOf old (rules_of old).delta key d.value) → IfErr r (Withholds old (rules_of old).delta key) → IfOk r (λ d. Loads old new key d.value) → OnErr r (new ≡ old) → Does old new (λ w. loads (loaded (rules_of old).delta key (history w.past))) (reply_of r)
+loads_so old new key (Ok d) may refused did same = λ w stands. ((ap (unless key) (may.allowed w.past stands) ∙ ap (λ k. Ok k) (sym may.key), may.served w.past stands), did.history w.past stands, (subst (λ k. IsAsKept old.docs k d.value) (sym may.key) did.as_kept, did.keeps, ap (λ (s : State). s.rounds) did.rest))
+loads_so old new key (Err e) may refused did same = λ w stands.
+    (λ other. ap (unless key) (refused other w.past stands), subst (StandsFor new) (sym (nothing_then (rules_of old) w.past (loaded (rules_of old).delta key (history w.past)) e)) (subst (λ (s : State). StandsFor s w.past) (sym same) stands), ap cache_of same)
 
 -- a deed of the hub leaves the clients
 pub clients_stay : (clients : ℕ → Option Client) (what : Deed) (r : Bool) → clients_done clients what ≡ clients → cond r clients (clients_done clients what) ≡ clients
@@ -106,18 +122,21 @@ clients_stay clients what true same = refl
 clients_stay clients what false same = same
 
 module _ (old new : Levels) (held : ℕ → Option Client) (w : World) (what : Deed) (r : Reply) (same : clients_done w.clients what ≡ w.clients) (are : AreHeld held w) where
+  abbrev CachesIt : Type 0
+  CachesIt = Caches (rules_of old.hub) w.past what r (cache_of old.hub) (cache_of new.hub)
+
   -- and so do the clients after it
   held_on : AreHeld held (record w { clients = clients_after w.clients what r })
   held_on q = are q ∙ sym (ap (λ (f : ℕ → Option Client). f q) (clients_stay w.clients what (ran_out r) same))
 
   -- a deed that the hub answers alone
   pub with_hub : (after (rules_of old.hub) w what r).press ≡ record w.press { pending = w.press.pending ++ map change (changes_since w.past (past_after (rules_of old.hub) w.past what r)) } → AreLevelsOf old w
-      → new.hub.rounds ≡ old.hub.rounds → new.published ≡ old.published → new.next ≡ old.next → IsAnswer (rules_of old.hub) w what r × StandsFor new.hub (past_after (rules_of old.hub) w.past what r)
-      → IsAnswer (rules_of old.hub) w what r × AreLevelsOf new (after (rules_of old.hub) w what r) × AreHeld held (record w { clients = clients_after w.clients what r })
+      → new.hub.rounds ≡ old.hub.rounds → new.published ≡ old.published → new.next ≡ old.next → IsAnswer (rules_of old.hub) w what r × StandsFor new.hub (past_after (rules_of old.hub) w.past what r) × CachesIt
+      → IsAnswer (rules_of old.hub) w what r × AreLevelsOf new (after (rules_of old.hub) w what r) × AreHeld held (record w { clients = clients_after w.clients what r }) × CachesIt
   with_hub press levels rounds published next so =
-      (so.0, plainly old new w (after (rules_of old.hub) w what r) levels press (past_extends (rules_of old.hub) w.past what r (ran_out r)) so.1 rounds published next, held_on)
+      (so.0, plainly old new w (after (rules_of old.hub) w what r) levels press (past_extends (rules_of old.hub) w.past what r (ran_out r)) so.1 rounds published next, held_on, so.2)
 
   -- a deed of a publisher or of a reader
-  pub with_turn : IsAnswer (rules_of old.hub) w what r × AreLevelsOf new (after (rules_of old.hub) w what r)
-      → IsAnswer (rules_of old.hub) w what r × AreLevelsOf new (after (rules_of old.hub) w what r) × AreHeld held (record w { clients = clients_after w.clients what r })
-  with_turn so = (so.0, so.1, held_on)
+  pub with_turn : IsAnswer (rules_of old.hub) w what r × AreLevelsOf new (after (rules_of old.hub) w what r) × CachesIt
+      → IsAnswer (rules_of old.hub) w what r × AreLevelsOf new (after (rules_of old.hub) w what r) × AreHeld held (record w { clients = clients_after w.clients what r }) × CachesIt
+  with_turn so = (so.0, so.1, held_on, so.2)

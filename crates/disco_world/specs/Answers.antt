@@ -84,10 +84,6 @@ pub record IsPressed (s : Press) (h : List Entry) (edition : KeySet) (round : Op
   pub pressed : press.IsPressed s.published s.pending h edition round
   pub keys : left_in s ≡ option_map (λ r. length r.left) round
 
--- it is so after any number of events
-abbrev pub ArePressed : Rules → List Event → List Reply → Type 0
-ArePressed rules events replies = (i : ℕ) → i ≤ length events → let w = world rules events replies i in (edition : KeySet) × (round : Option Round) × IsPressed w.press (history w.past) edition round
-
 -- each client's copy that is known at a version is exactly that version of the history, after any number of events
 abbrev pub AreKnown : Rules → List Event → List Reply → Type 0
 AreKnown rules events replies = (i : ℕ) (client : ℕ) (c : Client) → let w = world rules events replies i in w.clients client ≡ Some c → MeansVersion (history w.past) c

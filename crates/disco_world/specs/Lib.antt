@@ -1,4 +1,5 @@
 pub mod Answers
+pub mod Caching
 pub mod Clients
 pub mod Events
 pub mod Levels

@@ -13,6 +13,7 @@ use Rattle.disco_wire.specs.declared.wire.Shape.TheVariants.{Many}
 use Rattle.disco_cache.specs.declared.payload.Payload.{Payload}
 use Rattle.disco_hub.specs.State.{State, StandsFor, rules_of}
 use Rattle.disco_world.specs.Answers.{IsAnswer}
+use Rattle.disco_world.specs.Caching.{Cache, Caches}
 use Rattle.disco_world.specs.Clients.{IsTold, clients_with, taken}
 use Rattle.disco_world.specs.Events.{Deed, World, doc_of_event, past_after}
 use Rattle.disco_world.specs.declared.clients.Client.{Client}
@@ -41,9 +42,14 @@ abbrev pub reply_to_show : Result (List Holding) Fault → Reply
 reply_to_show (Ok holdings) = Held holdings
 reply_to_show (Err e) = Refused e
 
--- a hub answers a deed, and then stands for what has happened with it
+-- what a hub keeps and copies
+abbrev pub cache_of : State → Cache
+cache_of s = record { docs = s.docs; rounds = s.rounds }
+
+-- a hub answers a deed, then stands for what has happened with it, and keeps what it leaves
 abbrev pub Does : State → State → (World → Deed) → Reply → Type 0
-Does old new what reply = (w : World) → StandsFor old w.past → IsAnswer (rules_of old) w (what w) reply × StandsFor new (past_after (rules_of old) w.past (what w) reply)
+Does old new what reply = (w : World) → StandsFor old w.past
+    → IsAnswer (rules_of old) w (what w) reply × StandsFor new (past_after (rules_of old) w.past (what w) reply) × Caches (rules_of old) w.past (what w) reply (cache_of old) (cache_of new)
 
 -- the document means that, which is of many apps
 abbrev pub IsMeant : Payload → Meaning → Type 0

@@ -1,9 +1,11 @@
 //! The two levels of documents.
-ghost use Rattle.std.specs.Prelude.{◌≡◌, None};
+ghost use Rattle.std.specs.Prelude.{◌≡◌};
 ghost use Rattle.std.specs.FinMap.{empty};
 ghost use Rattle.disco_core.specs.Past.{nothing};
 ghost use Rattle.disco_core.specs.State.{rules};
 ghost use Rattle.disco_hub.specs.State.{StandsFor, rules_of};
+ghost use Rattle.disco_world.specs.Caching.{new_cache};
+ghost use Rattle.disco_world.specs.Steps.{cache_of};
 
 use disco_cache::Edition;
 use disco_hub::Hub;
@@ -23,7 +25,7 @@ impl Levels {
     pub(crate) fn new(alloc: Global, settings: &Settings) -> Levels
         ensures stands { StandsFor result.hub nothing }
         ensures rules { rules_of result.hub ≡ rules settings.now }
-        ensures rounds { result.hub.rounds ≡ record { edition = empty; round = None } }
+        ensures cache { cache_of result.hub ≡ new_cache settings.now.entries }
         ensures published { result.published ≡ empty }
     {
         Levels {

@@ -10,10 +10,11 @@ ghost use Rattle.disco_registry.specs.Op.{Ask, ask_of};
 ghost use Rattle.disco_core.specs.Past.{nothing};
 ghost use Rattle.disco_core.specs.State.{rules};
 ghost use Rattle.disco_hub.specs.State.{StandsFor, rules_of};
-ghost use Rattle.disco_world.specs.Answers.{AreAnswers, AreKnown, ArePressed, AreServed, IsFirstBadEvent};
+ghost use Rattle.disco_world.specs.Answers.{AreAnswers, AreKnown, AreServed, IsFirstBadEvent};
+ghost use Rattle.disco_world.specs.Caching.{AreCached, new_cache};
 ghost use Rattle.disco_world.specs.Events.{World, bad, closes, deed, doc_in, doc_of_event, expires, for_clients, writes};
 ghost use Rattle.disco_world.specs.Levels.{AreLevelsOf, Goes};
-ghost use Rattle.disco_world.specs.Steps.{AreHeld, AreReadable, Does, reply_to, reply_to_show, reply_to_take};
+ghost use Rattle.disco_world.specs.Steps.{AreHeld, AreReadable, Does, cache_of, reply_to, reply_to_show, reply_to_take};
 ghost use Rattle.disco_world.specs.declared.event.Event.TheVariants as event;
 
 use crate::asks::{add_metadata, cancel, drop_status, renew, set_status};
@@ -42,7 +43,7 @@ pub fn run(alloc: Global, settings: &Settings, events: &[Event]) -> Result<Vec<R
     ensures each { IfOk result (λ replies. length replies.items ≡ length events.now) }
     ensures answers { IfOk result (λ replies. AreAnswers (rules settings.now) events.now replies.items) }
     ensures served { IfOk result (λ replies. AreServed (rules settings.now) events.now replies.items) }
-    ensures pressed { IfOk result (λ replies. ArePressed (rules settings.now) events.now replies.items) }
+    ensures cached { IfOk result (λ replies. AreCached settings.now.entries (rules settings.now) events.now replies.items) }
     ensures known { IfOk result (λ replies. AreKnown (rules settings.now) events.now replies.items) }
     ensures refused { IfErr result (λ e. e ≢ OutOfMemory → IsFirstBadEvent (rules settings.now) events.now e) }
 {
@@ -59,13 +60,13 @@ fn run_all(
     events: &[Event],
 ) -> Result<Vec<Reply>, Fault>
     requires stands { StandsFor levels.old.hub nothing }
-    requires rounds { levels.old.hub.rounds ≡ record { edition = empty; round = None } }
+    requires cache { cache_of levels.old.hub ≡ new_cache levels.old.hub.docs.max }
     requires published { levels.old.published ≡ empty }
     requires clients { tree.IsEmpty clients.old }
     ensures each { IfOk result (λ replies. length replies.items ≡ length events.now) }
     ensures answers { IfOk result (λ replies. AreAnswers (rules_of levels.old.hub) events.now replies.items) }
     ensures served { IfOk result (λ replies. AreServed (rules_of levels.old.hub) events.now replies.items) }
-    ensures pressed { IfOk result (λ replies. ArePressed (rules_of levels.old.hub) events.now replies.items) }
+    ensures cached { IfOk result (λ replies. AreCached levels.old.hub.docs.max (rules_of levels.old.hub) events.now replies.items) }
     ensures known { IfOk result (λ replies. AreKnown (rules_of levels.old.hub) events.now replies.items) }
     ensures refused { IfErr result (λ e. e ≢ OutOfMemory → IsFirstBadEvent (rules_of levels.old.hub) events.now e) }
 {
@@ -91,7 +92,7 @@ fn answer(
     requires readable { AreReadable replies.now }
     ensures is_bad { IfNone result ((w : World) → w.replies ≡ replies.now → deed (rules_of levels.old.hub) w event.now ≡ bad) }
     ensures does { IfSome result (λ r. (w : World) → w.replies ≡ replies.now → AreHeld (tree.get nat_cmp clients.old) w → AreLevelsOf levels.old w
-        → Goes (rules_of levels.old.hub) w event.now r levels.new (tree.get nat_cmp clients.new)) }
+        → Goes (rules_of levels.old.hub) w event.now r levels.old.hub levels.new (tree.get nat_cmp clients.new)) }
     ensures rules { rules_of levels.new.hub ≡ rules_of levels.old.hub }
 {
     match event {
@@ -111,7 +112,7 @@ pub(crate) fn answer_step(
     step: &Step,
 ) -> Reply
     ensures does { (w : World) → AreHeld (tree.get nat_cmp clients.now) w → AreLevelsOf levels.old w
-        → Goes (rules_of levels.old.hub) w (event.Step step.now) result levels.new (tree.get nat_cmp clients.now) }
+        → Goes (rules_of levels.old.hub) w (event.Step step.now) result levels.old.hub levels.new (tree.get nat_cmp clients.now) }
     ensures rules { rules_of levels.new.hub ≡ rules_of levels.old.hub }
 {
     match step {

@@ -1,5 +1,5 @@
 //! Runs whose replies are told as they come, and not held.
-ghost use Rattle.std.specs.Prelude.{◌≡◌, ◌⊎◌, ℕ, List, Option, IfErr, None, OnOk};
+ghost use Rattle.std.specs.Prelude.{◌≡◌, ◌⊎◌, ℕ, List, Option, IfErr, OnOk};
 ghost use Rattle.std.specs.BTreeMap as tree;
 ghost use Rattle.std.specs.FinMap.{empty};
 ghost use Rattle.std.specs.Io.KnownBytes.{Appends};
@@ -7,6 +7,8 @@ ghost use Rattle.disco_values.specs.declared.fault.Fault.TheVariants.{OutOfMemor
 ghost use Rattle.disco_core.specs.Past.{nothing};
 ghost use Rattle.disco_core.specs.State.{rules};
 ghost use Rattle.disco_hub.specs.State.{StandsFor, rules_of};
+ghost use Rattle.disco_world.specs.Caching.{new_cache};
+ghost use Rattle.disco_world.specs.Steps.{cache_of};
 ghost use Rattle.disco_world.specs.Telling.{AreTold};
 ghost use Rattle.disco_world.specs.declared.event.Reply.{Reply};
 
@@ -44,7 +46,7 @@ pub fn run_to<W, T: Tell<W>>(
     teller: &mut T,
     out: &mut W,
 ) -> Result<(), Fault>
-    ensures told { OnOk result (AreTold (rules settings.now) steps.entry.events.now T.text (T.told teller.old out.old) (T.told teller.new out.new)) }
+    ensures told { OnOk result (AreTold settings.now.entries (rules settings.now) steps.entry.events.now T.text (T.told teller.old out.old) (T.told teller.new out.new)) }
     ensures fault { IfErr result (λ e. (e ≡ WriteFailed) ⊎ (e ≡ OutOfMemory)) }
 {
     let mut levels = Levels::new(alloc, settings);
@@ -62,10 +64,10 @@ fn tell_all<W, T: Tell<W>>(
     out: &mut W,
 ) -> Result<(), Fault>
     requires stands { StandsFor levels.old.hub nothing }
-    requires rounds { levels.old.hub.rounds ≡ record { edition = empty; round = None } }
+    requires cache { cache_of levels.old.hub ≡ new_cache levels.old.hub.docs.max }
     requires published { levels.old.published ≡ empty }
     requires clients { tree.IsEmpty clients.now }
-    ensures told { OnOk result (AreTold (rules_of levels.old.hub) steps.entry.events.now T.text (T.told teller.old out.old) (T.told teller.new out.new)) }
+    ensures told { OnOk result (AreTold levels.old.hub.docs.max (rules_of levels.old.hub) steps.entry.events.now T.text (T.told teller.old out.old) (T.told teller.new out.new)) }
     ensures fault { IfErr result (λ e. (e ≡ WriteFailed) ⊎ (e ≡ OutOfMemory)) }
 {
     for event in steps.events {

@@ -15,7 +15,7 @@ returns-in-Some-clause-does c = λ w replies held levels.
     let d = c.in-Some.payload.now in
     let named : doc_of_event w.replies c.in-Take.event ≡ Some d = ap (λ rs. doc_of_event rs c.in-Take.event) replies ∙ sym c.document.ensures ∙ ap (option_map (λ (p : Bor Payload). p.now)) c.in-Some.is in
     let answer = took (rules_of s.hub) w (tree.get nat_cmp c.args.clients.now) (tree.get nat_cmp c.take.new.clients) c.in-Take.client d c.take.result held c.take.ensures in
-    rw (c.in-Take.is, named, c.took.ensures) (answer.0, quiet_turns s s w levels refl (takes c.in-Take.client d) (reply_to_take c.take.result) refl refl, answer.1)
+    rw (c.in-Take.is, named, c.took.ensures) (answer.0, quiet_turns s s w levels refl (takes c.in-Take.client d) (reply_to_take c.take.result) refl refl, answer.1, refl)
 
 pub returns-in-Step-clause-does : goal.returns-in-Step-clause-does
 returns-in-Step-clause-does c = λ w replies held levels. rw c.in-Step.is (c.answer_step.ensures.does w held levels)

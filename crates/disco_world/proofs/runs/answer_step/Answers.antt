@@ -49,11 +49,11 @@ returns-in-Look-clause-does c = λ w held levels.
     let s = c.args.levels.now in
     let what = looks (Some (key_looked c.in-Look.key)) in
     rw c.in-Look.is (with_turn s s (tree.get nat_cmp c.args.clients.now) w what c.look.result refl held
-    (looked (rules_of s.hub) w s.published (key_looked c.in-Look.key) c.look.result levels.published c.look.ensures, quiet_turns s s w levels refl what c.look.result refl refl))
+    (looked (rules_of s.hub) w s.published (key_looked c.in-Look.key) c.look.result levels.published c.look.ensures, quiet_turns s s w levels refl what c.look.result refl refl, refl))
 
 pub returns-in-Show-clause-does : goal.returns-in-Show-clause-does
 returns-in-Show-clause-does c = λ w held levels.
     let s = c.args.levels.now in
     let what = shows c.in-Show.client in
     rw (c.in-Show.is, c.showed.ensures) (with_turn s s (tree.get nat_cmp c.args.clients.now) w what (reply_to_show c.show.result) refl held
-    (showed (rules_of s.hub) w (tree.get nat_cmp c.args.clients.now) c.in-Show.client c.show.result held c.show.ensures.holdings c.show.ensures.memory, quiet_turns s s w levels refl what (reply_to_show c.show.result) refl refl))
+    (showed (rules_of s.hub) w (tree.get nat_cmp c.args.clients.now) c.in-Show.client c.show.result held c.show.ensures.holdings c.show.ensures.memory, quiet_turns s s w levels refl what (reply_to_show c.show.result) refl refl, refl))

@@ -5,4 +5,4 @@ use Rattle.disco_world.proofs.Histories.{IsRun}
 use Rattle.disco_world.proofs.runs.run_all.Given as goal
 
 abbrev pub invariant-loop-event : goal.invariant-loop-event
-invariant-loop-event l = IsRun (rules_of l.fn.levels.hub) l.events l.replies.items l.event-index l.levels (tree.get nat_cmp l.clients)
+invariant-loop-event l = IsRun l.fn.levels.hub.docs.max (rules_of l.fn.levels.hub) l.events l.replies.items l.event-index l.levels (tree.get nat_cmp l.clients)

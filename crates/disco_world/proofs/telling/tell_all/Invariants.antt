@@ -5,4 +5,4 @@ use Rattle.disco_world.proofs.Tellings.{IsTelling}
 use Rattle.disco_world.proofs.telling.tell_all.Given as goal
 
 abbrev pub invariant-loop-event : goal.invariant-loop-event
-invariant-loop-event g l = IsTelling (rules_of l.fn.levels.hub) l.fn.steps.events.now g.T.Tell.text l.event-index l.levels (tree.get nat_cmp l.clients) (g.T.Tell.told l.fn.teller l.fn.out) (g.T.Tell.told l.teller l.out)
+invariant-loop-event g l = IsTelling l.fn.levels.hub.docs.max (rules_of l.fn.levels.hub) l.fn.steps.events.now g.T.Tell.text l.event-index l.levels (tree.get nat_cmp l.clients) (g.T.Tell.told l.fn.teller l.fn.out) (g.T.Tell.told l.teller l.out)

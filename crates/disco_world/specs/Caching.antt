@@ -1,0 +1,55 @@
+-- What is kept and copied in a run, event by event.
+use Rattle.std.specs.Prelude.{◌≡◌, ◌≤◌, ℕ, ◌+◌, List, length, Option, Some, None, IfSome, Result, Ok, Err, slice_get}
+use Rattle.std.specs.FinMap.{empty, get}
+use Rattle.disco_values.specs.declared.fault.Fault.{Fault}
+use Rattle.disco_history.specs.Change.{Entry}
+use Rattle.disco_history.specs.Registry.{reg}
+use Rattle.disco_cache.specs.Docs.{Docs}
+use Rattle.disco_core.specs.Past.{Past, history, taken_in}
+use Rattle.disco_core.specs.State.{Rules}
+use Rattle.disco_rounds.specs.Press.{is_doc, key_of_copy}
+use Rattle.disco_rounds.specs.Rounds.{Advances, Begins, Ends, Rounds, round_keys}
+use Rattle.disco_rounds.specs.declared.copied.Copied as copied
+use Rattle.disco_hub.specs.Expiry.{ForgetsEach}
+use Rattle.disco_hub.specs.Kept.{Forgets, IsAsKept, IsCopiedAsKept, KeepsAtMost}
+use Rattle.disco_world.specs.Answers.{IsPressed}
+use Rattle.disco_world.specs.Events.{Deed, writes, loads, expires, begins, copies, publishes, deed, done, world}
+use Rattle.disco_world.specs.declared.event.Event.{Event}
+use Rattle.disco_world.specs.declared.event.Reply.{Reply}
+use Rattle.disco_world.specs.declared.event.Reply.TheVariants.{Changed, Doc, Expired, Begun, Copied, Published}
+
+-- the documents that are kept, and the rounds in which they are copied
+pub record Cache : Type 0 where
+  pub docs : Docs
+  pub rounds : Rounds
+
+-- nothing is kept or copied yet, and at most so many documents will be kept
+abbrev pub new_cache : ℕ → Cache
+new_cache most = record { docs = record { docs = empty; max = most }; rounds = record { edition = empty; round = None } }
+
+-- the change that an operation makes, if it makes one
+abbrev pub change_of : Result (Option Entry) Fault → Option Entry
+change_of (Ok change) = change
+change_of (Err e) = None
+
+-- what is copied is of the first key that is left, and as it is kept where it is kept
+abbrev pub IsNext : Cache → copied.Copied → Type 0
+IsNext s c = IfSome s.rounds.round (λ r. IfSome (slice_get r.left 0) (λ k. (key_of_copy c ≡ k) × IsCopiedAsKept s.docs k c))
+
+-- what a deed with that answer does to it: a change drops what it names, a load is answered as it is kept and keeps its document at most, a round begins with the keys that are due, each copy takes out the first that is left, and a publish ends it
+abbrev pub Caches : Rules → Past → Deed → Reply → Cache → Cache → Type 0
+Caches rules p (writes now asked) (Changed v) old new = Forgets (get (reg (history p))) (change_of (done rules p now asked)) old.docs new.docs × (new.rounds ≡ old.rounds)
+Caches rules p (loads asked) (Doc d) old new = IsAsKept old.docs d.value.key d.value × KeepsAtMost rules.delta d.value old.docs new.docs × (new.rounds ≡ old.rounds)
+Caches rules p (expires now) (Expired run) old new = ForgetsEach rules p now (taken_in p now) run.gone old.docs new.docs × (new.rounds ≡ old.rounds)
+Caches rules p begins (Begun n) old new = Begins (round_keys old.rounds.edition old.docs) n old.rounds new.rounds × (new.docs ≡ old.docs)
+Caches rules p copies (Copied c) old new = IsNext old c × Advances (is_doc c) old.rounds new.rounds × (new.docs ≡ old.docs)
+Caches rules p publishes (Published n) old new = Ends n old.rounds new.rounds × (new.docs ≡ old.docs)
+Caches rules p _ _ old new = new ≡ old
+
+-- what is kept and copied before each event and after the last one: nothing at first, then what each event leaves; and what was noted is in step with its rounds
+pub record AreCached (most : ℕ) (rules : Rules) (events : List Event) (replies : List Reply) : Type 0 where
+  pub caches : ℕ → Cache
+  pub first : caches 0 ≡ new_cache most
+  pub each : (i : ℕ) (event : Event) (reply : Reply) → slice_get events i ≡ Some event → slice_get replies i ≡ Some reply
+      → let w = world rules events replies i in Caches rules w.past (deed rules w event) reply (caches i) (caches (i + 1))
+  pub pressed : (i : ℕ) → i ≤ length replies → let w = world rules events replies i in IsPressed w.press (history w.past) (caches i).rounds.edition (caches i).rounds.round
