@@ -39,7 +39,7 @@ pub fn answer_events<W: Write>(
     steps: Steps,
     out: &mut W,
 ) -> Result<(), Fault>
-    ensures told { OnOk result (AreTold (rules settings.now) steps.entry.events.now answer_line (W.contents out.old) (W.contents out.new)) }
+    ensures told { OnOk result (AreTold settings.now.entries (rules settings.now) steps.entry.events.now answer_line (W.contents out.old) (W.contents out.new)) }
     ensures fault { IfErr result (λ e. (e ≡ WriteFailed) ⊎ (e ≡ OutOfMemory)) }
 {
     let mut gathered = Gathered(Vec::with_capacity(alloc, ROOM)?);

@@ -25,7 +25,7 @@ IsRunFault settings known fault = (fault ≡ OutOfMemory) ⊎ ((fault ≡ ReadFa
 pub record IsAnswered (settings : Settings) (known old new : Option (List ℕ)) : Type 0 where
   pub events : List Event
   pub read : AreRead known events
-  pub answered : AreTold (rules settings) events answer_line old new
+  pub answered : AreTold settings.entries (rules settings) events answer_line old new
 
 -- the words are `replay` and options, and the input is answered with the settings that these name
 abbrev pub IsReplayed : List Text → Option (List ℕ) → Option (List ℕ) → Option (List ℕ) → Type 0

@@ -29,6 +29,7 @@ returns-clause-answered g c = then_ok c.write_answers.result _ _ (λ written. re
     each = rw c.as_slice-2.ensures.value at c.in_ok-replies.ensures.each;
     answers = rw c.as_slice-2.ensures.value at c.in_ok-replies.ensures.answers;
     served = rw c.as_slice-2.ensures.value at c.in_ok-replies.ensures.served;
+    cached = rw c.as_slice-2.ensures.value at c.in_ok-replies.ensures.cached;
     known = rw c.as_slice-2.ensures.value at c.in_ok-replies.ensures.known;
     told = rw c.as_slice-3.ensures.value at written;
   };
