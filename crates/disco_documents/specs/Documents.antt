@@ -68,9 +68,8 @@ meaning_for q f h base v = record {
 abbrev pub text_for : Query → Form → List Entry → ℕ → ℕ → List ℕ
 text_for q f h base v = compact_text (tree_of f (asked_by q) (told q h base) (hash_of q h) v)
 
--- a true document after a history: a delta from its base to now; another one of now, or, where it is kept, of an earlier version since which nothing that is asked for has changed
-pub record IsTrueFor (q : Query) (text : List ℕ) (base version : ℕ) (f : Form) (h : List Entry) : Type 0 where
-  pub written : text ≡ text_for q f h base version
+-- a text means a document after a history, however it is written: a delta from its base to now; another one of now, or, where it is kept, of an earlier version since which nothing that is asked for has changed
+pub record MeansFor (q : Query) (text : List ℕ) (base version : ℕ) (f : Form) (h : List Entry) : Type 0 where
   pub meaning : document_of text ≡ Ok (meaning_for q f h base version)
   pub there : is_absent (reg h) (asked_by q) ≡ false
   pub start : base ≤ version
@@ -78,6 +77,11 @@ pub record IsTrueFor (q : Query) (text : List ℕ) (base version : ℕ) (f : For
   pub past : version ≤ length h
   pub now : (kind q).kept ≡ false → version ≡ length h
   pub same : meaning_for q f (front h version) base version ≡ meaning_for q f h base version
+
+-- a true document after a history: it means what it has to, and is the one text that is written of it
+pub record IsTrueFor (q : Query) (text : List ℕ) (base version : ℕ) (f : Form) (h : List Entry) : Type 0 where
+  pub written : text ≡ text_for q f h base version
+  pub means : MeansFor q text base version f h
 
 -- what is written of a query in a form after a history, a delta from a base: nothing exactly where it is absent, else the compact text of its tree, which means what is asked for
 abbrev pub IsWritten : Form → Query → List Entry → ℕ → Option (List ℕ) → Type 0

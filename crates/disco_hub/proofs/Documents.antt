@@ -24,7 +24,7 @@ use Rattle.disco_history.proofs.Untouched.{untouched_law}
 use Rattle.disco_queue.specs.Timed.{Timed}
 use Rattle.disco_registry.specs.Op.{Ask}
 use Rattle.disco_registry.specs.State as registry
-use Rattle.disco_documents.specs.Documents.{IsTrueFor, asked_by, hash_of, if_many, kind, meaning_for, mentioned, told}
+use Rattle.disco_documents.specs.Documents.{IsTrueFor, MeansFor, asked_by, hash_of, if_many, kind, meaning_for, mentioned, told}
 use Rattle.disco_query.specs.Query.{is_delta}
 use Rattle.disco_documents.specs.Rows.{mentions_in}
 use Rattle.disco_query.specs.declared.query.Query.{Query}
@@ -85,16 +85,21 @@ module _ (q : Query) (text : List ℕ) (base version : ℕ) (f : Form) (h : List
   code : hash_of q now ≡ hash_of q h
   code = ap (λ s. hash (values s)) law.0
 
+  still_means : MeansFor q text base version f now
+  still_means = record {
+    meaning = t.means.meaning ∙ ap (λ m. Ok m) (sym means);
+    there = ap (λ s. (len s == 0) && not (may_be_empty (asked_by q))) law.0 ∙ t.means.there;
+    start = t.means.start;
+    whole = t.means.whole;
+    past = omega (arith, t.means.past, length-append h (c ∷ []));
+    now = λ gone. absurd (cc);
+    same = ap (λ x. meaning_for q f x base version) (take-append-le version h (c ∷ []) t.means.past) ∙ t.means.same ∙ sym means;
+  }
+
   still : IsTrueFor q text base version f now
   still = record {
     written = t.written ∙ sym (same_text q f now h base version told_same code);
-    meaning = t.meaning ∙ ap (λ m. Ok m) (sym means);
-    there = ap (λ s. (len s == 0) && not (may_be_empty (asked_by q))) law.0 ∙ t.there;
-    start = t.start;
-    whole = t.whole;
-    past = omega (arith, t.past, length-append h (c ∷ []));
-    now = λ gone. absurd (cc);
-    same = ap (λ x. meaning_for q f x base version) (take-append-le version h (c ∷ []) t.past) ∙ t.same ∙ sym means;
+    means = still_means;
   }
 
 always : (a : Bool) → (a || true) ≡ false → ⊥
@@ -228,7 +233,7 @@ pub allowed : (on : Bool) (q : Query) (h : List Entry) (d : Payload) → d.key.q
 allowed on q h d key true_now deltas = one (is_delta q) refl
   where
     there : is_absent (reg h) (asked_by q) ≡ false
-    there = ap (λ x. is_absent (reg h) (asked_by x)) (sym key) ∙ true_now.there
+    there = ap (λ x. is_absent (reg h) (asked_by x)) (sym key) ∙ true_now.means.there
 
     one : (b : Bool) → is_delta q ≡ b → cond b (cond on None (Some DeltaDisabled)) (cond (is_absent (reg h) (asked_by q)) (Some NotFound) None) ≡ None
     one true e = ap (λ x. cond x None (Some DeltaDisabled)) (deltas e)

@@ -22,7 +22,7 @@ abbrev pub HasFailed : List Exchange → Type 0
 HasFailed [] = ⊥
 HasFailed (x ∷ xs) = IsFailure x.answer ⊎ HasFailed xs
 
--- some fetches were made, one after another; they came to this; and where the documents are true, the copy is known
+-- some fetches were made, one after another; they came to this; and where the documents mean what they have to, the copy is known
 pub record Refreshes {S : Type 0} (gives : S → DocKey → Result Fetched Fault → S → Type 0) (failed : S → ℕ) (old : State S) (result : Result Refreshed Fault) (new : State S) : Type 0 where
   pub form : new.form ≡ old.form
   pub log : List Exchange

@@ -15,7 +15,7 @@ use Rattle.disco_history.specs.Query.{all}
 use Rattle.disco_history.proofs.Restrictions.{values-said_all}
 use Rattle.disco_wire.specs.Documents.{document_of}
 use Rattle.disco_wire.specs.Meaning.{Meaning}
-use Rattle.disco_documents.specs.Documents.{IsTrueFor, meaning_for, mentioned, kind}
+use Rattle.disco_documents.specs.Documents.{MeansFor, meaning_for, mentioned, kind}
 use Rattle.disco_query.specs.Query.{is_delta}
 use Rattle.disco_documents.specs.Rows.{mentions_in}
 use Rattle.disco_query.specs.declared.query.Query.{Query}
@@ -80,7 +80,7 @@ is_of_now (query.Instance key) e = absurd (cc)
 
 pub of_now : (h : List Entry) (d : Payload) → IsTrue d h → for_clients d.key.query ≡ true → IsOf h d
 of_now h d is kind =
-    let version = is.now (is_of_now d.key.query kind) in record {
+    let version = is.means.now (is_of_now d.key.query kind) in record {
       inside = omega (arith, version);
       true_then = subst (IsTrue d) (sym (ap (λ n. take n h) version ∙ take_all (length h) h (omega arith))) is;
       kind = kind;
@@ -104,13 +104,13 @@ changes_alone (query.Vip vip) e = absurd (cc)
 changes_alone (query.Svip svip) e = absurd (cc)
 changes_alone (query.Instance key) e = absurd (cc)
 
-true_of : (h : List Entry) (d : Payload) (q : Query) → IsOf h d → d.key.query ≡ q → IsTrueFor q d.text d.base d.version d.key.form (front h d.version)
-true_of h d q is same = subst (λ q. IsTrueFor q d.text d.base d.version d.key.form (front h d.version)) same is.true_then
+true_of : (h : List Entry) (d : Payload) (q : Query) → IsOf h d → d.key.query ≡ q → MeansFor q d.text d.base d.version d.key.form (front h d.version)
+true_of h d q is same = subst (λ q. MeansFor q d.text d.base d.version d.key.form (front h d.version)) same is.true_then.means
 
-true_full : (h : List Entry) (d : Payload) → IsOf h d → is_delta d.key.query ≡ false → IsTrueFor query.Apps d.text d.base d.version d.key.form (front h d.version)
+true_full : (h : List Entry) (d : Payload) → IsOf h d → is_delta d.key.query ≡ false → MeansFor query.Apps d.text d.base d.version d.key.form (front h d.version)
 true_full h d is full = true_of h d query.Apps is (all_apps d.key.query is.kind full)
 
-true_delta : (h : List Entry) (d : Payload) → IsOf h d → is_delta d.key.query ≡ true → IsTrueFor query.Delta d.text d.base d.version d.key.form (front h d.version)
+true_delta : (h : List Entry) (d : Payload) → IsOf h d → is_delta d.key.query ≡ true → MeansFor query.Delta d.text d.base d.version d.key.form (front h d.version)
 true_delta h d is kind = true_of h d query.Delta is (changes_alone d.key.query kind)
 
 pub readable : (h : List Entry) (d : Payload) → IsOf h d → IsReadable d
