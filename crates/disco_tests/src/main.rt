@@ -10,7 +10,6 @@ mod client;
 mod given;
 mod press;
 mod program;
-mod refreshing;
 mod rounds;
 
 use disco_press::Opening;
@@ -62,43 +61,19 @@ fn try_streams<R: Print>(rt: &R, alloc: Global) -> io::Result<bool> {
     Ok(all.iter().all(|well| *well))
 }
 
-fn try_fetches<R: Print>(rt: &R, alloc: Global) -> io::Result<bool> {
-    let all = [
-        told(rt, "refreshes", refreshing::refreshes(alloc))?,
-        told(
-            rt,
-            "fetches to the end",
-            refreshing::fetches_to_the_end(alloc),
-        )?,
-        told(
-            rt,
-            "a request for each",
-            refreshing::one_request_each(alloc),
-        )?,
-    ];
-    Ok(all.iter().all(|well| *well))
-}
-
 fn try_all<R: Print>(rt: &R, alloc: Global) -> io::Result<bool> {
     let all = [
         try_registry(rt, alloc)?,
         try_hub(rt, alloc)?,
         try_streams(rt, alloc)?,
-        try_fetches(rt, alloc)?,
     ];
     Ok(all.iter().all(|well| *well))
 }
 
-/// Tries all, and tells what came of the trials of a desk and of two threads.
-fn tell_all<R: Print>(
-    rt: &R,
-    alloc: Global,
-    desk: Result<bool, Fault>,
-    threads: Result<bool, Fault>,
-) -> io::Result<bool> {
+/// Tries all, and tells what came of the trial of two threads.
+fn tell_all<R: Print>(rt: &R, alloc: Global, threads: Result<bool, Fault>) -> io::Result<bool> {
     let all = [
         try_all(rt, alloc)?,
-        told(rt, "looks of what a desk publishes", desk)?,
         told(rt, "looks from another thread", threads)?,
     ];
     Ok(all.iter().all(|well| *well))
@@ -106,9 +81,8 @@ fn tell_all<R: Print>(
 
 fn main(rt: HostRuntime) -> ExitCode {
     let alloc = rt.alloc();
-    let desk = press::a_seat_sees_what_is_published::<Brand, _>(&rt, alloc, Opening::new());
     let threads = press::another_thread_sees_it::<Brand, _>(&rt, alloc, Opening::new());
-    match tell_all(&rt, alloc, desk, threads) {
+    match tell_all(&rt, alloc, threads) {
         Ok(true) => ExitCode::SUCCESS,
         _ => ExitCode::FAILURE,
     }

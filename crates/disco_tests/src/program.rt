@@ -39,8 +39,8 @@ pub(crate) fn holds_its_most(alloc: Global) -> Result<bool, Fault> {
 
 /// A reader that fails where its bytes end.
 #[derive(Drop)]
-pub(crate) struct Torn<'a> {
-    pub(crate) rest: &'a [u8],
+struct Torn<'a> {
+    rest: &'a [u8],
 }
 
 impl Read for Torn<'_> {
@@ -73,8 +73,8 @@ pub(crate) fn tells_failed_reads(alloc: Global) -> Result<bool, Fault> {
 
 /// A writer that takes so many bytes and then fails, at a flush too.
 #[derive(Drop)]
-pub(crate) struct Full {
-    pub(crate) room: usize,
+struct Full {
+    room: usize,
 }
 
 impl Write for Full {

@@ -1,11 +1,5 @@
 use Rattle.disco_tests.proofs.main.Given as goal
 
-abbrev pub ghosts-a_seat_sees_what_is_published-J-Naming : goal.ghosts-a_seat_sees_what_is_published-J-Naming
-ghosts-a_seat_sees_what_is_published-J-Naming g a = record { list = a.opening.marks.name }
-
-abbrev pub ghosts-a_seat_sees_what_is_published-J-Ledger : goal.ghosts-a_seat_sees_what_is_published-J-Ledger
-ghosts-a_seat_sees_what_is_published-J-Ledger g a = record { name = a.opening.blank.name; parts = a.opening.blank.parts }
-
 abbrev pub ghosts-another_thread_sees_it-J-Naming : goal.ghosts-another_thread_sees_it-J-Naming
 ghosts-another_thread_sees_it-J-Naming g a = record { list = a.opening.marks.name }
 

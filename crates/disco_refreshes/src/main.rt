@@ -1,0 +1,70 @@
+//! Tries how a client refreshes: by what a script answers, and over connections that lie in memory and
+//! fail.
+//!
+//! Of each trial the name is printed with what came of it. Ends with status 1 where one fails, or finds
+//! no memory of its own. A refresh by the script that finds none is made once more, and then answered as
+//! if there had been some: `bench/refusals.sh` refuses each growth of these in turn. With the word
+//! `script` there is no other trial.
+#![tactic(auto)]
+
+mod connections;
+mod copies;
+mod failing;
+mod refreshing;
+mod samples;
+mod script;
+mod streams;
+
+use disco_values::Fault;
+use std::alloc::Global;
+use std::process::ExitCode;
+use std::rt::Env;
+use std::{env, io};
+
+/// Prints what came of a trial, and tells whether it went well.
+fn told<R: Print>(rt: &R, name: &str, came: Result<bool, Fault>) -> io::Result<bool> {
+    match came {
+        Ok(true) => println!(rt; "{name}: yes")?,
+        Ok(false) => println!(rt; "{name}: no")?,
+        Err(fault) => println!(rt; "{name}: {fault}")?,
+    }
+    Ok(matches!(came, Ok(true)))
+}
+
+fn try_script<R: Print>(rt: &R, alloc: Global) -> io::Result<bool> {
+    told(rt, "refreshes", refreshing::refreshes(alloc))
+}
+
+fn try_all<R: Print>(rt: &R, alloc: Global) -> io::Result<bool> {
+    let all = [
+        try_script(rt, alloc)?,
+        told(rt, "fetches to the end", connections::go_to_the_end(alloc))?,
+        told(
+            rt,
+            "a request for each",
+            connections::one_request_each(alloc),
+        )?,
+        told(rt, "reads that fail", failing::reads_in_turn(alloc))?,
+        told(rt, "writes that fail", failing::writes_in_turn(alloc))?,
+    ];
+    Ok(all.iter().all(|well| *well))
+}
+
+fn words_given<R: Env + AllocGlobal>(rt: &R) -> io::Result<Vec<String>> {
+    Ok(env::args(rt)?.skip(1).collect(rt.alloc())?)
+}
+
+fn run<R: Env + AllocGlobal + Print>(rt: &R) -> io::Result<bool> {
+    let words = words_given(rt)?;
+    match words.as_slice() {
+        [word] if word.as_str() == "script" => try_script(rt, rt.alloc()),
+        _ => try_all(rt, rt.alloc()),
+    }
+}
+
+fn main(rt: HostRuntime) -> ExitCode {
+    match run(&rt) {
+        Ok(true) => ExitCode::SUCCESS,
+        _ => ExitCode::FAILURE,
+    }
+}
