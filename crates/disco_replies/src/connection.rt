@@ -3,7 +3,7 @@ ghost use Rattle.disco_press.specs.Openings.{Opens};
 
 use crate::pieces::Pieces;
 use disco_editions::Naming;
-use disco_http::{Service, Writer, serve};
+use disco_http::{Served, Service, Writer, serve};
 use disco_hub::Hub;
 use disco_message::Limits;
 use disco_press::{Desk, Opening, Seat, open};
@@ -19,28 +19,36 @@ use std::sync::{Mutex, Wait};
 /// How far each moment of a row is from the one before, in milliseconds.
 const STEP: u64 = 1_000;
 
-/// What a connection gets that sends these bytes, where a read gives at most so many of them.
+/// What a connection came to.
+#[derive(Debug, Drop)]
+pub(crate) struct Came {
+    /// What the client gets.
+    pub(crate) reply: Vec<u8>,
+    pub(crate) served: Served,
+}
+
+/// What a connection comes to that sends these bytes, where a read gives at most so many of them.
 fn run<V: Service>(
     alloc: Global,
     service: &mut V,
     request: &[u8],
     piece: usize,
-) -> Result<Vec<u8>, AllocError> {
-    let mut written = Vec::new(alloc);
+) -> Result<Came, AllocError> {
+    let mut reply = Vec::new(alloc);
     let mut reader = Reader::new(alloc, Pieces::new(request, piece), Limits::of_server())?;
-    let mut writer = Writer::new(alloc, Counted::new(&mut written))?;
-    let _served = serve(alloc, &mut reader, &mut writer, service);
+    let mut writer = Writer::new(alloc, Counted::new(&mut reply))?;
+    let served = serve(alloc, &mut reader, &mut writer, service);
     drop(writer);
-    Ok(written)
+    Ok(Came { reply, served })
 }
 
-/// What a connection gets over an empty hub.
+/// What a connection comes to over an empty hub.
 pub(crate) fn over_a_hub(
     alloc: Global,
     settings: &Settings,
     request: &[u8],
     piece: usize,
-) -> Result<Vec<u8>, AllocError> {
+) -> Result<Came, AllocError> {
     let hub = Hub::new(alloc, settings);
     let mut service = HubService::new(alloc, Routes::new(alloc)?, hub, Ticks::new(STEP));
     run(alloc, &mut service, request, piece)
@@ -53,7 +61,7 @@ fn at_a_seat<J: Naming, R: Wait>(
     seat: Seat<J>,
     request: &[u8],
     piece: usize,
-) -> Result<Vec<u8>, AllocError> {
+) -> io::Result<Came> {
     let shop = Shop {
         rt,
         alloc,
@@ -61,10 +69,10 @@ fn at_a_seat<J: Naming, R: Wait>(
         gate: &Open,
     };
     let mut service = DeskService::new(&shop, Routes::new(alloc)?, seat, Ticks::new(STEP));
-    run(alloc, &mut service, request, piece)
+    Ok(run(alloc, &mut service, request, piece)?)
 }
 
-/// What a connection gets at the one seat of an empty desk, which is under its lock.
+/// What a connection comes to at the one seat of an empty desk, which is under its lock.
 pub(crate) fn over_a_desk<J: Naming, R: Wait>(
     rt: &R,
     alloc: Global,
@@ -72,7 +80,7 @@ pub(crate) fn over_a_desk<J: Naming, R: Wait>(
     settings: &Settings,
     request: &[u8],
     piece: usize,
-) -> io::Result<Vec<u8>>
+) -> io::Result<Came>
     requires opening { Opens J.list J.name J.parts opening }
 {
     let Ok((desk, mut seats)) = open::<J, R>(rt, alloc, settings, 1, opening) else {
@@ -81,8 +89,8 @@ pub(crate) fn over_a_desk<J: Naming, R: Wait>(
     let desk = Mutex::new(desk);
     let came = match seats.pop() {
         Some(seat) => at_a_seat(rt, alloc, &desk, seat, request, piece),
-        None => Ok(Vec::new(alloc)),
+        None => Err(io::Error::from(io::ErrorKind::NotFound)),
     };
     desk.into_inner().close(rt);
-    Ok(came?)
+    came
 }

@@ -13,6 +13,18 @@ pub(crate) struct Row {
     /// Whether the connection ends too early: before each byte of the request in turn.
     pub(crate) is_cut: bool,
     pub(crate) reply: Vec<u8>,
+    /// How many requests are answered and how the connection ends, where the row says so.
+    pub(crate) served: Option<Vec<u8>>,
+}
+
+impl Row {
+    /// How the connection has to end, where that is said.
+    pub(crate) fn served_line(&self) -> Option<&[u8]> {
+        match &self.served {
+            Some(line) => Some(line.as_slice()),
+            None => None,
+        }
+    }
 }
 
 fn file<R: Files + AllocGlobal>(rt: &R, name: &str, kind: &str) -> io::Result<Vec<u8>> {
@@ -20,25 +32,36 @@ fn file<R: Files + AllocGlobal>(rt: &R, name: &str, kind: &str) -> io::Result<Ve
     fs::read(rt, path.as_str())
 }
 
-fn settings<R: Files + AllocGlobal>(rt: &R, name: &str) -> io::Result<Settings> {
-    match file(rt, name, "settings") {
-        Ok(text) => settings_of(text.as_slice()),
-        Err(error) if error.kind() == ErrorKind::NotFound => settings_of(b""),
+/// The bytes of a file of a row, where there is such a file.
+fn file_if_any<R: Files + AllocGlobal>(
+    rt: &R,
+    name: &str,
+    kind: &str,
+) -> io::Result<Option<Vec<u8>>> {
+    match file(rt, name, kind) {
+        Ok(bytes) => Ok(Some(bytes)),
+        Err(error) if error.kind() == ErrorKind::NotFound => Ok(None),
         Err(error) => Err(error),
+    }
+}
+
+fn settings<R: Files + AllocGlobal>(rt: &R, name: &str) -> io::Result<Settings> {
+    match file_if_any(rt, name, "settings")? {
+        Some(text) => settings_of(text.as_slice()),
+        None => settings_of(b""),
     }
 }
 
 /// What is sent, and whether it is cut.
 fn request<R: Files + AllocGlobal>(rt: &R, name: &str) -> io::Result<(Vec<u8>, bool)> {
-    match file(rt, name, "request") {
-        Ok(request) => Ok((request, false)),
-        Err(error) if error.kind() == ErrorKind::NotFound => Ok((file(rt, name, "cut")?, true)),
-        Err(error) => Err(error),
+    match file_if_any(rt, name, "request")? {
+        Some(request) => Ok((request, false)),
+        None => Ok((file(rt, name, "cut")?, true)),
     }
 }
 
-/// Reads the row of a name: `NAME.request` or `NAME.cut`, `NAME.reply`, and `NAME.settings` where there
-/// is one.
+/// Reads the row of a name: `NAME.request` or `NAME.cut`, `NAME.reply`, and `NAME.settings` and
+/// `NAME.served` where there are such.
 pub(crate) fn read_row<R: Files + AllocGlobal>(rt: &R, name: &str) -> io::Result<Row> {
     let (request, is_cut) = request(rt, name)?;
     Ok(Row {
@@ -46,5 +69,6 @@ pub(crate) fn read_row<R: Files + AllocGlobal>(rt: &R, name: &str) -> io::Result
         request,
         is_cut,
         reply: file(rt, name, "reply")?,
+        served: file_if_any(rt, name, "served")?,
     })
 }

@@ -1,7 +1,7 @@
 //! Runs the connections that lie where it runs, and compares every byte with what has to come out.
 //!
 //! Each is run four times over a hub and four times over a desk under its lock, in pieces of 1, 2, 7
-//! and 1,000 bytes; one that is cut once over each for every byte that it has. Of a row that is as it
+//! and 1,000 bytes; one that is cut as often for every byte that it has. Of a row that is as it
 //! has to be each time the name is printed, of another one where it differs first, and then the exit
 //! status is 1. The README beside `src/` says what the files of a row hold. With the words
 //! `NAME TIMES PIECE` it times a row over a hub.

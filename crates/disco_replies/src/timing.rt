@@ -41,7 +41,9 @@ pub(crate) fn run<R: Clock + Files + AllocGlobal + Print>(
     let mut size = 0;
     for _ in 0..timing.times {
         let request = row.request.as_slice();
-        size = over_a_hub(rt.alloc(), &row.settings, request, timing.piece)?.len();
+        size = over_a_hub(rt.alloc(), &row.settings, request, timing.piece)?
+            .reply
+            .len();
     }
     println!(rt; "{} {size}", start.elapsed(rt)?.as_nanos())?;
     Ok(true)

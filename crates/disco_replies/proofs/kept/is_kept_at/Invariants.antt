@@ -1,4 +1,4 @@
-use Rattle.disco_replies.proofs.kept.is_kept_in.Given as goal
+use Rattle.disco_replies.proofs.kept.is_kept_at.Given as goal
 
 abbrev pub ghosts-over_a_desk-J-Naming : goal.ghosts-over_a_desk-J-Naming
 ghosts-over_a_desk-J-Naming g a = record { list = a.opening.marks.name }
