@@ -1,4 +1,4 @@
--- Only what code keeps: nothing here is to be believed.
+-- What an iterator over the values of a name has still to give.
 use Rattle.std.specs.Prelude.{ℕ, List, map}
 use Rattle.httparse.specs.Spans.{header_bytes}
 use Rattle.disco_message.specs.Fields.{values}
