@@ -3,3 +3,4 @@ pub mod Decoding
 pub mod Query
 pub mod Accept
 pub mod Calls
+pub mod Laws

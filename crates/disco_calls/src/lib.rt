@@ -6,6 +6,7 @@ mod accept;
 mod asking;
 mod call;
 mod decoding;
+pub mod laws;
 mod method;
 mod query;
 
