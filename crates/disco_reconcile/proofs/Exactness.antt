@@ -1,4 +1,4 @@
--- True documents keep a copy at a version.
+-- Documents that mean what they have to keep a copy at a version.
 use Rattle.std.proofs.Common.{◌≡◌, ℕ, ◌≤◌, true, List, map, length, Option, Some, None, Ok, refl, sym, ap, subst, ◌∙◌, arith}
 use Rattle.std.proofs.lemmas.List.{take-take, length-take}
 use Rattle.std.specs.FinMap.{values}
@@ -25,7 +25,7 @@ use Rattle.disco_reconcile.specs.Tracked.{MeansAt, Means, Span, known_by}
 meant_once : (body : List ℕ) (m n : Meaning) → document_of body ≡ Ok m → document_of body ≡ Ok n → m ≡ n
 meant_once body m n a b = cc
 
--- a true document of all apps makes the version that it names
+-- one of all apps makes the version that it names
 pub full_means : (h : List Entry) (f : Form) (s : Span) (body : List ℕ) (m : Meaning) → MeansAt h query.Apps f s body → document_of body ≡ Ok m → IsAt h (record { form = f; version = s.version }) (copied m.mentions)
 full_means h f s body m t is =
     let g = front h s.version in
@@ -48,7 +48,7 @@ delta_by : (h : List Entry) (f : Form) (s : Span) (k : Known) (rows : Rows) (bod
 delta_by h f s k rows body m None e is t means = tt
 delta_by h f s k rows body m (Some at) e is t means = moved_means h f s k rows body m at (moves k f s.base s.version at e) is t means
 
--- a true delta makes the version that it names, where the copy is known within it
+-- a delta makes the version that it names, where the copy is known within it
 pub delta_means : (h : List Entry) (f : Form) (s : Span) (at : Option Known) (rows : Rows) (body : List ℕ) (m : Meaning) → Means h at (Some rows) → MeansAt h query.Delta f s body → document_of body ≡ Ok m → Means h (known_by true at f s) (Some (overlay rows m.mentions))
 delta_means h f s None rows body m is t means = tt
 delta_means h f s (Some k) rows body m is t means = delta_by h f s k rows body m _ refl is t means
