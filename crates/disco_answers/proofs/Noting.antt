@@ -14,7 +14,7 @@ use Rattle.disco_hub.specs.State.{rules_of}
 use Rattle.disco_message.specs.ReplyText.{Answer}
 use Rattle.disco_calls.specs.Calls.{Asks, loads, shows, shows_id, writes, lacks, seen}
 use Rattle.disco_calls.specs.declared.call.Call.{Call}
-use Rattle.disco_press.specs.Desks.{CountsBySeat, DeskState, IsValid, Notes, NotesNothing, note_done}
+use Rattle.disco_press.specs.Desks.{CountsBySeat, DeskState, Notes, NotesNothing, note_done, notes_of}
 use Rattle.disco_press.specs.Seats.{SeatState}
 use Rattle.disco_answers.specs.Desks.{IsAnsweredBySome, IsAnsweredOn}
 use Rattle.disco_answers.specs.Replies.{IsAnswered, IsReply, Replies, refused}
@@ -94,25 +94,20 @@ refused_on d s called e is now y shown asked gives = record {
 
 -- ---- before and after
 
-module _ (old new : DeskState) (before after : SeatState) (asked : Result Asks Fault) (now : ℕ) (y : Answer) (so : IsAnsweredOn old new before after asked now y) where
-  -- what held of seat and desk then held before
-  pub bound_before : IsValid old → after.changes ≤ new.hub.core.registry.version → before.changes ≤ old.hub.core.registry.version
-  bound_before valid le =
-      let p = valid.past in
-      let r = so.replied p valid.stands in
-      omega (arith, le, so.counted, r.3.core.registry.version, ap (λ h. length h) r.2, length-append (history p) so.changes, valid.stands.core.registry.version)
-
-  pub knew_before : after.known ≡ before.known → IsPrefix after.known new.published → IsPrefix before.known old.published
-  knew_before known knew = subst (λ (t : List (List Note) × List (List Note)). IsPrefix t.0 t.1) (λ i. (known i, so.noted.0 i)) knew
-
-  -- the seat learns
-  pub learnt : (new' : DeskState) → new' ≡ new → (after' : SeatState) → after'.changes ≡ after.changes → IsAnsweredOn old new' before after' asked now y
-  learnt new' stays after' same =
-      subst (λ (d : DeskState). IsAnsweredOn old d before after' asked now y) (sym stays) (record { changes = so.changes; noted = so.noted; counted = same ∙ so.counted; by_seat = so.by_seat; replied = so.replied })
+-- the seat learns, and then learns again
+pub learnt : (old new new' : DeskState) (before mid after after' : SeatState) (asked : Result Asks Fault) (now : ℕ) (y : Answer) → IsAnsweredOn old new mid after asked now y → mid.changes ≡ before.changes → new' ≡ new → after'.changes ≡ after.changes
+    → IsAnsweredOn old new' before after' asked now y
+learnt old new new' before mid after after' asked now y so first stays same = subst (λ (d : DeskState). IsAnsweredOn old d before after' asked now y) (sym stays) (record {
+  changes = so.changes;
+  noted = so.noted;
+  counted = same ∙ so.counted ∙ ap (λ n. n + length so.changes) first;
+  by_seat = so.by_seat;
+  replied = so.replied;
+})
 
 -- a look came before
-pub looked_before : (before mid after : SeatState) (asked : Result Asks Fault) (now : ℕ) (y : Answer) → mid.changes ≡ before.changes → IsPrefix before.known mid.known → IsAnsweredBySome mid after asked now y → IsAnsweredBySome before after asked now y
-looked_before before mid after asked now y same knew so =
+pub looked_before : (before mid after : SeatState) (asked : Result Asks Fault) (now : ℕ) (y : Answer) → mid.changes ≡ before.changes → IsPrefix before.known mid.known → mid.heard ≡ before.heard → IsAnsweredBySome mid after asked now y → IsAnsweredBySome before after asked now y
+looked_before before mid after asked now y same knew heard so =
     let was = so.by in
     record {
       old = so.old;
@@ -121,6 +116,7 @@ looked_before before mid after asked now y same knew so =
         valid = was.valid;
         bound = subst (λ n. n ≤ so.old.hub.core.registry.version) same was.bound;
         knew = prefix_trans before.known mid.known so.old.published knew was.knew;
+        heard = subst (λ l. IsPrefix l (notes_of so.old)) heard was.heard;
         answered = record {
           changes = was.answered.changes;
           noted = was.answered.noted;
@@ -129,6 +125,7 @@ looked_before before mid after asked now y same knew so =
           replied = was.answered.replied;
         };
         knows = was.knows;
+        hears = was.hears;
       };
     }
 

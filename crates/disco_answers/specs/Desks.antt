@@ -10,7 +10,7 @@ use Rattle.disco_cache.specs.declared.payload.Payload.{Payload}
 use Rattle.disco_core.specs.Past.{Past, history}
 use Rattle.disco_rounds.specs.Press.{change}
 use Rattle.disco_hub.specs.State.{StandsFor, rules_of, version_of}
-use Rattle.disco_press.specs.Desks.{CountsBySeat, DeskState, IsValid, Notes}
+use Rattle.disco_press.specs.Desks.{CountsBySeat, DeskState, IsValid, Notes, notes_of}
 use Rattle.disco_editions.specs.Looks.{Shows}
 use Rattle.disco_editions.specs.Rolls.{notes_in}
 use Rattle.disco_press.specs.Seats.{SeatState}
@@ -27,15 +27,17 @@ pub record IsAnsweredOn (old new : DeskState) (before after : SeatState) (asked 
   pub by_seat : CountsBySeat (length changes) old new
   pub replied : (p : Past) → StandsFor old.hub p → (q : Past) × IsReply (rules_of old.hub) p asked now y q × (history q ≡ history p ++ changes) × StandsFor new.hub q
 
--- and the desk had no fewer changes than the seat and had published what the seat knew; then the seat knows what it has published
+-- and the desk had no fewer changes than the seat, had published what the seat knew, and had noted what the seat had heard of; then the seat knows what it has published, and all that it has noted
 pub record IsAnsweredBy (old new : DeskState) (before after : SeatState) (asked : Result Asks Fault) (now : ℕ) (y : Answer) : Type 0 where
   pub valid : IsValid old
   pub bound : before.changes ≤ version_of old.hub
   pub knew : IsPrefix before.known old.published
+  pub heard : IsPrefix before.heard (notes_of old)
   pub answered : IsAnsweredOn old new before after asked now y
   pub knows : after.known ≡ new.published
+  pub hears : after.heard ≡ notes_of new
 
--- some desk has answered so
+-- some desk has answered so, of the seat's name: by what the seat had heard of and hears then, its notes are those of that name
 pub record IsAnsweredBySome (before after : SeatState) (asked : Result Asks Fault) (now : ℕ) (y : Answer) : Type 0 where
   pub old : DeskState
   pub new : DeskState
@@ -49,6 +51,7 @@ pub record IsLooked (before after : SeatState) (asked : Result Asks Fault) (y : 
   pub found : Shows (notes_in after.known) key (Doc doc)
   pub replied : y ≡ with_document doc.value.text
   pub counted : after.changes ≡ before.changes
+  pub heard : after.heard ≡ before.heard
 
 -- a look of the seat is the reply, or that of some desk
 abbrev pub IsTold : SeatState → SeatState → Result Asks Fault → ℕ → Answer → Type 0

@@ -48,7 +48,6 @@ fn by_id<J: Naming>(desk: &Desk<J>, id: &Text, form: Form, now: u64) -> Reply<Sh
 /// Does an operation for a seat.
 fn write<J: Naming>(desk: &mut Desk<J>, seat: &mut Seat<J>, op: Op, now: u64) -> Reply<Shared>
     ensures answered { IsAnsweredOn desk.old desk.new seat.old seat.new (Ok (writes (ask_of op))) now (answer_of text_in result) }
-    ensures known { seat.new.known ≡ seat.old.known }
     ensures rest { KeepsRest desk.old.hub desk.new.hub }
 {
     let success = success_of(&op);
@@ -63,7 +62,6 @@ fn answer_call<J: Naming>(
     now: u64,
 ) -> Reply<Shared>
     ensures answered { IsAnsweredOn desk.old desk.new seat.old seat.new (Ok (seen call)) now (answer_of text_in result) }
-    ensures known { seat.new.known ≡ seat.old.known }
     ensures rest { KeepsRest desk.old.hub desk.new.hub }
 {
     match call {
@@ -83,7 +81,6 @@ fn answer_called<J: Naming>(
     now: u64,
 ) -> Reply<Shared>
     ensures answered { (asked : Result Asks Fault) → Gives seen called asked → IsAnsweredOn desk.old desk.new seat.old seat.new asked now (answer_of text_in result) }
-    ensures known { seat.new.known ≡ seat.old.known }
     ensures rest { KeepsRest desk.old.hub desk.new.hub }
 {
     match called {
@@ -103,6 +100,7 @@ pub(crate) fn answer_read<J: Naming>(
     ensures rest { KeepsRest desk.old.hub desk.new.hub }
 {
     desk.check();
+    seat.learn(desk);
     let reply = answer_called(desk, seat, called, now);
     seat.learn(desk);
     reply

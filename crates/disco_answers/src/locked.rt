@@ -24,6 +24,7 @@ use std::sync::{Mutex, MutexGuard, Wait};
 fn looked<J: Naming>(seat: &mut Seat<J>, called: &Result<Call, Fault>) -> Option<Reply<Shared>>
     ensures looked { IfSome result (λ reply. (asked : Result Asks Fault) → Gives seen called.now asked → IsLooked seat.old seat.new asked (answer_of text_in reply)) }
     ensures known { IsPrefix seat.old.known seat.new.known }
+    ensures heard { seat.new.heard ≡ seat.old.heard }
     ensures count { seat.new.changes ≡ seat.old.changes }
 {
     let Ok(Call::Load(key)) = called else {

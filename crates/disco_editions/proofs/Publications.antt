@@ -1,5 +1,5 @@
 -- A roll that has gone on begins with what was published before.
-use Rattle.std.proofs.Common.{◌≡◌, List, [], ◌∷◌, ◌++◌, fold, refl, sym, ◌∙◌, ap, subst, append-nil}
+use Rattle.std.proofs.Common.{◌≡◌, List, [], ◌∷◌, ◌++◌, fold, refl, sym, ◌∙◌, ap, subst, append-nil, append_assoc}
 use Rattle.std.proofs.lemmas.List.Sums.{fold-append}
 use Rattle.std.proofs.lemmas.List.Concat.{flat_map-append}
 use mathlib.Core.List.{IsPrefix}
@@ -8,7 +8,7 @@ use Rattle.disco_history.specs.Change.{seen}
 use Rattle.disco_rounds.specs.Press.{Note, begin, change, note_of}
 use Rattle.disco_editions.specs.declared.mark.Mark.{Mark}
 use Rattle.disco_editions.specs.declared.mark.Mark.TheVariants.{Begun, Changed, Copied, Published}
-use Rattle.disco_editions.specs.Rolls.{Rolled, notes_in, publications, roll_on, rolled, with_note}
+use Rattle.disco_editions.specs.Rolls.{Rolled, all_noted, notes_in, publications, roll_on, rolled, with_note}
 
 pub rolled_more : (marks : List Mark) (m : Mark) → rolled (marks ++ m ∷ []) ≡ roll_on (rolled marks) m
 rolled_more marks m = fold-append roll_on (record { published = []; pending = [] }) marks (m ∷ [])
@@ -30,3 +30,25 @@ begins_too xs ys p =
 -- one publication more
 pub notes_more : (ps : List (List Note)) (p : List Note) → notes_in (ps ++ p ∷ []) ≡ notes_in ps ++ p
 notes_more ps p = flat_map-append (λ (q : List Note). q) ps (p ∷ []) ∙ ap (λ q. notes_in ps ++ q) (append-nil p)
+
+-- ---- all that was noted goes on too
+
+one_noted : (r : Rolled) (n : Note) → IsPrefix (all_noted r) (all_noted (with_note r n))
+one_noted r n = (n ∷ [], append_assoc (notes_in r.published) r.pending (n ∷ []))
+
+one_published : (r : Rolled) → all_noted (record { published = r.published ++ r.pending ∷ []; pending = [] }) ≡ all_noted r
+one_published r = append-nil (notes_in (r.published ++ r.pending ∷ [])) ∙ notes_more r.published r.pending
+
+all_go_on : (r : Rolled) (more : List Mark) → IsPrefix (all_noted r) (all_noted (fold roll_on r more))
+all_go_on r [] = prefix_refl (all_noted r)
+all_go_on r (Begun ∷ more) = prefix_trans (all_noted r) (all_noted (with_note r begin)) (all_noted (fold roll_on r (Begun ∷ more))) (one_noted r begin) (all_go_on (with_note r begin) more)
+all_go_on r (Changed c ∷ more) = prefix_trans (all_noted r) (all_noted (with_note r (change (seen c)))) (all_noted (fold roll_on r (Changed c ∷ more))) (one_noted r (change (seen c))) (all_go_on (with_note r (change (seen c))) more)
+all_go_on r (Copied c ∷ more) = prefix_trans (all_noted r) (all_noted (with_note r (note_of c))) (all_noted (fold roll_on r (Copied c ∷ more))) (one_noted r (note_of c)) (all_go_on (with_note r (note_of c)) more)
+all_go_on r (Published ∷ more) =
+    let s : Rolled = record { published = r.published ++ r.pending ∷ []; pending = [] } in
+    subst (λ l. IsPrefix l (all_noted (fold roll_on s more))) (one_published r) (all_go_on s more)
+
+pub notes_begin_too : (xs ys : List Mark) → IsPrefix xs ys → IsPrefix (all_noted (rolled xs)) (all_noted (rolled ys))
+notes_begin_too xs ys p =
+    let e : rolled ys ≡ fold roll_on (rolled xs) p.0 = ap rolled (sym p.1) ∙ fold-append roll_on (record { published = []; pending = [] }) xs p.0 in
+    subst (λ (r : Rolled). IsPrefix (all_noted (rolled xs)) (all_noted r)) (sym e) (all_go_on (rolled xs) p.0)

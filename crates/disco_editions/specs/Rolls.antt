@@ -14,6 +14,10 @@ pub record Rolled : Type 0 where
   pub published : List (List Note)
   pub pending : List Note
 
+-- all that was noted, published or not
+abbrev pub all_noted : Rolled → List Note
+all_noted r = notes_in r.published ++ r.pending
+
 abbrev pub with_note : Rolled → Note → Rolled
 with_note r n = record r { pending = r.pending ++ n ∷ [] }
 

@@ -2,6 +2,7 @@
 #![tactic(auto)]
 
 mod front;
+mod heard;
 mod looking;
 mod mark;
 mod printer;
@@ -10,6 +11,7 @@ mod shown;
 mod window;
 
 pub use front::{Front, Naming, Page};
+pub use heard::Heard;
 pub use looking::Looked;
 pub use mark::Mark;
 pub use printer::Printer;

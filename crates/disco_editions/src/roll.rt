@@ -4,8 +4,10 @@ ghost use mathlib.Core.List.{IsPrefix};
 ghost use Rattle.disco_history.specs.Change.{seen};
 ghost use Rattle.disco_rounds.specs.Press as press;
 ghost use Rattle.disco_rounds.specs.Press.{note_of};
+ghost use Rattle.disco_editions.specs.Rolls.{all_noted};
 
 use crate::front::{Front, Naming, Page};
+use crate::heard::Heard;
 use crate::mark::Mark;
 use disco_history::Change;
 use disco_rounds::Copied;
@@ -110,6 +112,21 @@ impl<J: Naming> Roll<J> {
         ensures { result ≡ self.now.published }
     {
         Front::of(self.shown.again())
+    }
+
+    /// All that was noted.
+    pub fn heard(&mut self) -> Heard<J>
+        ensures { (self.new ≡ self.old) × (result ≡ all_noted self.old) }
+    {
+        Heard::of_leaf(self.marks.leaf())
+    }
+
+    /// What a reader heard was noted here, and is a beginning of what was noted.
+    #[tactic(auto, using(crate::proofs::Publications::notes_begin_too))]
+    pub fn meet_all(&mut self, heard: &Heard<J>)
+        ensures { (self.new ≡ self.old) × IsPrefix heard.now (all_noted self.old) }
+    {
+        self.marks.holds(heard.leaf());
     }
 
     /// What a reader knows was published here, and is a beginning of what was published.

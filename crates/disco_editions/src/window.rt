@@ -64,7 +64,7 @@ impl<J: Naming> Window<J> {
         &self.known
     }
 
-    /// From now on it knows these publications.
+    /// From now on it knows these publications, whatever it knew.
     pub fn tell(&mut self, known: Front<J>)
         ensures { self.new ≡ known }
     {

@@ -1,12 +1,14 @@
 -- What a seat knows.
 use Rattle.std.specs.Prelude.{◌≡◌, ℕ, List}
 use Rattle.disco_rounds.specs.Press.{Note}
+use Rattle.disco_editions.specs.Rolls.{notes_in}
 
--- the publications that it has seen or been told of, and how many changes it has made
+-- the publications that it has seen or been told of, all that it has been told was noted, and how many changes it has made
 pub record SeatState : Type 0 where
   pub known : List (List Note)
+  pub heard : List Note
   pub changes : ℕ
 
--- it knows these publications, and has made no change
+-- it knows these publications and what they noted, and has made no change
 abbrev pub IsNew : List (List Note) → SeatState → Type 0
-IsNew published s = (s.known ≡ published) × (s.changes ≡ 0)
+IsNew published s = (s.known ≡ published) × (s.heard ≡ notes_in published) × (s.changes ≡ 0)

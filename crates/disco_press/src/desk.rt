@@ -5,7 +5,7 @@ ghost use mathlib.Core.List.{IsPrefix};
 ghost use Rattle.disco_core.specs.Refusals.{doc_of_key};
 ghost use Rattle.disco_hub.specs.State.{IsEmptyHub, rules_of, version_of};
 ghost use Rattle.disco_hub.specs.Transitions.{Cleans, Closes, IsDocOf, IsDocOfId, Loads, Withholds, WithholdsId};
-ghost use Rattle.disco_press.specs.Desks.{IsValid, NotesNothing};
+ghost use Rattle.disco_press.specs.Desks.{IsValid, NotesNothing, notes_of};
 
 use crate::seat::Seat;
 use disco_cache::{Edition, Payload};
@@ -145,16 +145,20 @@ impl<J: Naming> Desk<J> {
 }
 
 impl<J: Naming> Seat<J> {
-    /// This seat learns what the desk has published: no later look goes back behind it. All that it
-    /// knew is a beginning of that. Takes no memory.
+    /// This seat learns what the desk has published, and what it has noted: no later look goes back
+    /// behind it. All that it knew and had heard of is a beginning of that, since desk and seat have
+    /// one name, and so one list of notes. Takes no memory.
     pub fn learn(&mut self, desk: &mut Desk<J>)
         ensures desk { desk.new ≡ desk.old }
         ensures knew { IsPrefix self.old.known desk.old.published }
-        ensures knows { self.new ≡ record self.old { known = desk.old.published } }
+        ensures heard { IsPrefix self.old.heard (notes_of desk.old) }
+        ensures knows { self.new ≡ record self.old { known = desk.old.published; heard = notes_of desk.old } }
         ensures bound { self.old.changes ≤ version_of desk.old.hub }
     {
         self.check(&mut desk.book);
         desk.roll.meet(self.known());
-        self.tell(desk.roll.front());
+        desk.roll.meet_all(self.heard());
+        let heard = desk.roll.heard();
+        self.tell(desk.roll.front(), heard);
     }
 }

@@ -5,7 +5,7 @@ ghost use Rattle.disco_editions.specs.Looks.{Shows};
 ghost use Rattle.disco_editions.specs.Rolls.{notes_in};
 ghost use Rattle.disco_press.specs.Seats.{IsNew};
 
-use disco_editions::{Front, Looked, Naming, Window};
+use disco_editions::{Front, Heard, Looked, Naming, Window};
 use disco_query::DocKey;
 use std::marker::Model;
 use std::sync::ledger::{Book, Share};
@@ -15,6 +15,7 @@ use std::sync::ledger::{Book, Share};
 #[derive(Drop)]
 pub struct Seat<J: Naming> {
     window: Window<J>,
+    heard: Heard<J>,
     mine: Share<J>,
     changes: u64,
 }
@@ -25,18 +26,20 @@ impl<J: Naming> Model for Seat<J> {
 
     ghost Value = { SeatState };
 
-    ghost view = { λ s. record { known = s.window; changes = s.changes } };
+    ghost view = { λ s. record { known = s.window; heard = s.heard; changes = s.changes } };
 
     ghost invariant = { λ s. (s.mine.amount ≡ s.changes) × (0 < s.mine.parts) };
 }
 
 impl<J: Naming> Seat<J> {
-    pub(crate) fn new(window: Window<J>, mine: Share<J>) -> Seat<J>
-        requires { (0 < mine.parts) × (mine.amount ≡ 0) }
+    pub(crate) fn new(window: Window<J>, heard: Heard<J>, mine: Share<J>) -> Seat<J>
+        requires share { (0 < mine.parts) × (mine.amount ≡ 0) }
+        requires heard { heard ≡ notes_in window }
         ensures { IsNew window result }
     {
         Seat {
             window,
+            heard,
             mine,
             changes: 0,
         }
@@ -48,6 +51,7 @@ impl<J: Naming> Seat<J> {
     pub fn look(&mut self, key: &DocKey) -> Looked
         ensures shows { Shows (notes_in self.new.known) key.now result }
         ensures known { IsPrefix self.old.known self.new.known }
+        ensures heard { self.new.heard ≡ self.old.heard }
         ensures count { self.new.changes ≡ self.old.changes }
     {
         self.window.look(key)
@@ -87,10 +91,18 @@ impl<J: Naming> Seat<J> {
         self.window.known()
     }
 
-    /// From now on this seat knows these publications.
-    pub(crate) fn tell(&mut self, known: Front<J>)
-        ensures { self.new ≡ record self.old { known = known } }
+    /// What this seat has been told was noted.
+    pub(crate) fn heard(&self) -> &Heard<J>
+        ensures { result.now ≡ self.now.heard }
+    {
+        &self.heard
+    }
+
+    /// From now on this seat knows these publications, and that this was noted.
+    pub(crate) fn tell(&mut self, known: Front<J>, heard: Heard<J>)
+        ensures { self.new ≡ record self.old { known = known; heard = heard } }
     {
         self.window.tell(known);
+        self.heard = heard;
     }
 }

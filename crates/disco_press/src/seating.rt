@@ -8,7 +8,7 @@ ghost use Rattle.disco_press.specs.Openings.{Opens};
 use crate::desk::Desk;
 use crate::opening::Opening;
 use crate::seat::Seat;
-use disco_editions::{Naming, Printer, Roll};
+use disco_editions::{Heard, Naming, Printer, Roll};
 use disco_settings::Settings;
 use disco_values::Fault;
 use std::alloc::{AllocError, Global};
@@ -26,8 +26,9 @@ fn seat_of<J: Naming>(
     ensures seat { IfOk result (λ s. IsNew roll.now.published s) }
 {
     let window = printer.window(roll.front())?;
+    let heard = Heard::of(roll.front().into_page());
     let mine = rest.split_off(1, 0);
-    Ok(Seat::new(window, mine))
+    Ok(Seat::new(window, heard, mine))
 }
 
 /// So many seats.

@@ -1,20 +1,22 @@
 use Rattle.std.proofs.Common.{ap, sym, ◌∙◌}
-use Rattle.disco_press.specs.Desks.{DeskState}
+use Rattle.disco_press.specs.Desks.{DeskState, notes_of}
 use Rattle.disco_press.specs.Seats.{SeatState}
-use Rattle.disco_answers.proofs.Noting.{bound_before, knew_before, learnt}
+use Rattle.disco_answers.proofs.Noting.{learnt}
 use Rattle.disco_answers.proofs.desk.answer_read.Goals as goal
 
 pub returns-clause-answered : goal.returns-clause-answered
 returns-clause-answered g c = λ asked gives.
     let old = c.args.desk.now in
-    let mid = c.answer_called-reply.new.desk in
-    let before = c.args.seat.now in
-    let after = c.answer_called-reply.new.seat in
-    let so = c.answer_called-reply.ensures.answered asked gives in
+    let first = c.learn.ensures in
+    let again = c.learn-2.ensures in
+    let mid = c.learn.new.self in
+    let so = rw first.desk at (c.answer_called-reply.ensures.answered asked gives) in
     record {
       valid = c.check.ensures;
-      bound = bound_before old mid before after asked c.args.now _ so c.check.ensures c.learn.ensures.bound;
-      knew = knew_before old mid before after asked c.args.now _ so c.answer_called-reply.ensures.known c.learn.ensures.knew;
-      answered = learnt old mid before after asked c.args.now _ so c.learn.new.desk c.learn.ensures.desk c.learn.new.self (ap (λ (s : SeatState). s.changes) c.learn.ensures.knows);
-      knows = ap (λ (s : SeatState). s.known) c.learn.ensures.knows ∙ ap (λ (d : DeskState). d.published) (sym c.learn.ensures.desk);
+      bound = first.bound;
+      knew = first.knew;
+      heard = first.heard;
+      answered = learnt old c.answer_called-reply.new.desk c.learn-2.new.desk c.args.seat.now mid c.answer_called-reply.new.seat c.learn-2.new.self asked c.args.now _ so (ap (λ (s : SeatState). s.changes) first.knows) again.desk (ap (λ (s : SeatState). s.changes) again.knows);
+      knows = ap (λ (s : SeatState). s.known) again.knows ∙ ap (λ (d : DeskState). d.published) (sym again.desk);
+      hears = ap (λ (s : SeatState). s.heard) again.knows ∙ ap (λ (d : DeskState). notes_of d) (sym again.desk);
     }
