@@ -17,7 +17,7 @@ pieces-more : (limits : Limits) (input now next p : List ℕ) (pieces : List (Li
 pieces-more limits input now next p [] h chunk = (next, subst (λ (x : List ℕ). ReadsChunk limits x p next) (sym h) chunk, refl)
 pieces-more limits input now next p (q ∷ pieces) h chunk = (h.0, h.1, pieces-more limits h.0 now next p pieces h.2 chunk)
 
-joined-more : (pieces : List (List ℕ)) (p : List ℕ) → joined (pieces ++ p ∷ []) ≡ joined pieces ++ p
+pub joined-more : (pieces : List (List ℕ)) (p : List ℕ) → joined (pieces ++ p ∷ []) ≡ joined pieces ++ p
 joined-more [] p = append-nil p
 joined-more (q ∷ pieces) p = ap (λ (xs : List ℕ). q ++ xs) (joined-more pieces p) ∙ sym (append_assoc q (joined pieces) p)
 
@@ -64,14 +64,14 @@ refused_trailer limits have (Some input) now body new fault turn refused =
     behind_last limits have fault input turn.0 turn.1 (known_is now turn.0 (TrailerRefused limits fault) turn.3 refused)
 
 -- the bytes of a chunk are refused
-pub refused_data : (limits : Limits) (have size : ℕ) (left mid : Option (List ℕ)) (fault : Fault) → IfSome left (λ input. (after : List ℕ) × HasSize limits size input after × (mid ≡ Some after)) → IfSome mid (DataRefused size fault) → IfSome left (NextRefused limits have fault)
-refused_data limits have size None mid fault found refused = tt
-refused_data limits have size (Some input) mid fault found refused = by fault (known_is mid found.0 (DataRefused size fault) found.2 refused)
+pub refused_data : (limits : Limits) (have size : ℕ) (left mid : Option (List ℕ)) (fault : Fault) → have + size ≤ limits.body → IfSome left (λ input. (after : List ℕ) × HasSize limits size input after × (mid ≡ Some after)) → IfSome mid (DataRefused size fault) → IfSome left (NextRefused limits have fault)
+refused_data limits have size None mid fault fits found refused = tt
+refused_data limits have size (Some input) mid fault fits found refused = by fault (known_is mid found.0 (DataRefused size fault) found.2 refused)
   where
     by : (f : Fault) → DataRefused size f found.0 → NextRefused limits have f input
     by OutOfMemory r = tt
     by ReadFailed r = tt
-    by BadRequest r = inr (inl (size, found.0, found.1, r))
+    by BadRequest r = inr (inl (size, found.0, found.1, fits, r))
     by f r = elim r [ ]
 
 -- the bytes that were appended, with the line end behind them

@@ -1,4 +1,6 @@
 pub mod Chunking
+pub mod Coming
+pub mod EmptyLines
 pub mod Heads
 pub mod Known
 pub mod Messages

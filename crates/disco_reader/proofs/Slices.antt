@@ -2,7 +2,7 @@
 use Rattle.std.proofs.Common.{◌≡◌, ◌≢◌, ℕ, ◌+◌, ◌-◌, ◌≤◌, List, [], Option, ◌++◌, length, take, drop, sym, ◌∙◌, ap, arith, slice_range, rules}
 use Rattle.std.specs.Io.KnownBytes.{Keeps, Consumes, prepend_known}
 use Rattle.httparse.proofs.RunLemmas.{length-slice_range}
-use Rattle.std.proofs.lemmas.List.{drop-drop, take-take}
+use Rattle.std.proofs.lemmas.List.{drop-drop, take-take, take_at}
 use Rattle.std.proofs.Math.Seq.{take-add}
 use Rattle.disco_message.proofs.Reading.{same_front}
 use Rattle.disco_reader.specs.Streams.{unread}
@@ -31,6 +31,12 @@ pub unread_none : (old new : List ℕ) (s e n : ℕ) → n ≡ 0 → s ≤ e →
 unread_none old new s e n none h same =
     let at : e + n ≡ e = omega arith in
     ap (slice_range new s) at ∙ same_front old new s e h same
+
+-- the part as it was stands at the front of it with what was read behind
+pub front_kept : (old new : List ℕ) (s e n : ℕ) → s ≤ e → e ≤ length old → take e new ≡ take e old → take (e - s) (slice_range new s (e + n)) ≡ slice_range old s e
+front_kept old new s e n h within same =
+    ap (take (e - s)) (slice_join new s e n h ∙ ap (λ zs. zs ++ slice_range new e (e + n)) (same_front old new s e h same))
+    ∙ take_at (slice_range old s e) (slice_range new e (e + n)) (e - s) (length-slice_range old s e h within)
 
 pub part_len : (xs : List ℕ) (s e : ℕ) → s ≤ e → e ≤ length xs → length (slice_range xs s e) ≡ e - s
 part_len xs s e h within = length-slice_range xs s e h within

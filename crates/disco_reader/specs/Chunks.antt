@@ -50,7 +50,7 @@ NextRefused limits have BodyTooLarge input = (size : ℕ) × (after : List ℕ) 
 NextRefused limits have HeadTooLarge input = (after : List ℕ) × HasSize limits 0 input after × PartRefused limits part.Trailer HeadTooLarge after
 NextRefused limits have BadRequest input =
     LineRefused limits input
-    ⊎ (((size : ℕ) × (after : List ℕ) × HasSize limits size input after × LacksChunk size after)
+    ⊎ (((size : ℕ) × (after : List ℕ) × HasSize limits size input after × (have + size ≤ limits.body) × LacksChunk size after)
     ⊎ ((after : List ℕ) × HasSize limits 0 input after × PartRefused limits part.Trailer BadRequest after))
 NextRefused limits have fault input = ⊥
 

@@ -1,5 +1,7 @@
 -- Only what code keeps: nothing here is to be believed.
-use Rattle.std.specs.Prelude.{◌≡◌, ℕ, ◌≤◌, ⊤, ◌⊎◌, IsOk, Bool, true, false, ◌++◌, List, length, drop, Option, Some, None, Result, Ok, Err}
+use Rattle.std.specs.Prelude.{◌≡◌, ℕ, ◌≤◌, ⊤, ◌⊎◌, IsOk, Bool, true, false, ◌==◌, ◌&&◌, ◌||◌, ◌++◌, List, [], ◌∷◌, length, drop, Option, Some, None, Result, Ok, Err}
+use Rattle.std.specs.List.{list_any}
+use Rattle.httparse.specs.Ascii.{carriage_return, line_feed}
 use Rattle.httparse.specs.Grammar.{ChunkLine, Field, LineEnd, print_section, ReadsSection}
 use Rattle.httparse.specs.Spans.{IsRequestWithin, IsRequestOf, IsResponseWithin, IsResponseOf, IsChunkLineAt}
 use Rattle.httparse.specs.declared.spans.HeaderSpan.{HeaderSpan}
@@ -10,12 +12,26 @@ use Rattle.disco_reader.specs.declared.looking.Part.{Part}
 use Rattle.disco_reader.specs.declared.looking.Part.TheVariants as part
 use Rattle.disco_values.specs.declared.fault.Fault.TheVariants.{OutOfMemory, HeadTooLarge, BadRequest, ReadFailed}
 use Rattle.disco_message.specs.declared.limits.Limits.{Limits}
-use Rattle.disco_reader.specs.Chunks.{HasSize, LacksChunk, LineRefused, ReadsChunk, ReadsPieces, joined}
+use Rattle.disco_message.specs.declared.framing.Framing.{Framing}
+use Rattle.disco_message.specs.declared.received.Extent.{Extent}
+use Rattle.disco_message.specs.declared.received.Extent.TheVariants.{Framed, UntilEnd}
+use Rattle.disco_reader.specs.Bodies.{ReadsBody}
+use Rattle.disco_reader.specs.Chunks.{HasSize, LacksChunk, LineRefused, ReadsChunk, ReadsLast, ReadsPieces, joined}
 use Rattle.disco_reader.specs.Parts.{HasNo, BytesRefused, PartRefused}
 use Rattle.disco_reader.specs.Replies.{BeginsReply}
 use Rattle.disco_reader.specs.Requests.{Begins}
 use Rattle.disco_message.specs.Heading.{Heading, heading}
 use Rattle.disco_message.specs.Received.{Received, received}
+
+-- an empty line stands behind a line in the bytes, the first of which follow none but CRs in their line, or not
+abbrev pub has_empty_line : Bool → List ℕ → Bool
+has_empty_line blank [] = false
+has_empty_line blank (b ∷ bytes) = (b == line_feed && blank) || has_empty_line (b == line_feed || (b == carriage_return && blank)) bytes
+
+-- the bytes have what a part ends with
+abbrev pub has_end : Part → List ℕ → Bool
+has_end part.SizeLine bytes = list_any (λ b. b == line_feed) bytes
+has_end part bytes = has_empty_line false bytes
 
 -- a line of this length and size stands at the front
 abbrev pub IsLine : List ℕ → ℕ → ℕ → Type 0
@@ -67,6 +83,19 @@ Turn limits false old new input left = (next : List ℕ) × HasSize limits 0 inp
 -- the body so far is that of the chunks so far
 abbrev pub PiecesSoFar : Limits → List ℕ → List ℕ → Option (List ℕ) → Type 0
 PiecesSoFar limits body input left = (pieces : List (List ℕ)) × (next : List ℕ) × ReadsPieces limits input pieces next × (body ≡ joined pieces) × (left ≡ Some next)
+
+-- no chunks up to the last, with the fields behind it, stand at the front of these bytes
+abbrev pub HasNoChunks : Limits → List ℕ → Type 0
+HasNoChunks limits bytes = (pieces : List (List ℕ)) (next rest : List ℕ) → ReadsPieces limits bytes pieces next → ReadsLast limits next rest → ⊥
+
+-- nor does a body
+abbrev pub HasNoBody : Limits → Framing → List ℕ → Type 0
+HasNoBody limits framing bytes = (body rest : List ℕ) → ReadsBody limits framing bytes body rest → ⊥
+
+-- the same of the body of a reply, unless it goes on to the end of the input
+abbrev pub HasNoExtent : Limits → Extent → List ℕ → Type 0
+HasNoExtent limits (Framed framing) bytes = HasNoBody limits framing bytes
+HasNoExtent limits UntilEnd bytes = ⊤
 
 -- the stream begins with a head that says this, and so much is left
 abbrev pub IsRead : {H S : Type 0} → (H → Result S Fault) → (List ℕ → H → List ℕ → Type 0) → List ℕ → S → Option (List ℕ) → Type 0

@@ -38,6 +38,10 @@ pub record TakesReply (limits : Limits) (stream : List ℕ) (says : Received) (b
   pub received : received head ≡ Ok says
   pub reads : ReadsExtent limits says.extent after body rest
 
+-- no reply stands at the front of these bytes, but for one that goes on to the end of the input
+abbrev pub HasNoReply : Limits → List ℕ → Type 0
+HasNoReply limits bytes = (says : Received) (body : List ℕ) (rest : List ℕ) → TakesReply limits bytes says body rest → says.extent ≡ UntilEnd
+
 -- why what follows a head is refused: for what the head says, or for its body
 abbrev pub BehindReplyHead : Limits → Fault → ResponseHead → List ℕ → Type 0
 BehindReplyHead limits fault h after = (received h ≡ Err fault) ⊎ ((says : Received) × (received h ≡ Ok says) × ExtentRefused limits says.extent fault after)

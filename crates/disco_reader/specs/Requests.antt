@@ -25,6 +25,10 @@ pub record Takes (limits : Limits) (stream : List ℕ) (a : Asked) (rest : List 
   pub body : ReadsBody limits says.framing after a.body rest
   pub asks : a ≡ asked says a.body
 
+-- no request stands at the front of these bytes
+abbrev pub HasNone : Limits → List ℕ → Type 0
+HasNone limits bytes = (a : Asked) (rest : List ℕ) → Takes limits bytes a rest → ⊥
+
 -- why what follows a head is refused: for what the head says, or for its body
 abbrev pub BehindHead : Limits → Fault → RequestHead → List ℕ → Type 0
 BehindHead limits fault h after = (heading h ≡ Err fault) ⊎ ((says : Heading) × (heading h ≡ Ok says) × BodyRefused limits says.framing fault after)

@@ -1,6 +1,6 @@
 -- What a reader has ahead.
-use Rattle.std.specs.Prelude.{ℕ, List, Option, Bool, slice_range}
-use Rattle.std.specs.Io.KnownBytes.{prepend_known}
+use Rattle.std.specs.Prelude.{ℕ, List, Option, Some, Bool, slice_range}
+use Rattle.std.specs.Io.KnownBytes.{Consumes, prepend_known}
 use Rattle.disco_reader.specs.declared.reader.Reader.{Reader}
 use Rattle.disco_message.specs.declared.limits.Limits.{Limits}
 
@@ -11,6 +11,10 @@ unread reader = slice_range reader.buffer.items reader.start reader.end
 -- the bytes ahead: those, and then what the source gives, where that is known
 abbrev pub ahead : {R : Type 0} → (R → Option (List ℕ)) → Reader R → Option (List ℕ)
 ahead remaining reader = prepend_known (unread reader) (remaining reader.source)
+
+-- what came of a stream before its source failed is so, and the source still gives the rest
+abbrev pub Came : (List ℕ → Type 0) → List ℕ → Option (List ℕ) → Type 0
+Came IsSo stream left = (given : List ℕ) × Consumes (Some stream) left given × IsSo given
 
 -- the limits that a reader keeps to
 abbrev pub limits_of : {R : Type 0} → Reader R → Limits

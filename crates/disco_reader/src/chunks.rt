@@ -1,5 +1,5 @@
 //! Bodies in chunks.
-ghost use Rattle.std.specs.Prelude.{◌≡◌, ◌+◌, ◌≤◌, ◌<◌, ◌^◌, ◌++◌, [], ℕ, List, length, vec_len, IfOk, IfErr, IfSome, Some, OnOk, IsTrue, ◌↔◌, drop};
+ghost use Rattle.std.specs.Prelude.{◌≡◌, ◌+◌, ◌≤◌, ◌<◌, ◌^◌, ◌++◌, [], ℕ, List, length, vec_len, IfOk, IfErr, IfSome, IsErrOf, Some, OnOk, IsTrue, ◌↔◌, drop};
 ghost use Rattle.std.specs.Io.KnownBytes.{Consumes};
 ghost use Rattle.httparse.specs.Ascii.{crlf_bytes};
 ghost use Rattle.disco_values.specs.declared.fault.Fault.TheVariants.{ReadFailed};
@@ -22,14 +22,17 @@ fn is_line_end(bytes: &[u8], from: usize) -> bool
 impl<R: Source> Reader<R> {
     ghost use Rattle.disco_reader.specs.Bodies.{ReadsBody};
     ghost use Rattle.disco_reader.specs.Chunks.{HasSize, ReadsTrailer, NextRefused, ChunksRefused};
-    ghost use Rattle.disco_reader.specs.Found.{SizeRefused, DataRefused, TrailerRefused, Turn};
-    ghost use Rattle.disco_reader.specs.Streams.{ahead};
+    ghost use Rattle.disco_reader.specs.Found.{HasNoChunks, SizeRefused, DataRefused, TrailerRefused, Turn};
+    ghost use Rattle.disco_reader.specs.Parts.{HasNo};
+    ghost use Rattle.disco_reader.specs.Streams.{ahead, Came};
+    ghost use Rattle.disco_reader.specs.declared.looking.Part.TheVariants.{SizeLine, Trailer};
 
     /// Goes past the line in front of a chunk, and answers the chunk's size.
     fn read_size(&mut self) -> Result<u64, Fault>
         ensures size { IfOk result (λ size. IfSome (ahead R.remaining self.old) (λ input.
             (after : List ℕ) × HasSize self.old.limits size input after × (ahead R.remaining self.new ≡ Some after))) }
         ensures refused { IfErr result (λ fault. IfSome (ahead R.remaining self.old) (SizeRefused self.old.limits fault)) }
+        ensures broken { IsErrOf result ReadFailed → IfSome (ahead R.remaining self.old) (λ input. Came (HasNo SizeLine) input (R.remaining self.new.source)) }
         ensures limits { self.new.limits ≡ self.old.limits }
         ensures fault { IfErr result (λ fault. IsTrue (is_of_reading fault)) }
         ensures cause { Cause ReadFailed (R.failed self.old.source) (R.failed self.new.source) result }
@@ -50,6 +53,7 @@ impl<R: Source> Reader<R> {
         ensures rest { OnOk result (IfSome (ahead R.remaining self.old) (λ input.
             (rest : List ℕ) × ReadsTrailer self.old.limits input rest × (ahead R.remaining self.new ≡ Some rest))) }
         ensures refused { IfErr result (λ fault. IfSome (ahead R.remaining self.old) (TrailerRefused self.old.limits fault)) }
+        ensures broken { IsErrOf result ReadFailed → IfSome (ahead R.remaining self.old) (λ input. Came (HasNo Trailer) input (R.remaining self.new.source)) }
         ensures limits { self.new.limits ≡ self.old.limits }
         ensures fault { IfErr result (λ fault. IsTrue (is_of_reading fault)) }
         ensures cause { Cause ReadFailed (R.failed self.old.source) (R.failed self.new.source) result }
@@ -70,6 +74,7 @@ impl<R: Source> Reader<R> {
         requires { vec_len body.old + size + 2 < 2 ^ 64 }
         ensures chunk { OnOk result ((piece : List ℕ) × (body.new.items ≡ body.old.items ++ piece) × (length piece ≡ size) × Consumes (ahead R.remaining self.old) (ahead R.remaining self.new) (piece ++ crlf_bytes)) }
         ensures refused { IfErr result (λ fault. IfSome (ahead R.remaining self.old) (DataRefused size fault)) }
+        ensures broken { IsErrOf result ReadFailed → IfSome (ahead R.remaining self.old) (λ input. Came (λ given. length given < size + 2) input (R.remaining self.new.source)) }
         ensures limits { self.new.limits ≡ self.old.limits }
         ensures fault { IfErr result (λ fault. IsTrue (is_of_reading fault)) }
         ensures cause { Cause ReadFailed (R.failed self.old.source) (R.failed self.new.source) result }
@@ -91,6 +96,7 @@ impl<R: Source> Reader<R> {
         ensures fits { OnOk result (vec_len body.new ≤ self.old.limits.body) }
         ensures grown { IfOk result (λ more. IsTrue more → vec_len body.old < vec_len body.new) }
         ensures refused { IfErr result (λ fault. IfSome (ahead R.remaining self.old) (NextRefused self.old.limits (length body.old.items) fault)) }
+        ensures broken { IsErrOf result ReadFailed → IfSome (ahead R.remaining self.old) (λ input. Came (HasNoChunks self.old.limits) input (R.remaining self.new.source)) }
         ensures limits { self.new.limits ≡ self.old.limits }
         ensures fault { IfErr result (λ fault. IsTrue (is_of_reading fault)) }
         ensures cause { Cause ReadFailed (R.failed self.old.source) (R.failed self.new.source) result }
@@ -113,6 +119,7 @@ impl<R: Source> Reader<R> {
         ensures body { IfOk result (λ body. IfSome (ahead R.remaining self.old) (λ after.
             (rest : List ℕ) × ReadsBody self.old.limits Chunked after body.items rest × (ahead R.remaining self.new ≡ Some rest))) }
         ensures refused { IfErr result (λ fault. IfSome (ahead R.remaining self.old) (ChunksRefused self.old.limits fault)) }
+        ensures broken { IsErrOf result ReadFailed → IfSome (ahead R.remaining self.old) (λ after. Came (HasNoChunks self.old.limits) after (R.remaining self.new.source)) }
         ensures limits { self.new.limits ≡ self.old.limits }
         ensures fault { IfErr result (λ fault. IsTrue (is_of_reading fault)) }
         ensures cause { Cause ReadFailed (R.failed self.old.source) (R.failed self.new.source) result }

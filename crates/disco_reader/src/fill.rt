@@ -1,7 +1,8 @@
 //! Reads until a buffer is full.
-ghost use Rattle.std.specs.Prelude.{◌≡◌, ◌+◌, ◌≤◌, ◌<◌, ℕ, List, length, take, slice_range, Ok, IfOk, OnOk, OnErr};
+ghost use Rattle.std.specs.Prelude.{◌≡◌, ◌+◌, ◌-◌, ◌≤◌, ◌<◌, ℕ, List, length, take, slice_range, Ok, IfOk, IfSome, OnOk, OnErr};
 ghost use Rattle.std.specs.Io.KnownBytes.{Keeps, Consumes, IsAtEnd};
 ghost use Rattle.disco_reader.specs.Causes.{Raises, Counts};
+ghost use Rattle.disco_reader.specs.Streams.{Came};
 
 use crate::source::{Failed, Source};
 
@@ -17,6 +18,7 @@ pub(crate) fn fill_from<R: Source>(
     ensures within { IfOk result (λ filled. (from ≤ filled) × (filled ≤ length buffer.new)) }
     ensures bytes { IfOk result (λ filled. Consumes (R.remaining source.old) (R.remaining source.new) (slice_range buffer.new from filled)) }
     ensures end { IfOk result (λ filled. filled < length buffer.new → IsAtEnd (R.remaining source.new)) }
+    ensures broken { OnErr result (IfSome (R.remaining source.old) (λ input. Came (λ given. length given < length buffer.old - from) input (R.remaining source.new))) }
     ensures cause { OnErr result (Raises (R.failed source.old) (R.failed source.new)) }
     ensures none_failed { OnOk result (R.failed source.new ≡ R.failed source.old) }
 {

@@ -1,7 +1,8 @@
 //! What stands at the front of bytes: a head, a chunk's line, or the fields behind the last chunk.
-ghost use Rattle.std.specs.Prelude.{◌≡◌, IfErr, IsTrue, length};
+ghost use Rattle.std.specs.Prelude.{◌≡◌, ◌==◌, ◌&&◌, ◌||◌, ◌≤◌, ◌<◌, IfErr, IsFalse, IsTrue, false, length, take};
 ghost use Rattle.disco_reader.specs.Causes.{is_of_reading};
-ghost use Rattle.disco_reader.specs.Found.{Looked};
+ghost use Rattle.disco_reader.specs.Found.{Looked, has_empty_line, has_end};
+ghost use Rattle.disco_reader.specs.Parts.{HasNo};
 ghost use Rattle.disco_reader.specs.declared.looking.Part.TheVariants.{RequestHead, ReplyHead, SizeLine, Trailer};
 
 use disco_values::Fault;
@@ -32,32 +33,58 @@ pub(crate) enum Found {
     Trailer(usize),
 }
 
+/// Whether a byte ends an empty line, where `blank` says that its line has none but CRs so far.
+fn ends_empty_line(byte: u8, blank: bool) -> bool
+    ensures { result ≡ (byte == 10 && blank) }
+{
+    byte == b'\n' && blank
+}
+
+/// Whether the line has none but CRs so far behind a byte.
+fn is_blank_behind(byte: u8, blank: bool) -> bool
+    ensures { result ≡ (byte == 10 || (byte == 13 && blank)) }
+{
+    byte == b'\n' || (byte == b'\r' && blank)
+}
+
 /// Whether an empty line stands behind a line in bytes.
-fn have_empty_line(bytes: &[u8]) -> bool {
-    let mut line_is_empty = false;
-    for byte in bytes {
-        match *byte {
-            b'\n' if line_is_empty => return true,
-            b'\n' => line_is_empty = true,
-            b'\r' => {}
-            _ => line_is_empty = false,
+fn have_empty_line(bytes: &[u8]) -> bool
+    ensures { result ≡ has_empty_line false bytes.now }
+{
+    let mut left = bytes;
+    let mut blank = false;
+    while let [first, rest @ ..] = left {
+        if ends_empty_line(*first, blank) {
+            return true;
         }
+        blank = is_blank_behind(*first, blank);
+        left = rest;
     }
     false
+}
+
+/// Whether bytes have what a part ends with.
+fn have_end(part: Part, bytes: &[u8]) -> bool
+    ensures { result ≡ has_end part bytes.now }
+{
+    match part {
+        Part::SizeLine => bytes.contains(&b'\n'),
+        Part::RequestHead | Part::ReplyHead | Part::Trailer => have_empty_line(bytes),
+    }
 }
 
 /// Whether it is worth to look at bytes again for a part, of which the first `looked` were looked at
 /// and the first `seen` don't have what a part ends with: it came behind these, or the bytes are twice
 /// as many as were looked at, so that a wrong one isn't told late.
-pub(crate) fn may_have(part: Part, bytes: &[u8], looked: usize, seen: usize) -> bool {
-    if bytes.len() / 2 >= looked {
+pub(crate) fn may_have(part: Part, bytes: &[u8], looked: usize, seen: usize) -> bool
+    requires looked { (looked ≤ seen) × (looked < length bytes.now) }
+    requires seen { seen ≤ length bytes.now }
+    ensures none { IsFalse result → HasNo part (take seen bytes.now) → HasNo part bytes.now }
+{
+    if bytes.len() - looked >= looked {
         return true;
     }
-    let unseen = bytes.get(seen.saturating_sub(2)..).unwrap_or(bytes);
-    match part {
-        Part::SizeLine => unseen.contains(&b'\n'),
-        Part::RequestHead | Part::ReplyHead | Part::Trailer => have_empty_line(unseen),
-    }
+    have_end(part, &bytes[seen.saturating_sub(2)..])
 }
 
 /// The part at the front of bytes, if it is whole.

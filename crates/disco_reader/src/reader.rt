@@ -1,5 +1,5 @@
 //! A source with a buffer in front of it.
-ghost use Rattle.std.specs.Prelude.{◌≡◌, ◌⊎◌, ◌-◌, ◌+◌, ◌≤◌, ◌<◌, IsTrue, IsFalse, IsErrOf, Ok, vec_len, IfOk, IfErr, OnOk};
+ghost use Rattle.std.specs.Prelude.{◌≡◌, ◌⊎◌, ◌-◌, ◌+◌, ◌≤◌, ◌<◌, IsTrue, IsFalse, IsErrOf, Ok, vec_len, IfOk, IfErr, OnOk, OnErr, length, take};
 ghost use Rattle.std.specs.Io.KnownBytes.{Keeps, IsAtEnd};
 ghost use Rattle.disco_reader.specs.Causes.{Counts, Cause};
 
@@ -101,7 +101,17 @@ impl<R: Source> Reader<R> {
         (self.head, self.body) = request.into_room();
     }
 
-    /// Whether a call was refused. Then nothing more is read.
+    /// Reads nothing more.
+    pub fn spend(&mut self)
+        ensures spent { IsTrue (is_spent self.new) }
+        ensures ahead { ahead R.remaining self.new ≡ ahead R.remaining self.old }
+        ensures limits { limits_of self.new ≡ limits_of self.old }
+        ensures source { source_of self.new ≡ source_of self.old }
+    {
+        self.spent = true;
+    }
+
+    /// Whether a call was refused, or the connection has ended. Then nothing more is read.
     pub fn is_spent(&self) -> bool
         ensures { result ≡ is_spent self.now }
     {
@@ -114,7 +124,8 @@ impl<R: Source> Reader<R> {
 
     /// The bytes that were read and not yet taken.
     pub(crate) fn unread(&self) -> &[u8]
-        ensures { result.now ≡ unread self.now }
+        ensures bytes { result.now ≡ unread self.now }
+        ensures size { length result.now ≡ self.now.end - self.now.start }
     {
         &self.buffer[self.start..self.end]
     }
@@ -142,6 +153,8 @@ impl<R: Source> Reader<R> {
         ensures more { IfOk result (λ n. self.new.end ≡ self.old.end + n) }
         ensures none { result ≡ Ok 0 → unread self.new ≡ unread self.old }
         ensures end { result ≡ Ok 0 → IsAtEnd (R.remaining self.new.source) }
+        ensures front { OnOk result (take (self.old.end - self.old.start) (unread self.new) ≡ unread self.old) }
+        ensures broken { OnErr result (unread self.new ≡ unread self.old) }
         ensures cause { Counts (R.failed self.old.source) (R.failed self.new.source) result }
     {
         let count = read_from(&mut self.source, self.buffer.as_mut_slice(), self.end)?;
@@ -175,6 +188,8 @@ impl<R: Source> Reader<R> {
         ensures grown { IfOk result (λ more. IsTrue more → self.old.end - self.old.start < self.new.end - self.new.start) }
         ensures at_end { IfOk result (λ more. IsFalse more → IsAtEnd (R.remaining self.new.source)) }
         ensures same { IfOk result (λ more. IsFalse more → unread self.new ≡ unread self.old) }
+        ensures front { OnOk result (take (self.old.end - self.old.start) (unread self.new) ≡ unread self.old) }
+        ensures broken { IsErrOf result Fault.ReadFailed → unread self.new ≡ unread self.old }
         ensures room { IfOk result (λ more. IsFalse more → self.new.end - self.new.start < self.new.limits.head) }
         ensures full { IsErrOf result Fault.HeadTooLarge → (unread self.new ≡ unread self.old) × (self.new.end - self.new.start ≡ self.new.limits.head) }
         ensures fault { IfErr result (λ fault. (fault ≡ Fault.HeadTooLarge) ⊎ (fault ≡ Fault.ReadFailed)) }

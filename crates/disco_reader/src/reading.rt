@@ -1,5 +1,5 @@
 //! Requests that are read.
-ghost use Rattle.std.specs.Prelude.{◌≡◌, ◌⊎◌, [], ℕ, List, IfOk, IfErr, IfNone, IfSome, IsFalse, IsTrue, is_err, Ok, Some, OnOk, ◌-◌, drop};
+ghost use Rattle.std.specs.Prelude.{◌≡◌, ◌⊎◌, [], ℕ, List, IfOk, IfErr, IfNone, IfSome, IsErrOf, IsFalse, IsTrue, is_err, Ok, Some, OnOk, ◌-◌, drop};
 ghost use Rattle.std.specs.Io.KnownBytes.{prepend_known};
 ghost use Rattle.httparse.specs.Spans.{IsRequestOf, IsRequestWithin};
 ghost use Rattle.disco_values.specs.declared.fault.Fault.TheVariants.{BadRequest, UnsupportedCoding, OutOfMemory, ReadFailed};
@@ -17,8 +17,10 @@ use std::mem;
 
 impl<R: Source> Reader<R> {
     ghost use Rattle.disco_reader.specs.Bodies.{ReadsBody, BodyRefused};
-    ghost use Rattle.disco_reader.specs.Found.{HeadRead, HeadRefused};
-    ghost use Rattle.disco_reader.specs.Streams.{ahead, unread};
+    ghost use Rattle.disco_reader.specs.Found.{HasNoBody, HeadRead, HeadRefused};
+    ghost use Rattle.disco_reader.specs.Parts.{HasNo};
+    ghost use Rattle.disco_reader.specs.Streams.{ahead, unread, Came};
+    ghost use Rattle.disco_reader.specs.declared.looking.Part.TheVariants as part;
 
     /// What the head that was found says.
     fn copy_head(&self, room: HeadRoom, line: &RequestSpans) -> Result<Head, Fault>
@@ -36,6 +38,7 @@ impl<R: Source> Reader<R> {
         ensures head { IfOk result (λ found. IfSome found (λ says. IfSome (ahead R.remaining self.old) (λ stream. HeadRead self.old.limits stream says (ahead R.remaining self.new)))) }
         ensures none { IfOk result (λ found. IfNone found (IfSome (ahead R.remaining self.old) (λ stream. stream ≡ []))) }
         ensures refused { IfErr result (λ fault. IfSome (ahead R.remaining self.old) (HeadRefused self.old.limits fault)) }
+        ensures broken { IsErrOf result ReadFailed → IfSome (ahead R.remaining self.old) (λ stream. Came (HasNo part.RequestHead) stream (R.remaining self.new.source)) }
         ensures limits { self.new.limits ≡ self.old.limits }
         ensures fault { IfErr result (λ fault. IsTrue (is_of_reading fault)) }
         ensures cause { Cause ReadFailed (R.failed self.old.source) (R.failed self.new.source) result }
@@ -58,6 +61,7 @@ impl<R: Source> Reader<R> {
         ensures body { IfOk result (λ body. IfSome (ahead R.remaining self.old) (λ after.
             (rest : List ℕ) × ReadsBody self.old.limits framing after body.items rest × (ahead R.remaining self.new ≡ Some rest))) }
         ensures refused { IfErr result (λ fault. IfSome (ahead R.remaining self.old) (BodyRefused self.old.limits framing fault)) }
+        ensures broken { IsErrOf result ReadFailed → IfSome (ahead R.remaining self.old) (λ after. Came (HasNoBody self.old.limits framing) after (R.remaining self.new.source)) }
         ensures limits { self.new.limits ≡ self.old.limits }
         ensures fault { IfErr result (λ fault. IsTrue (is_of_reading fault)) }
         ensures cause { Cause ReadFailed (R.failed self.old.source) (R.failed self.new.source) result }
@@ -75,6 +79,7 @@ impl<R: Source> Reader<R> {
         ensures body { IfOk result (λ body. IfSome (ahead R.remaining self.old) (λ after.
             (rest : List ℕ) × ReadsBody self.old.limits (Sized size) after body.items rest × (ahead R.remaining self.new ≡ Some rest))) }
         ensures refused { IfErr result (λ fault. IfSome (ahead R.remaining self.old) (BodyRefused self.old.limits (Sized size) fault)) }
+        ensures broken { IsErrOf result ReadFailed → IfSome (ahead R.remaining self.old) (λ after. Came (HasNoBody self.old.limits (Sized size)) after (R.remaining self.new.source)) }
         ensures limits { self.new.limits ≡ self.old.limits }
         ensures fault { IfErr result (λ fault. IsTrue (is_of_reading fault)) }
         ensures cause { Cause ReadFailed (R.failed self.old.source) (R.failed self.new.source) result }
@@ -90,8 +95,8 @@ impl<R: Source> Reader<R> {
 }
 
 impl<R: Source> Reader<R> {
-    ghost use Rattle.disco_reader.specs.Requests.{Takes, Refused};
-    ghost use Rattle.disco_reader.specs.Streams.{ahead, limits_of, source_of, is_spent};
+    ghost use Rattle.disco_reader.specs.Requests.{HasNone, Takes, Refused};
+    ghost use Rattle.disco_reader.specs.Streams.{ahead, limits_of, source_of, is_spent, Came};
 
     /// Reads a request, refused or not.
     fn try_request(&mut self, alloc: Global) -> Result<Option<Request>, Fault>
@@ -99,6 +104,7 @@ impl<R: Source> Reader<R> {
             (rest : List ℕ) × Takes self.old.limits stream request rest × (ahead R.remaining self.new ≡ Some rest)))) }
         ensures none { IfOk result (λ found. IfNone found (IfSome (ahead R.remaining self.old) (λ stream. stream ≡ []))) }
         ensures refused { IfErr result (λ fault. IfSome (ahead R.remaining self.old) (Refused self.old.limits fault)) }
+        ensures broken { IsErrOf result ReadFailed → IfSome (ahead R.remaining self.old) (λ stream. Came (HasNone self.old.limits) stream (R.remaining self.new.source)) }
         ensures limits { self.new.limits ≡ self.old.limits }
         ensures fault { IfErr result (λ fault. IsTrue (is_of_reading fault)) }
         ensures cause { Cause ReadFailed (R.failed self.old.source) (R.failed self.new.source) result }
@@ -125,6 +131,8 @@ impl<R: Source> Reader<R> {
         ensures none { IfOk result (λ found. IfNone found (IfSome (ahead R.remaining self.old) (λ stream. stream ≡ []))) }
         // A refusal has its cause in the stream.
         ensures refused { IfErr result (λ fault. IfSome (ahead R.remaining self.old) (Refused (limits_of self.old) fault)) }
+        // After a failed read what had come holds no whole request.
+        ensures broken { IsErrOf result ReadFailed → IfSome (ahead R.remaining self.old) (λ stream. Came (HasNone (limits_of self.old)) stream (R.remaining (source_of self.new))) }
         ensures limits { limits_of self.new ≡ limits_of self.old }
         // A failed read has raised the count of failures.
         ensures fault { IfErr result (λ fault. IsTrue (is_of_reading fault)) }

@@ -1,5 +1,5 @@
 //! Replies that are read, as a client does.
-ghost use Rattle.std.specs.Prelude.{◌≡◌, ◌≤◌, ◌⊎◌, ◌+◌, ◌++◌, ◌<◌, ℕ, List, length, vec_len, IfOk, IfErr, IfSome, IsFalse, IsTrue, is_err, Some, OnOk, drop};
+ghost use Rattle.std.specs.Prelude.{◌≡◌, ◌≤◌, ◌⊎◌, ◌+◌, ◌++◌, ◌<◌, ℕ, List, length, vec_len, IfOk, IfErr, IfSome, IsErrOf, IsFalse, IsTrue, is_err, Some, OnOk, drop};
 ghost use Rattle.std.specs.Io.KnownBytes.{Consumes, prepend_known};
 ghost use Rattle.httparse.specs.Spans.{IsResponseOf, IsResponseWithin};
 ghost use Rattle.disco_values.specs.declared.fault.Fault.TheVariants.{BadRequest, BodyTooLarge, ReadFailed, OutOfMemory};
@@ -22,9 +22,11 @@ pub struct ReceivedReply {
 }
 
 impl<R: Source> Reader<R> {
-    ghost use Rattle.disco_reader.specs.Found.{ReplyRead, ReplyHeadRefused};
+    ghost use Rattle.disco_reader.specs.Found.{HasNoExtent, ReplyRead, ReplyHeadRefused};
+    ghost use Rattle.disco_reader.specs.Parts.{HasNo};
     ghost use Rattle.disco_reader.specs.Replies.{ReadsExtent, ExtentRefused};
-    ghost use Rattle.disco_reader.specs.Streams.{ahead, unread};
+    ghost use Rattle.disco_reader.specs.Streams.{ahead, unread, Came};
+    ghost use Rattle.disco_reader.specs.declared.looking.Part.TheVariants as part;
 
     /// What the head that was found says.
     fn copy_reply_head(&self, alloc: Global, line: &ResponseSpans) -> Result<ReceivedHead, Fault>
@@ -41,6 +43,7 @@ impl<R: Source> Reader<R> {
     fn read_reply_head(&mut self, alloc: Global) -> Result<ReceivedHead, Fault>
         ensures head { IfOk result (λ says. IfSome (ahead R.remaining self.old) (λ stream. ReplyRead self.old.limits stream says (ahead R.remaining self.new))) }
         ensures refused { IfErr result (λ fault. IfSome (ahead R.remaining self.old) (ReplyHeadRefused self.old.limits fault)) }
+        ensures broken { IsErrOf result ReadFailed → IfSome (ahead R.remaining self.old) (λ stream. Came (HasNo part.ReplyHead) stream (R.remaining self.new.source)) }
         ensures limits { self.new.limits ≡ self.old.limits }
         ensures fault { IfErr result (λ fault. IsTrue (is_of_reading fault)) }
         ensures cause { Cause ReadFailed (R.failed self.old.source) (R.failed self.new.source) result }
@@ -82,6 +85,7 @@ impl<R: Source> Reader<R> {
         ensures body { IfOk result (λ body. IfSome (ahead R.remaining self.old) (λ after.
             (rest : List ℕ) × ReadsExtent self.old.limits UntilEnd after body.items rest × (ahead R.remaining self.new ≡ Some rest))) }
         ensures refused { IfErr result (λ fault. IfSome (ahead R.remaining self.old) (ExtentRefused self.old.limits UntilEnd fault)) }
+        ensures broken { IsErrOf result ReadFailed → IfSome (ahead R.remaining self.old) (λ after. Came (HasNoExtent self.old.limits UntilEnd) after (R.remaining self.new.source)) }
         ensures limits { self.new.limits ≡ self.old.limits }
         ensures fault { IfErr result (λ fault. IsTrue (is_of_reading fault)) }
         ensures cause { Cause ReadFailed (R.failed self.old.source) (R.failed self.new.source) result }
@@ -100,6 +104,7 @@ impl<R: Source> Reader<R> {
         ensures body { IfOk result (λ body. IfSome (ahead R.remaining self.old) (λ after.
             (rest : List ℕ) × ReadsExtent self.old.limits extent after body.items rest × (ahead R.remaining self.new ≡ Some rest))) }
         ensures refused { IfErr result (λ fault. IfSome (ahead R.remaining self.old) (ExtentRefused self.old.limits extent fault)) }
+        ensures broken { IsErrOf result ReadFailed → IfSome (ahead R.remaining self.old) (λ after. Came (HasNoExtent self.old.limits extent) after (R.remaining self.new.source)) }
         ensures limits { self.new.limits ≡ self.old.limits }
         ensures fault { IfErr result (λ fault. IsTrue (is_of_reading fault)) }
         ensures cause { Cause ReadFailed (R.failed self.old.source) (R.failed self.new.source) result }
@@ -113,14 +118,15 @@ impl<R: Source> Reader<R> {
 }
 
 impl<R: Source> Reader<R> {
-    ghost use Rattle.disco_reader.specs.Replies.{TakesReply, ReplyRefused};
-    ghost use Rattle.disco_reader.specs.Streams.{ahead, limits_of, source_of, is_spent};
+    ghost use Rattle.disco_reader.specs.Replies.{HasNoReply, TakesReply, ReplyRefused};
+    ghost use Rattle.disco_reader.specs.Streams.{ahead, limits_of, source_of, is_spent, Came};
 
     /// Reads a reply, refused or not.
     fn try_reply(&mut self, alloc: Global) -> Result<ReceivedReply, Fault>
         ensures reply { IfOk result (λ reply. IfSome (ahead R.remaining self.old) (λ stream.
             (rest : List ℕ) × TakesReply self.old.limits stream reply.head reply.body.items rest × (ahead R.remaining self.new ≡ Some rest))) }
         ensures refused { IfErr result (λ fault. IfSome (ahead R.remaining self.old) (ReplyRefused self.old.limits fault)) }
+        ensures broken { IsErrOf result ReadFailed → IfSome (ahead R.remaining self.old) (λ stream. Came (HasNoReply self.old.limits) stream (R.remaining self.new.source)) }
         ensures limits { self.new.limits ≡ self.old.limits }
         ensures fault { IfErr result (λ fault. IsTrue (is_of_reading fault)) }
         ensures cause { Cause ReadFailed (R.failed self.old.source) (R.failed self.new.source) result }
@@ -141,6 +147,8 @@ impl<R: Source> Reader<R> {
             (rest : List ℕ) × TakesReply (limits_of self.old) stream reply.head reply.body.items rest × (ahead R.remaining self.new ≡ Some rest))) }
         // A refusal has its cause in the stream.
         ensures refused { IfErr result (λ fault. IfSome (ahead R.remaining self.old) (ReplyRefused (limits_of self.old) fault)) }
+        // After a failed read what had come holds no whole reply, but for one without an end of its own.
+        ensures broken { IsErrOf result ReadFailed → IfSome (ahead R.remaining self.old) (λ stream. Came (HasNoReply (limits_of self.old)) stream (R.remaining (source_of self.new))) }
         ensures limits { limits_of self.new ≡ limits_of self.old }
         ensures fault { IfErr result (λ fault. IsTrue (is_of_reading fault)) }
         // A failed read has raised the count of failures.

@@ -4,6 +4,7 @@ ghost use Rattle.std.specs.Io.KnownBytes.{Keeps, Consumes, IsAtEnd};
 ghost use Rattle.disco_values.specs.declared.fault.Fault.TheVariants.{HeadTooLarge, ReadFailed};
 ghost use Rattle.disco_reader.specs.Bodies.{EndsBefore};
 ghost use Rattle.disco_reader.specs.Causes.{Cause, is_of_reading};
+ghost use Rattle.disco_reader.specs.Streams.{Came};
 
 use crate::fill::fill_from;
 use crate::looking::{Found, Part, look_at, may_have};
@@ -31,6 +32,7 @@ impl<R: Source> Reader<R> {
     /// Reads until a part may be whole that what is unread doesn't have, at least once. False at the
     /// end of the input.
     fn more_for(&mut self, part: Part) -> Result<bool, Fault>
+        requires { HasNo part (unread self.old) }
         ensures ahead { Keeps (ahead R.remaining self.old) (ahead R.remaining self.new) }
         ensures limits { self.new.limits ≡ self.old.limits }
         ensures grown { IfOk result (λ more. IsTrue more → self.old.end - self.old.start < self.new.end - self.new.start) }
@@ -38,6 +40,7 @@ impl<R: Source> Reader<R> {
         ensures same { IfOk result (λ more. IsFalse more → unread self.new ≡ unread self.old) }
         ensures room { IfOk result (λ more. IsFalse more → self.new.end - self.new.start < self.new.limits.head) }
         ensures full { IsErrOf result HeadTooLarge → (unread self.new ≡ unread self.old) × (self.new.end - self.new.start ≡ self.new.limits.head) }
+        ensures broken { IsErrOf result ReadFailed → HasNo part (unread self.new) }
         ensures fault { IfErr result (λ fault. (fault ≡ HeadTooLarge) ⊎ (fault ≡ ReadFailed)) }
         ensures cause { Cause ReadFailed (R.failed self.old.source) (R.failed self.new.source) result }
         ensures none_failed { OnOk result (R.failed self.new.source ≡ R.failed self.old.source) }
@@ -65,6 +68,7 @@ impl<R: Source> Reader<R> {
         ensures found { IfOk result (λ found. IfSome found (IsFound self.new.limits.fields part (unread self.new) self.new.spans.items)) }
         ensures none { IfOk result (λ found. IfNone found (IfSome (ahead R.remaining self.old) (λ stream. (stream ≡ []) × HasNo part stream))) }
         ensures refused { IfErr result (λ fault. IfSome (ahead R.remaining self.old) (PartRefused self.old.limits part fault)) }
+        ensures broken { IsErrOf result ReadFailed → HasNo part (unread self.new) }
         ensures fault { IfErr result (λ fault. IsTrue (is_of_reading fault)) }
         ensures cause { Cause ReadFailed (R.failed self.old.source) (R.failed self.new.source) result }
         ensures none_failed { OnOk result (R.failed self.new.source ≡ R.failed self.old.source) }
@@ -119,6 +123,7 @@ fn fill_behind<R: Source>(source: &mut R, body: &mut Vec<u8>, from: usize) -> Re
     ensures length { vec_len body.new ≡ vec_len body.old }
     ensures taken { OnOk result (Consumes (R.remaining source.old) (R.remaining source.new) (drop from body.new.items)) }
     ensures refused { IfErr result (λ fault. IfSome (R.remaining source.old) (EndsBefore (vec_len body.old - from) fault)) }
+    ensures broken { IsErrOf result ReadFailed → IfSome (R.remaining source.old) (λ input. Came (λ given. length given < vec_len body.old - from) input (R.remaining source.new)) }
     ensures fault { IfErr result (λ fault. IsTrue (is_of_reading fault)) }
     ensures cause { Cause ReadFailed (R.failed source.old) (R.failed source.new) result }
     ensures none_failed { OnOk result (R.failed source.new ≡ R.failed source.old) }
@@ -157,6 +162,7 @@ impl<R: Source> Reader<R> {
         requires { vec_len body.old + size < 2 ^ 64 }
         ensures taken { OnOk result ((piece : List ℕ) × (body.new.items ≡ body.old.items ++ piece) × (length piece ≡ size) × Consumes (ahead R.remaining self.old) (ahead R.remaining self.new) piece) }
         ensures refused { IfErr result (λ fault. IfSome (ahead R.remaining self.old) (EndsBefore size fault)) }
+        ensures broken { IsErrOf result ReadFailed → IfSome (ahead R.remaining self.old) (λ input. Came (λ given. length given < size) input (R.remaining self.new.source)) }
         ensures limits { self.new.limits ≡ self.old.limits }
         ensures fault { IfErr result (λ fault. IsTrue (is_of_reading fault)) }
         ensures cause { Cause ReadFailed (R.failed self.old.source) (R.failed self.new.source) result }
@@ -178,6 +184,7 @@ impl<R: Source> Reader<R> {
         requires fits { vec_len body.old + size < 2 ^ 64 }
         ensures taken { OnOk result ((piece : List ℕ) × (body.new.items ≡ body.old.items ++ piece) × (length piece ≡ size) × Consumes (ahead R.remaining self.old) (ahead R.remaining self.new) piece) }
         ensures refused { IfErr result (λ fault. IfSome (ahead R.remaining self.old) (EndsBefore size fault)) }
+        ensures broken { IsErrOf result ReadFailed → IfSome (ahead R.remaining self.old) (λ input. Came (λ given. length given < size) input (R.remaining self.new.source)) }
         ensures limits { self.new.limits ≡ self.old.limits }
         ensures fault { IfErr result (λ fault. IsTrue (is_of_reading fault)) }
         ensures cause { Cause ReadFailed (R.failed self.old.source) (R.failed self.new.source) result }

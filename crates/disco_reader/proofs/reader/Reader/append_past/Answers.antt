@@ -1,6 +1,7 @@
-use Rattle.std.proofs.Common.{◌≡◌, ◌+◌, ◌-◌, ◌≤◌, rules, arith, drop, take, length, ◌++◌, []}
+use Rattle.std.proofs.Common.{IfSome, ◌<◌, length-append, ◌≡◌, ◌+◌, ◌-◌, ◌≤◌, rules, arith, drop, take, length, ◌++◌, []}
 use Rattle.std.specs.Io.KnownBytes.{Consumes}
-use Rattle.disco_reader.specs.Streams.{unread}
+use Rattle.disco_reader.specs.Streams.{Came, ahead, unread}
+use Rattle.disco_reader.proofs.Coming.{came_past}
 use Rattle.disco_reader.proofs.Slices.{unread_len}
 use Rattle.disco_reader.proofs.Taken.{body_parts, piece_size, taken_past}
 use Rattle.disco_reader.proofs.reader.Reader.append_past.Goals as goal
@@ -25,3 +26,16 @@ returns-in_ok-fill_behind-in-Ok-clause-taken g c =
       piece_size u body.items from c.args.size (length c.args.body.now.items) (rw len all) (rw len begin) (rw len few),
       taken_past u (unread c.drain.new.self) (drop from body.items) (g.R.Source.remaining self.source) (g.R.Source.remaining c.fill_behind.new.source) empty read,
     )
+
+pub returns-in_err-fill_behind-in-Ok-clause-broken : goal.returns-in_err-fill_behind-in-Ok-clause-broken
+returns-in_err-fill_behind-in-Ok-clause-broken g c failed =
+    let self = c.args.self.now in
+    let u = unread self in
+    let missing = c.args.size - (self.end - self.start) in
+    let source = g.R.Source.remaining self.source in
+    let left = g.R.Source.remaining c.fill_behind.new.source in
+    let taken : Consumes (ahead g.R.Source.remaining self) source u = search rules in
+    let cut : IfSome source (λ input. Came (λ given. length given < missing) input left) = search rules in
+    let few : self.end - self.start ≤ c.args.size = omega arith in
+    came_past (λ given. length given < c.args.size) (ahead g.R.Source.remaining self) source left u (λ given. length given < missing) taken
+    (λ given less. omega (arith, length-append u given, unread_len self, few, less)) cut

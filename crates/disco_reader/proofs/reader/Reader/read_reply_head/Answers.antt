@@ -3,7 +3,10 @@ use Rattle.std.proofs.lemmas.Result.{err_from_is_err_and}
 use Rattle.disco_message.specs.Received.{received}
 use Rattle.disco_reader.specs.Replies.{BeginsReply}
 use Rattle.disco_reader.specs.Found.{ReplyHeadRefused}
+use Rattle.disco_reader.specs.Parts.{HasNo}
 use Rattle.disco_reader.specs.Streams.{unread, ahead}
+use Rattle.disco_reader.specs.declared.looking.Part.TheVariants as part
+use Rattle.disco_reader.proofs.Coming.{came}
 use Rattle.disco_reader.proofs.Heads.{read_on}
 use Rattle.disco_reader.proofs.Known.{kept_for}
 use Rattle.disco_reader.proofs.reader.Reader.read_reply_head.Goals as goal
@@ -24,3 +27,9 @@ returns-in_err-head-in-Some-ReplyHead-clause-refused g c =
     let first = c.args.self.now in
     let limits : self.limits ≡ first.limits = search rules in
     rw (p.1, p.2, sym limits) (kept_for (ahead g.R.Source.remaining first) (ahead g.R.Source.remaining self) (ReplyHeadRefused self.limits c.in_err-head-in-Some-ReplyHead.field-0.0) (search rules) c.in_err-head-in-Some-ReplyHead.ensures.refused)
+
+pub returns-in_err-line-clause-broken : goal.returns-in_err-line-clause-broken
+returns-in_err-line-clause-broken g c failed =
+    let now = c.find.new.self in
+    let none : HasNo part.ReplyHead (unread now) = search rules in
+    came (HasNo part.ReplyHead) (ahead g.R.Source.remaining c.args.self.now) (unread now) (g.R.Source.remaining now.source) (search rules) none

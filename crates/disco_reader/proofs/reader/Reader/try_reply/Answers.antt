@@ -2,10 +2,11 @@ use Rattle.std.proofs.Common.{rules, IfSome}
 use Rattle.std.proofs.lemmas.Result.{err_from_is_err_and}
 use Rattle.disco_message.specs.Received.{received}
 use Rattle.disco_reader.specs.declared.looking.Part.TheVariants as part
-use Rattle.disco_reader.specs.Found.{ReplyRead, ReplyHeadRefused}
+use Rattle.disco_reader.specs.Found.{HasNoExtent, ReplyRead, ReplyHeadRefused}
 use Rattle.disco_reader.specs.Replies.{BeginsReply, ExtentRefused}
 use Rattle.disco_reader.specs.Parts.{PartRefused}
-use Rattle.disco_reader.specs.Streams.{ahead}
+use Rattle.disco_reader.specs.Streams.{ahead, Came}
+use Rattle.disco_reader.proofs.Coming.{no_extent_came}
 use Rattle.disco_reader.proofs.Messages.{refused_head, refused_body, no_room}
 use Rattle.disco_reader.proofs.reader.Reader.try_reply.Goals as goal
 
@@ -28,3 +29,14 @@ returns-in_err-body-clause-refused g c =
     let found : IfSome first (λ stream. ReplyRead limits stream says mid) = search rules in
     let refused : IfSome mid (ExtentRefused limits says.extent fault) = search rules in
     rw (p.1, p.2) (refused_body (λ h. received h) (BeginsReply limits) (PartRefused limits part.ReplyHead) (λ says. ExtentRefused limits says.extent) fault first mid says found refused)
+
+pub returns-in_err-body-clause-broken : goal.returns-in_err-body-clause-broken
+returns-in_err-body-clause-broken g c failed =
+    let limits = c.args.self.now.limits in
+    let first = ahead g.R.Source.remaining c.args.self.now in
+    let mid = ahead g.R.Source.remaining c.read_reply_head.new.self in
+    let left = g.R.Source.remaining c.read_extent.new.self.source in
+    let says = c.in_ok-head.head in
+    let found : IfSome first (λ stream. ReplyRead limits stream says mid) = search rules in
+    let cut : IfSome mid (λ after. Came (HasNoExtent limits says.extent) after left) = search rules in
+    no_extent_came limits first mid left says found cut

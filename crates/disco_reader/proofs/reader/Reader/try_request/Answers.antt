@@ -2,11 +2,12 @@ use Rattle.std.proofs.Common.{rules, IfSome}
 use Rattle.std.proofs.lemmas.Result.{err_from_is_err_and}
 use Rattle.disco_message.specs.Heading.{heading}
 use Rattle.disco_reader.specs.declared.looking.Part.TheVariants as part
-use Rattle.disco_reader.specs.Found.{HeadRead, HeadRefused}
+use Rattle.disco_reader.specs.Found.{HasNoBody, HeadRead, HeadRefused}
 use Rattle.disco_reader.specs.Bodies.{BodyRefused}
 use Rattle.disco_reader.specs.Requests.{Begins}
 use Rattle.disco_reader.specs.Parts.{PartRefused}
-use Rattle.disco_reader.specs.Streams.{ahead}
+use Rattle.disco_reader.specs.Streams.{ahead, Came}
+use Rattle.disco_reader.proofs.Coming.{no_body_came}
 use Rattle.disco_reader.proofs.Messages.{refused_head, refused_body, no_memory}
 use Rattle.disco_reader.proofs.reader.Reader.try_request.Goals as goal
 
@@ -29,3 +30,14 @@ returns-in_err-body-clause-refused g c =
     let found : IfSome first (λ stream. HeadRead limits stream says mid) = search rules in
     let refused : IfSome mid (BodyRefused limits says.framing fault) = search rules in
     rw (p.1, p.2) (refused_body (λ h. heading h) (Begins limits) (PartRefused limits part.RequestHead) (λ says. BodyRefused limits says.framing) fault first mid says found refused)
+
+pub returns-in_err-body-clause-broken : goal.returns-in_err-body-clause-broken
+returns-in_err-body-clause-broken g c failed =
+    let limits = c.args.self.now.limits in
+    let first = ahead g.R.Source.remaining c.args.self.now in
+    let mid = ahead g.R.Source.remaining c.read_head.new.self in
+    let left = g.R.Source.remaining c.read_body.new.self.source in
+    let says = c.in-Some.head in
+    let found : IfSome first (λ stream. HeadRead limits stream says mid) = search rules in
+    let cut : IfSome mid (λ after. Came (HasNoBody limits says.framing) after left) = search rules in
+    no_body_came limits first mid left says found cut
