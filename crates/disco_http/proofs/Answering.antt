@@ -2,6 +2,7 @@
 use Rattle.std.proofs.Common.{◌≡◌, ℕ, ◌+◌, ◌-◌, ◌<◌, ◌==◌, arith, Bool, true, false, List, [], ◌∷◌, ◌++◌, Option, Some, None, length, sym, ◌∙◌, ap, refl, append_assoc, append-nil, length-append, inl, inr, IfSome, subst}
 use Rattle.std.specs.Io.KnownBytes.{Appends}
 use Rattle.std.proofs.lemmas.Bool.Decides.{nat_tests}
+use Rattle.std.proofs.lemmas.List.{map_push}
 use Rattle.disco_message.specs.declared.limits.Limits.{Limits}
 use Rattle.disco_message.specs.Asked as message
 use Rattle.disco_message.specs.ReplyText.{Answer, reply_text}
@@ -9,10 +10,12 @@ use Rattle.disco_reader.specs.Requests.{Takes}
 use Rattle.disco_http.specs.declared.serving.End.{End}
 use Rattle.disco_http.specs.declared.serving.End.TheVariants.{Closed, Limit, Fault}
 use Rattle.disco_http.specs.declared.serving.Step.TheVariants.{Goes, Last, Stops}
-use Rattle.disco_http.specs.Served.{Chain, is_last, texts, end_text, end_behind, Requests, Ends, Written, AnswersAll}
+use Rattle.disco_http.specs.Served.{Left, Chain, is_last, texts, end_texts, end_behind, Requests, Ends, Written, AnswersAll}
 use Rattle.disco_http.specs.Exchanges.{open_texts, Closing, SoFar, Exchanged}
-use Rattle.disco_reader.proofs.Chunking.{known_is}
-use Rattle.disco_http.proofs.Appended.{Appends-then, Appends-none, front_then}
+use Rattle.disco_reader.specs.Chunks.{joined}
+use Rattle.disco_reader.proofs.Chunking.{joined-more, known_is}
+use Rattle.disco_http.proofs.Appended.{Appends-then, Appends-none}
+use Rattle.disco_http.proofs.Breaking.{written_one, written_then}
 
 chain-then : {S : Type 0} (answers : S → message.Asked → Answer → S → Type 0) (old mid new : S) (asks more : List message.Asked) (replies rs : List Answer) → Chain answers old asks replies mid → Chain answers mid more rs new → Chain answers old (asks ++ more) (replies ++ rs) new
 chain-then answers old mid new [] more [] rs h k = rw (sym h) k
@@ -22,15 +25,14 @@ chain-then answers old mid new (a ∷ asks) more [] rs h k = elim h [ ]
 
 texts-shut : (replies rs : List Answer) (end : End) → is_last rs end ≡ false → texts (replies ++ rs) end ≡ open_texts replies ++ texts rs end
 texts-shut [] rs end shut = refl
-texts-shut (r ∷ []) rs end shut = ap (λ b. reply_text r b ++ texts rs end) shut ∙ ap (λ xs. xs ++ texts rs end) (sym (append-nil (reply_text r false)))
-texts-shut (r ∷ s ∷ replies) rs end shut = ap (λ xs. reply_text r false ++ xs) (texts-shut (s ∷ replies) rs end shut) ∙ sym (append_assoc (reply_text r false) (open_texts (s ∷ replies)) (texts rs end))
+texts-shut (r ∷ []) rs end shut = ap (λ b. reply_text r b ∷ texts rs end) shut
+texts-shut (r ∷ s ∷ replies) rs end shut = ap (λ xs. reply_text r false ∷ xs) (texts-shut (s ∷ replies) rs end shut)
 
-open-more : (replies : List Answer) (r : Answer) → open_texts (replies ++ r ∷ []) ≡ open_texts replies ++ reply_text r false
-open-more [] r = append-nil (reply_text r false)
-open-more (s ∷ replies) r = ap (λ xs. reply_text s false ++ xs) (open-more replies r) ∙ sym (append_assoc (reply_text s false) (open_texts replies) (reply_text r false))
+open-more : (replies : List Answer) (r : Answer) → joined (open_texts (replies ++ r ∷ [])) ≡ joined (open_texts replies) ++ reply_text r false
+open-more replies r = ap joined (map_push (λ r. reply_text r false) replies r) ∙ joined-more (open_texts replies) (reply_text r false)
 
 -- nothing is written behind a last reply
-silent : (closes last : Bool) (end : End) → Closing (end_behind closes last) end → end_text end ≡ []
+silent : (closes last : Bool) (end : End) → Closing (end_behind closes last) end → end_texts end ≡ []
 silent closes true end h = rw h refl
 silent true false end h = rw h refl
 silent false false end h = rw h refl
@@ -39,40 +41,36 @@ same_last : (most count : ℕ) → count < most → (most - count == 1) ≡ (cou
 same_last most count h = grind (arith, nat_tests, h)
 
 more_asks : (limits : Limits) (most : ℕ) (stream now rest : List ℕ) (asks : List message.Asked) (a : message.Asked) (count : ℕ) → count < most
-    → ((more : List message.Asked) (end : End) → Requests limits (most - count) now more end → Requests limits most stream (asks ++ more) end)
+    → ((at : Left) (more : List message.Asked) (end : End) → Requests limits (most - count) now at more end → Requests limits most stream at (asks ++ more) end)
     → Takes limits now a rest → end_behind a.closes (count + 1 == most) ≡ None
-    → (more : List message.Asked) (end : End) → Requests limits (most - (count + 1)) rest more end → Requests limits most stream ((asks ++ a ∷ []) ++ more) end
-more_asks limits most stream now rest asks a count few all takes goes more end left =
+    → (at : Left) (more : List message.Asked) (end : End) → Requests limits (most - (count + 1)) rest at more end → Requests limits most stream at ((asks ++ a ∷ []) ++ more) end
+more_asks limits most stream now rest asks a count few all takes goes at more end left =
     let last = same_last most count few in
     let size : (most - count) - 1 ≡ most - (count + 1) = omega arith in
-    rw (append_assoc asks (a ∷ []) more) (all (a ∷ more) end (rest, takes, rw (last, goes, size) left))
+    rw (append_assoc asks (a ∷ []) more) (all at (a ∷ more) end (rest, takes, rw (last, goes, size) left))
 
-last_ask : (limits : Limits) (most : ℕ) (stream now rest : List ℕ) (asks : List message.Asked) (a : message.Asked) (count : ℕ) (end : End) (behind : Option End) → count < most
-    → ((more : List message.Asked) (end : End) → Requests limits (most - count) now more end → Requests limits most stream (asks ++ more) end)
-    → Takes limits now a rest → end_behind a.closes (count + 1 == most) ≡ behind → Closing behind end → Requests limits most stream (asks ++ a ∷ []) end
-last_ask limits most stream now rest asks a count end (Some e) few all takes ends closing =
-    all (a ∷ []) end (rest, takes, rw (same_last most count few, ends) (refl, closing))
-last_ask limits most stream now rest asks a count end None few all takes ends closing =
-    all (a ∷ []) end (rest, takes, rw (same_last most count few, ends, closing) tt)
+last_ask : (limits : Limits) (most : ℕ) (stream now rest : List ℕ) (at : Left) (asks : List message.Asked) (a : message.Asked) (count : ℕ) (end : End) (behind : Option End) → count < most
+    → ((at : Left) (more : List message.Asked) (end : End) → Requests limits (most - count) now at more end → Requests limits most stream at (asks ++ more) end)
+    → Takes limits now a rest → at.ahead ≡ Some rest → end_behind a.closes (count + 1 == most) ≡ behind → Closing behind end → Requests limits most stream at (asks ++ a ∷ []) end
+last_ask limits most stream now rest at asks a count end (Some e) few all takes stays ends closing =
+    all at (a ∷ []) end (rest, takes, rw (same_last most count few, ends) (refl, closing, stays))
+last_ask limits most stream now rest at asks a count end None few all takes stays ends closing =
+    all at (a ∷ []) end (rest, takes, rw (same_last most count few, ends, closing) stays)
 
 one_more : (xs : List message.Asked) (a : message.Asked) (count : ℕ) → length xs ≡ count → length (xs ++ a ∷ []) ≡ count + 1
 one_more xs a count h = length-append xs (a ∷ []) ∙ ap (λ n. n + 1) h
-
-written_then : (at end : End) (a b c : Option (List ℕ)) (xs ys : List ℕ) → Appends a b xs → Written at end b c ys → Written at end a c (xs ++ ys)
-written_then at end a b c xs ys h (inl w) = inl (w.0, w.1, Appends-then a b c xs ys h w.2)
-written_then at end a b c xs ys h (inr w) = inr (w.0, front_then a b c xs ys h w.1)
 
 pub begun : {S : Type 0} (answers : S → message.Asked → Answer → S → Type 0) (limits : Limits) (most : ℕ) (first : Option (List ℕ)) (old : S) (before : Option (List ℕ))
     → IfSome first (λ stream. SoFar answers limits most stream old old before before first 0)
 begun answers limits most None old before = tt
 begun answers limits most (Some stream) old before =
     let all : most - 0 ≡ most = omega arith in
-    ([], [], stream, refl, λ more end h. subst (λ n. Requests limits n stream more end) all h, refl, refl, Appends-none before)
+    ([], [], stream, refl, λ at more end h. subst (λ n. Requests limits n stream at more end) all h, refl, refl, Appends-none before)
 
-pub goes_on : {S : Type 0} (answers : S → message.Asked → Answer → S → Type 0) (limits : Limits) (most : ℕ) (first : Option (List ℕ)) (old mid new : S) (before b c left next : Option (List ℕ)) (count : ℕ) → count < most
+pub goes_on : {S : Type 0} (answers : S → message.Asked → Answer → S → Type 0) (limits : Limits) (most : ℕ) (first : Option (List ℕ)) (old mid new : S) (before b c left : Option (List ℕ)) (next : Left) (count : ℕ) → count < most
     → IfSome first (λ stream. SoFar answers limits most stream old mid before b left count)
     → IfSome left (λ stream. Exchanged answers limits stream next mid new b c (count + 1 == most) Goes)
-    → IfSome first (λ stream. SoFar answers limits most stream old new before c next (count + 1))
+    → IfSome first (λ stream. SoFar answers limits most stream old new before c next.ahead (count + 1))
 goes_on answers limits most None old mid new before b c left next count few so one = tt
 goes_on answers limits most (Some stream) old mid new before b c left next count few so one =
     let asks = so.0 in
@@ -88,13 +86,13 @@ goes_on answers limits most (Some stream) old mid new before b c left next count
       more_asks limits most stream now x.1 asks a count few so.4 x.2 x.4.3,
       chain-then answers old mid new asks (a ∷ []) replies (r ∷ []) so.5 (new, x.4.1, refl),
       one_more asks a count so.6,
-      rw (open-more replies r) (Appends-then before b c (open_texts replies) (reply_text r false) so.7 x.4.2),
+      rw (open-more replies r) (Appends-then before b c (joined (open_texts replies)) (reply_text r false) so.7 x.4.2),
     )
 
-pub ends_with : {S : Type 0} (answers : S → message.Asked → Answer → S → Type 0) (limits : Limits) (first : Option (List ℕ)) (old mid new : S) (before b c left next : Option (List ℕ)) (count : ℕ) (at : End) → count < limits.requests
+pub ends_with : {S : Type 0} (answers : S → message.Asked → Answer → S → Type 0) (limits : Limits) (first : Option (List ℕ)) (old mid new : S) (before b c left : Option (List ℕ)) (next : Left) (count : ℕ) (at : End) → count < limits.requests
     → IfSome first (λ stream. SoFar answers limits limits.requests stream old mid before b left count)
     → IfSome left (λ stream. Exchanged answers limits stream next mid new b c (count + 1 == limits.requests) (Last at))
-    → IfSome first (λ stream. AnswersAll answers limits stream old new before c (record { requests = count + 1; end = at }))
+    → IfSome first (λ stream. AnswersAll answers limits stream next old new before c (record { requests = count + 1; end = at }))
 ends_with answers limits None old mid new before b c left next count at few so one = tt
 ends_with answers limits (Some stream) old mid new before b c left next count at few so one =
     let most = limits.requests in
@@ -105,26 +103,27 @@ ends_with answers limits (Some stream) old mid new before b c left next count at
     let a = x.0 in
     let r = x.4.0 in
     let end = x.4.1 in
-    let text : texts (r ∷ []) end ≡ reply_text r (is_last [] end) = ap (λ xs. reply_text r (is_last [] end) ++ xs) (silent a.closes (count + 1 == most) end x.4.3) ∙ append-nil (reply_text r (is_last [] end)) in (
+    let one = reply_text r (is_last [] end) in
+    let text : texts (r ∷ []) end ≡ one ∷ [] = ap (λ (xs : List (List ℕ)). one ∷ xs) (silent a.closes (count + 1 == most) end x.4.3) in (
       asks ++ a ∷ [],
       replies ++ r ∷ [],
       end,
-      last_ask limits most stream now x.1 asks a count end (end_behind a.closes (count + 1 == most)) few so.4 x.2 refl x.4.3,
+      last_ask limits most stream now x.1 next asks a count end (end_behind a.closes (count + 1 == most)) few so.4 x.2 x.3 refl x.4.3,
       chain-then answers old mid new asks (a ∷ []) replies (r ∷ []) so.5 (new, x.4.2, refl),
       one_more asks a count so.6,
-      rw (texts-shut replies (r ∷ []) end refl, text) (written_then at end before b c (open_texts replies) (reply_text r (is_last [] end)) so.7 x.4.4),
+      rw (texts-shut replies (r ∷ []) end refl, text) (written_then at end before b c (open_texts replies) (one ∷ []) so.7 (written_one at end b c one x.4.4)),
     )
 
-not_asked : (limits : Limits) (stream : List ℕ) (end : End) → Ends limits stream end → is_last [] end ≡ false
-not_asked limits stream Closed h = refl
-not_asked limits stream (Fault f) h = refl
-not_asked limits stream End.Asked h = elim h [ ]
-not_asked limits stream Limit h = elim h [ ]
+not_asked : (limits : Limits) (stream : List ℕ) (left : Left) (end : End) → Ends limits stream left end → is_last [] end ≡ false
+not_asked limits stream left Closed h = refl
+not_asked limits stream left (Fault f) h = refl
+not_asked limits stream left End.Asked h = elim h [ ]
+not_asked limits stream left Limit h = elim h [ ]
 
-pub stops_with : {S : Type 0} (answers : S → message.Asked → Answer → S → Type 0) (limits : Limits) (first : Option (List ℕ)) (old mid new : S) (before b c left next : Option (List ℕ)) (count : ℕ) (at : End)
+pub stops_with : {S : Type 0} (answers : S → message.Asked → Answer → S → Type 0) (limits : Limits) (first : Option (List ℕ)) (old mid new : S) (before b c left : Option (List ℕ)) (next : Left) (count : ℕ) (at : End)
     → IfSome first (λ stream. SoFar answers limits limits.requests stream old mid before b left count)
     → IfSome left (λ stream. Exchanged answers limits stream next mid new b c (count + 1 == limits.requests) (Stops at))
-    → IfSome first (λ stream. AnswersAll answers limits stream old new before c (record { requests = count; end = at }))
+    → IfSome first (λ stream. AnswersAll answers limits stream next old new before c (record { requests = count; end = at }))
 stops_with answers limits None old mid new before b c left next count at so one = tt
 stops_with answers limits (Some stream) old mid new before b c left next count at so one =
     let most = limits.requests in
@@ -136,8 +135,8 @@ stops_with answers limits (Some stream) old mid new before b c left next count a
       asks,
       replies,
       end,
-      subst (λ more. Requests limits most stream more end) (append-nil asks) (so.4 [] end x.2),
+      subst (λ more. Requests limits most stream next more end) (append-nil asks) (so.4 next [] end x.2),
       rw x.1 so.5,
       so.6,
-      rw (sym (append-nil replies), texts-shut replies [] end (not_asked limits now end x.2)) (written_then at end before b c (open_texts replies) (end_text end) so.7 x.3),
+      rw (sym (append-nil replies), texts-shut replies [] end (not_asked limits now next end x.2)) (written_then at end before b c (open_texts replies) (end_texts end) so.7 x.3),
     )

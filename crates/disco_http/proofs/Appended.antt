@@ -1,5 +1,5 @@
 -- What writes do to known bytes, one after another.
-use Rattle.std.proofs.Common.{◌≡◌, ℕ, ◌+◌, ◌-◌, List, [], length, subst, ◌++◌, take, drop, append-nil, Option, Some, None, append_assoc, sym, ◌∙◌, ap}
+use Rattle.std.proofs.Common.{◌≡◌, ◌≢◌, ℕ, ◌+◌, ◌-◌, ◌<◌, List, [], ◌∷◌, length, length-drop, arith, refl, subst, ◌++◌, take, drop, append-nil, Option, Some, None, append_assoc, sym, ◌∙◌, ap}
 use Rattle.std.proofs.Math.Seq.{take-add}
 use Rattle.std.proofs.lemmas.List.{take_rest}
 use Rattle.std.specs.Io.KnownBytes.{Keeps, Appends}
@@ -34,9 +34,17 @@ Appends-keeps (Some x) None c xs h k = elim h [ ]
 Appends-keeps (Some x) (Some y) None xs h k = elim k [ ]
 Appends-keeps (Some x) (Some y) (Some z) xs h k = k ∙ h
 
+front_none : (xs ys : List ℕ) → xs ++ ys ≡ [] → xs ≡ []
+front_none [] ys e = refl
+front_none (x ∷ xs) ys e = absurd (cc e)
+
+-- what is still to be written is some
+pub some_left : (text : List ℕ) (at : ℕ) → at < length text → drop at text ≢ []
+some_left text at more none = omega (arith, more, length-drop at text, ap length none)
+
 -- a front of a part, and a front of what follows it
 pub front_more : (a b : Option (List ℕ)) (xs ys : List ℕ) → AppendsFront a b xs → AppendsFront a b (xs ++ ys)
-front_more a b xs ys h = (h.0, h.1 ++ ys, ap (λ zs. zs ++ ys) h.2 ∙ append_assoc h.0 h.1 ys, h.3)
+front_more a b xs ys h = (h.0, h.1 ++ ys, ap (λ zs. zs ++ ys) h.2 ∙ append_assoc h.0 h.1 ys, λ e. h.3 (front_none h.1 ys e), h.4)
 
 pub front_then : (a b c : Option (List ℕ)) (xs ys : List ℕ) → Appends a b xs → AppendsFront b c ys → AppendsFront a c (xs ++ ys)
-front_then a b c xs ys h k = (xs ++ k.0, k.1, ap (λ zs. xs ++ zs) k.2 ∙ sym (append_assoc xs k.0 k.1), Appends-then a b c xs k.0 h k.3)
+front_then a b c xs ys h k = (xs ++ k.0, k.1, ap (λ zs. xs ++ zs) k.2 ∙ sym (append_assoc xs k.0 k.1), k.3, Appends-then a b c xs k.0 h k.4)

@@ -1,3 +1,4 @@
 pub mod Answering
 pub mod Appended
+pub mod Breaking
 pub mod Stopping

@@ -1,17 +1,19 @@
 -- Only what code keeps: nothing here is to be believed.
-use Rattle.std.specs.Prelude.{◌≡◌, ℕ, ◌-◌, Bool, false, List, [], ◌∷◌, ◌++◌, length, Option, Some, None}
+use Rattle.std.specs.Prelude.{◌≡◌, ◌≢◌, ◌⊎◌, ℕ, ◌-◌, Bool, true, false, List, [], ◌∷◌, ◌++◌, length, map, Option, Some, None}
 use Rattle.std.specs.Io.KnownBytes.{Appends}
 use Rattle.disco_values.specs.declared.fault.Fault.TheVariants.{WriteFailed}
 use Rattle.disco_values.specs.declared.fault.Fault as fault
 use Rattle.disco_message.specs.declared.limits.Limits.{Limits}
 use Rattle.disco_message.specs.Asked as message
 use Rattle.disco_message.specs.ReplyText.{Answer, reply_text}
+use Rattle.disco_reader.specs.Chunks.{joined}
 use Rattle.disco_reader.specs.Requests.{Takes}
 use Rattle.disco_http.specs.declared.serving.End.{End}
 use Rattle.disco_http.specs.declared.serving.End.TheVariants.{Fault}
 use Rattle.disco_http.specs.declared.serving.Step.{Step}
 use Rattle.disco_http.specs.declared.serving.Step.TheVariants.{Goes, Last, Stops}
-use Rattle.disco_http.specs.Served.{end_behind, is_last, end_text, Ends, Requests, Chain, Written}
+use Rattle.disco_http.specs.Served.{Left, end_behind, is_last, end_texts, Ends, Requests, Chain, refused, Written}
+use Rattle.disco_http.specs.Sinks.{AppendsFront}
 
 -- the step ends the connection by this fault
 abbrev pub Fails : fault.Fault → Step → Type 0
@@ -24,35 +26,38 @@ abbrev pub Closing : Option End → End → Type 0
 Closing (Some e) end = end ≡ e
 Closing None end = end ≡ Fault WriteFailed
 
+-- one text was written, or its write failed, and a front of it was written
+abbrev pub WrittenOne : End → End → Option (List ℕ) → Option (List ℕ) → List ℕ → Type 0
+WrittenOne at end before after text = ((at ≡ end) × (at ≢ Fault WriteFailed) × Appends before after text) ⊎ ((at ≡ Fault WriteFailed) × AppendsFront before after text)
+
 -- a request was given to the service
 abbrev pub AnswersOne : {S : Type 0} → (S → message.Asked → Answer → S → Type 0) → S → S → Option (List ℕ) → Option (List ℕ) → message.Asked → Bool → Step → Type 0
 AnswersOne answers old new before after a last Goes = (r : Answer) × answers old a r new × Appends before after (reply_text r false) × (end_behind a.closes last ≡ None)
-AnswersOne answers old new before after a last (Last at) = (r : Answer) × (end : End) × answers old a r new × Closing (end_behind a.closes last) end × Written at end before after (reply_text r (is_last [] end))
+AnswersOne answers old new before after a last (Last at) = (r : Answer) × (end : End) × answers old a r new × Closing (end_behind a.closes last) end × WrittenOne at end before after (reply_text r (is_last [] end))
 AnswersOne answers old new before after a last (Stops at) = ⊥
 
--- the step stops before a request
-abbrev pub Stopped : Option (List ℕ) → Option (List ℕ) → End → Step → Type 0
-Stopped before after end Goes = ⊥
-Stopped before after end (Last at) = ⊥
-Stopped before after end (Stops at) = Written at end before after (end_text end)
+-- a request was refused
+abbrev pub Refuses : Option (List ℕ) → Option (List ℕ) → fault.Fault → Step → Type 0
+Refuses before after f Goes = ⊥
+Refuses before after f (Last at) = ⊥
+Refuses before after f (Stops at) = WrittenOne at (Fault f) before after (reply_text (refused f) true)
 
 -- a request was read and answered, or there was none
-abbrev pub Exchanged : {S : Type 0} → (S → message.Asked → Answer → S → Type 0) → Limits → List ℕ → Option (List ℕ) → S → S → Option (List ℕ) → Option (List ℕ) → Bool → Step → Type 0
-Exchanged answers limits stream left old new before after last (Stops at) = (end : End) × (new ≡ old) × Ends limits stream end × Written at end before after (end_text end)
+abbrev pub Exchanged : {S : Type 0} → (S → message.Asked → Answer → S → Type 0) → Limits → List ℕ → Left → S → S → Option (List ℕ) → Option (List ℕ) → Bool → Step → Type 0
+Exchanged answers limits stream left old new before after last (Stops at) = (end : End) × (new ≡ old) × Ends limits stream left end × Written at end before after (end_texts end)
 Exchanged answers limits stream left old new before after last step =
-    (a : message.Asked) × (rest : List ℕ) × Takes limits stream a rest × (left ≡ Some rest) × AnswersOne answers old new before after a last step
+    (a : message.Asked) × (rest : List ℕ) × Takes limits stream a rest × (left.ahead ≡ Some rest) × AnswersOne answers old new before after a last step
 
--- the bytes of replies behind which others come
-abbrev pub open_texts : List Answer → List ℕ
-open_texts [] = []
-open_texts (r ∷ replies) = reply_text r false ++ open_texts replies
+-- the texts of replies behind which others come
+abbrev pub open_texts : List Answer → List (List ℕ)
+open_texts replies = map (λ r. reply_text r false) replies
 
 -- After so many answered requests: what stands before them with what stands ahead is what stands in the stream
 abbrev pub SoFar : {S : Type 0} → (S → message.Asked → Answer → S → Type 0) → Limits → ℕ → List ℕ → S → S → Option (List ℕ) → Option (List ℕ) → Option (List ℕ) → ℕ → Type 0
 SoFar answers limits most stream old new before after left count =
     (asks : List message.Asked) × (replies : List Answer) × (now : List ℕ)
     × (left ≡ Some now)
-    × ((more : List message.Asked) (end : End) → Requests limits (most - count) now more end → Requests limits most stream (asks ++ more) end)
+    × ((at : Left) (more : List message.Asked) (end : End) → Requests limits (most - count) now at more end → Requests limits most stream at (asks ++ more) end)
     × Chain answers old asks replies new
     × (length asks ≡ count)
-    × Appends before after (open_texts replies)
+    × Appends before after (joined (open_texts replies))

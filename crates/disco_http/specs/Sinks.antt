@@ -1,5 +1,5 @@
 -- What a writer writes to, and what a failed write leaves.
-use Rattle.std.specs.Prelude.{◌≡◌, ℕ, List, ◌++◌, Option}
+use Rattle.std.specs.Prelude.{◌≡◌, ◌≢◌, ℕ, Bool, List, [], ◌++◌, Option}
 use Rattle.std.specs.Io.KnownBytes.{Appends}
 use Rattle.disco_http.specs.declared.writer.Writer.{Writer}
 
@@ -7,6 +7,10 @@ use Rattle.disco_http.specs.declared.writer.Writer.{Writer}
 abbrev pub sink_of : {W : Type 0} → Writer W → W
 sink_of writer = writer.sink
 
--- known bytes grow by a front of these
+-- a write of it failed, or the connection has ended
+abbrev pub is_spent : {W : Type 0} → Writer W → Bool
+is_spent writer = writer.spent
+
+-- known bytes grow by a front of these, and not by all of them
 abbrev pub AppendsFront : Option (List ℕ) → Option (List ℕ) → List ℕ → Type 0
-AppendsFront old new bytes = (done : List ℕ) × (rest : List ℕ) × (bytes ≡ done ++ rest) × Appends old new done
+AppendsFront old new bytes = (done : List ℕ) × (rest : List ℕ) × (bytes ≡ done ++ rest) × (rest ≢ []) × Appends old new done

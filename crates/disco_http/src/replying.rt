@@ -1,10 +1,10 @@
 //! Replies that are written, without memory.
-ghost use Rattle.std.specs.Prelude.{◌≡◌, IfErr, OnOk, OnErr, length, option_map};
+ghost use Rattle.std.specs.Prelude.{◌≡◌, is_err, IfErr, IsFalse, OnOk, OnErr, length, option_map};
 ghost use Rattle.std.specs.Io.KnownBytes.{Appends};
 ghost use Rattle.disco_values.specs.declared.fault.Fault.TheVariants.{WriteFailed};
 ghost use Rattle.disco_message.specs.ReplyText.{answer_of, reply_text, reply_body};
 ghost use Rattle.disco_reader.specs.Causes.{Raises};
-ghost use Rattle.disco_http.specs.Sinks.{AppendsFront, sink_of};
+ghost use Rattle.disco_http.specs.Sinks.{AppendsFront, is_spent, sink_of};
 
 use crate::writer::{SMALL_BODY, Writer};
 use disco_message::{Document, Reply, StatusLine};
@@ -60,6 +60,7 @@ fn send_reply<W: Sink, D: Document>(
     ensures front { OnErr result (AppendsFront (W.contents (sink_of writer.old)) (W.contents (sink_of writer.new)) (reply_text (answer_of D.content reply.now) last)) }
     ensures cause { OnErr result (Raises (W.failed (sink_of writer.old)) (W.failed (sink_of writer.new))) }
     ensures none_failed { OnOk result (W.failed (sink_of writer.new) ≡ W.failed (sink_of writer.old)) }
+    ensures spent { is_spent writer.new ≡ is_spent writer.old }
 {
     let body = body_of(reply);
     writer.put_head(reply.status, reply.allow, size_of(reply), last);
@@ -74,20 +75,25 @@ fn send_reply<W: Sink, D: Document>(
 }
 
 /// Writes a reply; `last` says that the connection ends behind it. Takes no memory. Refused only as
-/// `WriteFailed`; then a front of the reply was written.
+/// `WriteFailed`; then a front of the reply was written, and the writer is spent.
 pub fn write_reply<W: Sink, D: Document>(
     writer: &mut Writer<W>,
     reply: &Reply<D>,
     last: bool,
 ) -> Result<(), Fault>
+    requires { IsFalse (is_spent writer.old) }
     ensures written { OnOk result (Appends (W.contents (sink_of writer.old)) (W.contents (sink_of writer.new)) (reply_text (answer_of D.content reply.now) last)) }
     ensures front { OnErr result (AppendsFront (W.contents (sink_of writer.old)) (W.contents (sink_of writer.new)) (reply_text (answer_of D.content reply.now) last)) }
     ensures fault { IfErr result (λ fault. fault ≡ WriteFailed) }
     ensures cause { OnErr result (Raises (W.failed (sink_of writer.old)) (W.failed (sink_of writer.new))) }
     ensures none_failed { OnOk result (W.failed (sink_of writer.new) ≡ W.failed (sink_of writer.old)) }
+    ensures spent { is_spent writer.new ≡ is_err result }
 {
     match send_reply(writer, reply, last) {
         Ok(()) => Ok(()),
-        Err(Failed) => Err(Fault::WriteFailed),
+        Err(Failed) => {
+            writer.spend();
+            Err(Fault::WriteFailed)
+        }
     }
 }

@@ -12,41 +12,72 @@ use std::alloc::{AllocError, Global};
 /// Bodies up to this size are written together with their head, in bytes.
 pub(crate) const SMALL_BODY: usize = 4_096;
 
-/// A sink with room for the head of a reply and a small body, so that no reply takes memory.
+/// A sink with room for the head of a reply and a small body, so that no reply takes memory. Behind a
+/// write that failed nothing more is written.
 #[derive(Drop)]
 pub struct Writer<W> {
     pub(crate) sink: W,
     pub(crate) room: Vec<u8>,
+    pub(crate) spent: bool,
     ghost fits: { 4352 ≤ vec_capacity room },
 }
 
 impl<W: Drop> Writer<W> {
-    ghost use Rattle.std.specs.Prelude.{◌≡◌, IfOk};
-    ghost use Rattle.disco_http.specs.Sinks.{sink_of};
+    ghost use Rattle.std.specs.Prelude.{◌≡◌, IfOk, IsFalse};
+    ghost use Rattle.disco_http.specs.Sinks.{is_spent, sink_of};
 
     /// Room in front of a sink, with nothing written.
     pub fn new(alloc: Global, sink: W) -> Result<Writer<W>, AllocError>
-        ensures { IfOk result (λ writer. sink_of writer ≡ sink) }
+        ensures sink { IfOk result (λ writer. sink_of writer ≡ sink) }
+        ensures spent { IfOk result (λ writer. IsFalse (is_spent writer)) }
     {
         let room = Vec::with_capacity(alloc, HEAD_ROOM + SMALL_BODY)?;
-        Ok(Writer { sink, room })
+        Ok(Writer {
+            sink,
+            room,
+            spent: false,
+        })
     }
 
     /// The same room in front of another sink, with nothing written. Takes no memory.
     pub fn over<V>(self, sink: V) -> Writer<V>
-        ensures { sink_of result ≡ sink }
+        ensures sink { sink_of result ≡ sink }
+        ensures spent { IsFalse (is_spent result) }
     {
-        let Writer { sink: _sink, room } = self;
-        Writer { sink, room }
+        let Writer {
+            sink: _sink,
+            room,
+            spent: _,
+        } = self;
+        Writer {
+            sink,
+            room,
+            spent: false,
+        }
     }
 }
 
 impl<W: Sink> Writer<W> {
-    ghost use Rattle.std.specs.Prelude.{◌≡◌, ◌++◌, length, IfErr, OnOk, OnErr};
+    ghost use Rattle.std.specs.Prelude.{◌≡◌, ◌++◌, length, is_err, IfErr, IsFalse, IsTrue, OnOk, OnErr};
     ghost use Rattle.std.specs.Io.KnownBytes.{Appends};
     ghost use Rattle.disco_message.specs.ReplyText.{reply_head};
     ghost use Rattle.disco_reader.specs.Causes.{Raises};
-    ghost use Rattle.disco_http.specs.Sinks.{AppendsFront, sink_of};
+    ghost use Rattle.disco_http.specs.Sinks.{AppendsFront, is_spent, sink_of};
+
+    /// Whether a write failed, or the connection has ended. Then nothing more is written.
+    pub fn is_spent(&self) -> bool
+        ensures { result ≡ is_spent self.now }
+    {
+        self.spent
+    }
+
+    /// Writes nothing more.
+    pub(crate) fn spend(&mut self)
+        ensures spent { IsTrue (is_spent self.new) }
+        ensures sink { sink_of self.new ≡ sink_of self.old }
+    {
+        self.spent = true;
+    }
 
     /// Puts the head of a reply into the room.
     pub(crate) fn put_head(
@@ -59,6 +90,7 @@ impl<W: Sink> Writer<W> {
         ensures room { self.new.room.items ≡ reply_head status allow size last }
         ensures len { vec_len self.new.room ≤ HEAD_ROOM }
         ensures sink { self.new.sink ≡ self.old.sink }
+        ensures spent { self.new.spent ≡ self.old.spent }
     {
         self.room.clear();
         push_head(&mut self.room, status, allow, size, last);
@@ -70,6 +102,7 @@ impl<W: Sink> Writer<W> {
         requires small { length body.now ≤ SMALL_BODY }
         ensures room { self.new.room.items ≡ self.old.room.items ++ body.now }
         ensures sink { self.new.sink ≡ self.old.sink }
+        ensures spent { self.new.spent ≡ self.old.spent }
     {
         push_bytes(&mut self.room, body);
     }
@@ -80,22 +113,28 @@ impl<W: Sink> Writer<W> {
         ensures front { OnErr result (AppendsFront (W.contents self.old.sink) (W.contents self.new.sink) self.old.room.items) }
         ensures cause { OnErr result (Raises (W.failed self.old.sink) (W.failed self.new.sink)) }
         ensures none_failed { OnOk result (W.failed self.new.sink ≡ W.failed self.old.sink) }
+        ensures spent { self.new.spent ≡ self.old.spent }
     {
         write_all(&mut self.sink, &self.room)
     }
 
     /// Writes these bytes as they are, as the head of a request. Takes no memory. Refused only as
-    /// `WriteFailed`; then a front of them was written.
+    /// `WriteFailed`; then a front of them was written, and the writer is spent.
     pub fn write_bytes(&mut self, bytes: &[u8]) -> Result<(), Fault>
+        requires { IsFalse (is_spent self.old) }
         ensures written { OnOk result (Appends (W.contents (sink_of self.old)) (W.contents (sink_of self.new)) bytes.now) }
         ensures front { OnErr result (AppendsFront (W.contents (sink_of self.old)) (W.contents (sink_of self.new)) bytes.now) }
         ensures fault { IfErr result (λ fault. fault ≡ WriteFailed) }
         ensures cause { OnErr result (Raises (W.failed (sink_of self.old)) (W.failed (sink_of self.new))) }
         ensures none_failed { OnOk result (W.failed (sink_of self.new) ≡ W.failed (sink_of self.old)) }
+        ensures spent { is_spent self.new ≡ is_err result }
     {
         match write_all(&mut self.sink, bytes) {
             Ok(()) => Ok(()),
-            Err(Failed) => Err(Fault::WriteFailed),
+            Err(Failed) => {
+                self.spend();
+                Err(Fault::WriteFailed)
+            }
         }
     }
 }

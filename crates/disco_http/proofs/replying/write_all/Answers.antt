@@ -1,7 +1,7 @@
 use Rattle.std.proofs.Common.{rules, refl, sym, take, drop}
 use Rattle.std.proofs.lemmas.List.{take-append-drop}
 use Rattle.std.proofs.lemmas.Result.{err_from_is_err_and}
-use Rattle.disco_http.proofs.Appended.{write_part, Appends-keeps}
+use Rattle.disco_http.proofs.Appended.{write_part, Appends-keeps, some_left}
 use Rattle.disco_http.proofs.replying.write_all.Goals as goal
 
 pub returns-in_err-count-clause-front : goal.returns-in_err-count-clause-front
@@ -9,7 +9,7 @@ returns-in_err-count-clause-front g c =
     let p = err_from_is_err_and c.from_residual.result c.from_residual.ensures.1 in
     let at = c.loop-at.at in
     let bytes = c.args.bytes.now in
-    rw p.1 (take at bytes, drop at bytes, sym (take-append-drop at bytes), Appends-keeps _ _ _ (take at bytes) c.loop-at.invariant.1 c.in_err-count.ensures.bytes)
+    rw p.1 (take at bytes, drop at bytes, sym (take-append-drop at bytes), some_left bytes at (search rules), Appends-keeps _ _ _ (take at bytes) c.loop-at.invariant.1 c.in_err-count.ensures.bytes)
 
 pub loop-at-preserved : goal.loop-at-preserved
 loop-at-preserved g c =

@@ -1,7 +1,7 @@
 use Rattle.std.proofs.Common.{◌≡◌, ◌<◌, ◌-◌, IfSome, IsFalse}
 use Rattle.disco_reader.specs.Streams.{ahead}
 use Rattle.disco_http.specs.Exchanges.{SoFar}
-use Rattle.disco_http.proofs.serving.serve.Given as goal
+use Rattle.disco_http.proofs.serving.answer_all.Given as goal
 
 abbrev pub invariant-loop-requests : goal.invariant-loop-requests
 invariant-loop-requests g l = record {
@@ -9,6 +9,7 @@ invariant-loop-requests g l = record {
   few : l.requests < l.most;
   limits : l.reader.limits ≡ l.fn.reader.limits;
   fresh : IsFalse l.reader.spent;
+  unspent : IsFalse l.writer.spent;
   read : g.R.Source.failed l.reader.source ≡ g.R.Source.failed l.fn.reader.source;
   wrote : g.W.Sink.failed l.writer.sink ≡ g.W.Sink.failed l.fn.writer.sink;
 }
