@@ -10,10 +10,11 @@ use Rattle.disco_message.specs.declared.limits.Limits.{Limits}
 use Rattle.disco_query.specs.Query.{is_delta}
 use Rattle.disco_query.specs.declared.key.DocKey.{DocKey}
 use Rattle.disco_reader.specs.Causes.{Raises}
-use Rattle.disco_reader.specs.Replies.{ReplyRefused, TakesReply}
+use Rattle.disco_reader.specs.Replies.{HasNoReply, ReplyRefused, TakesReply}
 use Rattle.disco_reader.specs.Streams as stream
 use Rattle.disco_reader.specs.declared.reader.Reader.{Reader}
 use Rattle.disco_http.specs.Sinks.{sink_of}
+use Rattle.disco_http.specs.Sinks as sinks
 use Rattle.disco_http.specs.declared.writer.Writer.{Writer}
 use Rattle.disco_reconcile.specs.declared.fetch.Fetched.{Fetched}
 use Rattle.disco_reconcile.specs.declared.http_fetch.HttpFetch.{HttpFetch}
@@ -53,17 +54,20 @@ pub record IsReply (limits : Limits) (x : Fetched) (stream : List ℕ) (left : O
   pub ahead : left ≡ Some rest
   pub closes : spent ≡ says.closes
 
--- why a fetch fails: nothing more was to be fetched, a write failed, or no reply stands ahead
+-- why a fetch fails: nothing more was to be fetched, read or written, a write failed, or no reply stands ahead
 abbrev pub Fails : {R W : Type 0} → (R → Option (List ℕ)) → (W → ℕ) → HttpFetch R W → Fault → HttpFetch R W → Type 0
 Fails remaining failed old fault new =
     (is_spent old ≡ true)
     ⊎ ((stream.is_spent (reader_of old) ≡ true)
+    ⊎ ((sinks.is_spent (writer_of old) ≡ true)
     ⊎ (Raises (failed (sink_of (writer_of old))) (failed (sink_of (writer_of new)))
-    ⊎ IfSome (stream.ahead remaining (reader_of old)) (ReplyRefused (stream.limits_of (reader_of old)) fault)))
+    ⊎ IfSome (stream.ahead remaining (reader_of old)) (ReplyRefused (stream.limits_of (reader_of old)) fault))))
 
--- a failed read raised the count of the source, or found it at its end
-abbrev pub CountsReads : {R W : Type 0} → (R → ℕ) → HttpFetch R W → Fault → HttpFetch R W → Type 0
-CountsReads failed old fault new = fault ≡ ReadFailed → Raises (failed (stream.source_of (reader_of old))) (failed (stream.source_of (reader_of new)))
+-- a failed read raised the count of the source, or found it at its end, and what had come holds no whole reply, but for one that goes on to the end of the input
+abbrev pub BreaksOff : {R W : Type 0} → (R → Option (List ℕ)) → (R → ℕ) → HttpFetch R W → Fault → HttpFetch R W → Type 0
+BreaksOff remaining failed old fault new =
+    fault ≡ ReadFailed → Raises (failed (stream.source_of (reader_of old))) (failed (stream.source_of (reader_of new)))
+    × IfSome (stream.ahead remaining (reader_of old)) (λ bytes. stream.Came (HasNoReply (stream.limits_of (reader_of old))) bytes (remaining (stream.source_of (reader_of new))))
 
 -- the request was written and the reply taken, on a connection that isn't spent
 pub record Fetches {R W : Type 0} (remaining : R → Option (List ℕ)) (contents : W → Option (List ℕ)) (old : HttpFetch R W) (k : DocKey) (x : Fetched) (new : HttpFetch R W) : Type 0 where
@@ -76,4 +80,4 @@ pub record Fetches {R W : Type 0} (remaining : R → Option (List ℕ)) (content
 -- what a fetch comes to; one that fails spends the connection
 abbrev pub FetchesBy : {R W : Type 0} → (R → Option (List ℕ)) → (R → ℕ) → (W → Option (List ℕ)) → (W → ℕ) → HttpFetch R W → DocKey → Result Fetched Fault → HttpFetch R W → Type 0
 FetchesBy remaining read_failed contents write_failed old k (Ok x) new = Fetches remaining contents old k x new
-FetchesBy remaining read_failed contents write_failed old k (Err e) new = (is_spent new ≡ true) × Fails remaining write_failed old e new × CountsReads read_failed old e new
+FetchesBy remaining read_failed contents write_failed old k (Err e) new = (is_spent new ≡ true) × Fails remaining write_failed old e new × BreaksOff remaining read_failed old e new

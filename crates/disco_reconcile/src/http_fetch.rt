@@ -7,7 +7,7 @@ ghost use Rattle.disco_reader.specs.Causes.{Raises};
 ghost use Rattle.disco_reader.specs.Replies.{TakesReply};
 ghost use Rattle.disco_reader.specs.Streams.{ahead, limits_of};
 ghost use Rattle.disco_http.specs.Sinks.{sink_of};
-ghost use Rattle.disco_reconcile.specs.Connection.{CountsReads, Fails, FetchesBy, failures_of, is_spent, reader_of, request_text, writer_of};
+ghost use Rattle.disco_reconcile.specs.Connection.{BreaksOff, Fails, FetchesBy, failures_of, is_spent, reader_of, request_text, writer_of};
 
 use crate::fetch::{Fetch, Fetched};
 use disco_http::Writer;
@@ -76,9 +76,9 @@ impl<R: Source, W: Sink> HttpFetch<R, W> {
         ensures reply { IfOk result (λ reply. IfSome (ahead R.remaining self.old.reader) (λ stream.
             (rest : List ℕ) × TakesReply (limits_of self.old.reader) stream reply.head reply.body.items rest × (ahead R.remaining self.new.reader ≡ Some rest))) }
         ensures why { IfErr result (λ fault. Fails R.remaining W.failed self.old fault self.new) }
-        ensures reads { IfErr result (λ fault. CountsReads R.failed self.old fault self.new) }
+        ensures reads { IfErr result (λ fault. BreaksOff R.remaining R.failed self.old fault self.new) }
     {
-        if self.spent || self.reader.is_spent() {
+        if self.spent || self.reader.is_spent() || self.writer.is_spent() {
             return Err(Fault::NotFetched);
         }
         let request = request_of(key.query.is_delta(), key.form);
