@@ -11,6 +11,7 @@ mod given;
 mod press;
 mod program;
 mod rounds;
+mod serving;
 
 use disco_press::Opening;
 use disco_values::Fault;
@@ -56,6 +57,11 @@ fn try_streams<R: Print>(rt: &R, alloc: Global) -> io::Result<bool> {
             rt,
             "a write that fails",
             program::tells_failed_writes(alloc),
+        )?,
+        told(
+            rt,
+            "connections that fail",
+            serving::ends_at_each_failure(alloc),
         )?,
     ];
     Ok(all.iter().all(|well| *well))
