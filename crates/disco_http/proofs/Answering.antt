@@ -1,6 +1,5 @@
 -- Answers one after another.
-use Rattle.std.proofs.Common.{◌≡◌, ℕ, ◌+◌, ◌-◌, ◌<◌, ◌==◌, arith, Bool, true, false, List, [], ◌∷◌, ◌++◌, Option, Some, None, length, sym, ◌∙◌, ap, refl, append_assoc, append-nil, length-append, inl, inr, IfSome, subst}
-use Rattle.std.specs.Io.KnownBytes.{Appends}
+use Rattle.std.proofs.Common.{◌≡◌, ℕ, ◌+◌, ◌-◌, ◌<◌, ◌==◌, arith, Bool, true, false, List, [], ◌∷◌, ◌++◌, Option, Some, None, length, sym, ◌∙◌, ap, refl, append_assoc, append-nil, length-append, IfSome, IsTrue, subst}
 use Rattle.std.proofs.lemmas.Bool.Decides.{nat_tests}
 use Rattle.std.proofs.lemmas.List.{map_push}
 use Rattle.disco_message.specs.declared.limits.Limits.{Limits}
@@ -10,7 +9,7 @@ use Rattle.disco_reader.specs.Requests.{Takes}
 use Rattle.disco_http.specs.declared.serving.End.{End}
 use Rattle.disco_http.specs.declared.serving.End.TheVariants.{Closed, Limit, Fault}
 use Rattle.disco_http.specs.declared.serving.Step.TheVariants.{Goes, Last, Stops}
-use Rattle.disco_http.specs.Served.{Left, Chain, is_last, texts, end_texts, end_behind, Requests, Ends, Written, AnswersAll}
+use Rattle.disco_http.specs.Served.{Left, Chain, is_last, texts, end_texts, end_behind, ends_by_reply, Requests, Ends, AnswersAll}
 use Rattle.disco_http.specs.Exchanges.{open_texts, Closing, SoFar, Exchanged}
 use Rattle.disco_reader.specs.Chunks.{joined}
 use Rattle.disco_reader.proofs.Chunking.{joined-more, known_is}
@@ -36,6 +35,12 @@ silent : (closes last : Bool) (end : End) → Closing (end_behind closes last) e
 silent closes true end h = rw h refl
 silent true false end h = rw h refl
 silent false false end h = rw h refl
+
+-- a last reply ends the connection
+by_last : (closes last : Bool) (end : End) → Closing (end_behind closes last) end → IsTrue (ends_by_reply end)
+by_last closes true end h = rw h refl
+by_last true false end h = rw h refl
+by_last false false end h = rw h refl
 
 same_last : (most count : ℕ) → count < most → (most - count == 1) ≡ (count + 1 == most)
 same_last most count h = grind (arith, nat_tests, h)
@@ -111,7 +116,7 @@ ends_with answers limits (Some stream) old mid new before b c left next count at
       last_ask limits most stream now x.1 next asks a count end (end_behind a.closes (count + 1 == most)) few so.4 x.2 x.3 refl x.4.3,
       chain-then answers old mid new asks (a ∷ []) replies (r ∷ []) so.5 (new, x.4.2, refl),
       one_more asks a count so.6,
-      rw (texts-shut replies (r ∷ []) end refl, text) (written_then at end before b c (open_texts replies) (one ∷ []) so.7 (written_one at end b c one x.4.4)),
+      rw (texts-shut replies (r ∷ []) end refl, text) (written_then at end before b c (open_texts replies) (one ∷ []) so.7 (written_one at end b c one (by_last a.closes (count + 1 == most) end x.4.3) x.4.4)),
     )
 
 not_asked : (limits : Limits) (stream : List ℕ) (left : Left) (end : End) → Ends limits stream left end → is_last [] end ≡ false

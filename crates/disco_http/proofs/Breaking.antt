@@ -1,10 +1,10 @@
 -- Texts that are written one after another, up to one whose write may fail.
-use Rattle.std.proofs.Common.{◌≡◌, ℕ, List, [], ◌∷◌, ◌++◌, Option, sym, ◌∙◌, ap, refl, subst, append_assoc, append-nil, inl, inr}
+use Rattle.std.proofs.Common.{◌≡◌, ℕ, List, [], ◌∷◌, ◌++◌, Option, sym, ◌∙◌, ap, refl, subst, append_assoc, append-nil, inl, inr, IsTrue}
 use Rattle.std.specs.Io.KnownBytes.{Appends}
 use Rattle.disco_reader.specs.Chunks.{joined}
 use Rattle.disco_http.specs.declared.serving.End.{End}
 use Rattle.disco_http.specs.Exchanges.{WrittenOne}
-use Rattle.disco_http.specs.Served.{Breaks, Written}
+use Rattle.disco_http.specs.Served.{Written, ends_by_reply}
 use Rattle.disco_http.proofs.Appended.{Appends-then, Appends-none}
 
 pub joined-append : (xs ys : List (List ℕ)) → joined (xs ++ ys) ≡ joined xs ++ joined ys
@@ -12,18 +12,19 @@ joined-append [] ys = refl
 joined-append (x ∷ xs) ys = ap (λ (zs : List ℕ). x ++ zs) (joined-append xs ys) ∙ sym (append_assoc x (joined xs) (joined ys))
 
 -- one text
-pub written_one : (at end : End) (a b : Option (List ℕ)) (text : List ℕ) → WrittenOne at end a b text → Written at end a b (text ∷ [])
-written_one at end a b text (inl w) = inl (w.0, w.1, subst (Appends a b) (sym (append-nil text)) w.2)
-written_one at end a b text (inr w) = inr (w.0, ([], text, a, refl, Appends-none a, w.1))
+pub written_one : (at end : End) (a b : Option (List ℕ)) (text : List ℕ) → IsTrue (ends_by_reply end) → WrittenOne at end a b text → Written at end a b (text ∷ [])
+written_one at end a b text last (inl w) = inl (w.0, w.1, subst (Appends a b) (sym (append-nil text)) w.2)
+written_one at end a b text last (inr w) = inr (w.0, last, ([], text, a, refl, Appends-none a, w.1))
 
 -- whole texts before others
 pub written_then : (at end : End) (a b c : Option (List ℕ)) (xs ys : List (List ℕ)) → Appends a b (joined xs) → Written at end b c ys → Written at end a c (xs ++ ys)
 written_then at end a b c xs ys h (inl w) =
     inl (w.0, w.1, subst (Appends a c) (sym (joined-append xs ys)) (Appends-then a b c (joined xs) (joined ys) h w.2))
 written_then at end a b c xs ys h (inr w) =
-    let k = w.1 in
+    let k = w.2 in
     inr (
       w.0,
+      w.1,
       (
         xs ++ k.0,
         k.1,

@@ -1,5 +1,5 @@
 -- A connection that stops before a request.
-use Rattle.std.proofs.Common.{◌≡◌, ◌≢◌, ℕ, Bool, true, List, [], ◌∷◌, Option, Some, None, IfSome, inl, refl, subst, sym}
+use Rattle.std.proofs.Common.{◌≡◌, ◌≢◌, ℕ, Bool, true, List, [], ◌∷◌, Option, Some, None, IfSome, IsTrue, inl, refl, subst, sym}
 use Rattle.disco_values.specs.declared.fault.Fault.TheVariants.{ReadFailed, WriteFailed}
 use Rattle.disco_values.specs.declared.fault.Fault as fault
 use Rattle.disco_message.specs.declared.limits.Limits.{Limits}
@@ -11,7 +11,7 @@ use Rattle.disco_http.specs.declared.serving.End.TheVariants.{Fault}
 use Rattle.disco_http.specs.declared.serving.Step.{Step}
 use Rattle.disco_http.specs.declared.serving.Step.TheVariants.{Goes, Last, Stops}
 use Rattle.disco_http.specs.Exchanges.{Exchanged, Refuses}
-use Rattle.disco_http.specs.Served.{Left, Ends, Written, end_texts, refused}
+use Rattle.disco_http.specs.Served.{Left, Ends, Written, end_texts, ends_by_reply, refused}
 use Rattle.disco_http.proofs.Appended.{Appends-none}
 use Rattle.disco_http.proofs.Breaking.{written_one}
 
@@ -34,6 +34,10 @@ last_text ReadFailed read wrote = absurd (read refl)
 last_text WriteFailed read wrote = absurd (wrote refl)
 last_text f read wrote = refl
 
+by_reply : (f : fault.Fault) → f ≢ ReadFailed → IsTrue (ends_by_reply (Fault f))
+by_reply ReadFailed read = absurd (read refl)
+by_reply f read = refl
+
 -- a request was refused
 pub refused_stops : {S : Type 0} (answers : S → message.Asked → Answer → S → Type 0) (limits : Limits) (first : Option (List ℕ)) (left : Left) (old : S) (before after : Option (List ℕ)) (last : Bool) (f : fault.Fault) (step : Step)
     → f ≢ ReadFailed → f ≢ WriteFailed → IfSome first (Refused limits f) → Refuses before after f step → IfSome first (λ stream. Exchanged answers limits stream left old old before after last step)
@@ -41,4 +45,4 @@ refused_stops answers limits None left old before after last f step read wrote r
 refused_stops answers limits (Some stream) left old before after last f Goes read wrote refused stopped = elim stopped [ ]
 refused_stops answers limits (Some stream) left old before after last f (Last at) read wrote refused stopped = elim stopped [ ]
 refused_stops answers limits (Some stream) left old before after last f (Stops at) read wrote is stopped =
-    (Fault f, refl, ends_refused limits stream left f read wrote is, subst (Written at (Fault f) before after) (sym (last_text f read wrote)) (written_one at (Fault f) before after (reply_text (refused f) true) stopped))
+    (Fault f, refl, ends_refused limits stream left f read wrote is, subst (Written at (Fault f) before after) (sym (last_text f read wrote)) (written_one at (Fault f) before after (reply_text (refused f) true) (by_reply f read) stopped))

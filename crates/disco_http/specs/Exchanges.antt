@@ -1,5 +1,5 @@
 -- Only what code keeps: nothing here is to be believed.
-use Rattle.std.specs.Prelude.{◌≡◌, ◌≢◌, ◌⊎◌, ℕ, ◌-◌, Bool, true, false, List, [], ◌∷◌, ◌++◌, length, map, Option, Some, None}
+use Rattle.std.specs.Prelude.{◌≡◌, ◌≢◌, ◌⊎◌, ℕ, ◌-◌, Bool, true, false, List, [], ◌++◌, length, map, Option, Some, None}
 use Rattle.std.specs.Io.KnownBytes.{Appends}
 use Rattle.disco_values.specs.declared.fault.Fault.TheVariants.{WriteFailed}
 use Rattle.disco_values.specs.declared.fault.Fault as fault

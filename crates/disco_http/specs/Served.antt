@@ -1,5 +1,5 @@
 -- The answers to the requests of a stream, and how a connection ends.
-use Rattle.std.specs.Prelude.{◌≡◌, ◌≢◌, ◌⊎◌, ℕ, ◌-◌, Bool, true, false, List, [], ◌∷◌, ◌++◌, length, Option, Some, None, if◌then◌else◌, ◌==◌}
+use Rattle.std.specs.Prelude.{◌≡◌, ◌≢◌, ◌⊎◌, ℕ, ◌-◌, Bool, true, false, List, [], ◌∷◌, ◌++◌, length, Option, Some, None, if◌then◌else◌, ◌==◌, IsTrue}
 use Rattle.std.specs.Io.KnownBytes.{Appends}
 use Rattle.disco_values.specs.declared.fault.Fault.TheVariants.{ReadFailed, WriteFailed}
 use Rattle.disco_values.specs.declared.fault.Fault as fault
@@ -86,9 +86,15 @@ abbrev pub Breaks : Option (List ℕ) → Option (List ℕ) → List (List ℕ) 
 Breaks before after texts =
     (whole : List (List ℕ)) × (last : List ℕ) × (mid : Option (List ℕ)) × (texts ≡ whole ++ last ∷ []) × Appends before mid (joined whole) × AppendsFront mid after last
 
--- all texts were written, or the write of the last one failed
+-- the connection ends by a reply, and not at the end of its input, nor by a failed read
+abbrev pub ends_by_reply : End → Bool
+ends_by_reply Closed = false
+ends_by_reply (Fault ReadFailed) = false
+ends_by_reply end = true
+
+-- all texts were written, or the write of the last one failed, which ended the connection
 abbrev pub Written : End → End → Option (List ℕ) → Option (List ℕ) → List (List ℕ) → Type 0
-Written at end before after texts = ((at ≡ end) × (at ≢ Fault WriteFailed) × Appends before after (joined texts)) ⊎ ((at ≡ Fault WriteFailed) × Breaks before after texts)
+Written at end before after texts = ((at ≡ end) × (at ≢ Fault WriteFailed) × Appends before after (joined texts)) ⊎ ((at ≡ Fault WriteFailed) × IsTrue (ends_by_reply end) × Breaks before after texts)
 
 -- the connection's replies are exactly the answers to the stream's requests
 abbrev pub AnswersAll : {S : Type 0} → (S → message.Asked → Answer → S → Type 0) → Limits → List ℕ → Left → S → S → Option (List ℕ) → Option (List ℕ) → Served → Type 0
