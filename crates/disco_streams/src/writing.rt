@@ -1,0 +1,18 @@
+//! Whole texts that are written.
+ghost use Rattle.std.specs.Prelude.{◌≡◌, ◌≤◌, length};
+ghost use Rattle.disco_streams.specs.Writes.{Writes};
+
+use disco_reader::{Failed, Sink};
+
+/// Writes all of these bytes, in as many writes as it takes. Where a write fails, a front of them was
+/// written.
+pub fn write_all<W: Sink>(sink: &mut W, bytes: &[u8]) -> Result<(), Failed>
+    ensures { Writes (W.contents sink.old) (W.contents sink.new) (W.failed sink.old) (W.failed sink.new) result bytes.now }
+{
+    let mut at = 0;
+    while at < bytes.len() {
+        let count = sink.write(&bytes[at..])?;
+        at += count;
+    }
+    Ok(())
+}
