@@ -55,6 +55,13 @@ impl<'a, J: Naming, R, C, G> DeskService<'a, J, R, C, G> {
             connection: 0,
         }
     }
+
+    /// From now on the connection of this number is served.
+    pub(crate) fn begin(&mut self, number: u64)
+        ensures { self.new ≡ record self.old { connection = number } }
+    {
+        self.connection = number;
+    }
 }
 
 impl<'a, J: Naming, R: Wait, C: Clock, G: Gate> Service for DeskService<'a, J, R, C, G> {

@@ -56,7 +56,7 @@ fn serve_all<J: Naming, R: Wait, C: Clock + Copy, G: Gate>(
         let Some((stream, number)) = next_connection(rt, listener, door) else {
             return;
         };
-        service.connection = number;
+        service.begin(number);
         buffers = attend(alloc, buffers, &stream, service);
     }
 }

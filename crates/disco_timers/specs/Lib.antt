@@ -1,2 +1,3 @@
+pub mod Chores
 pub mod Publishing
 pub mod Timers

@@ -64,12 +64,11 @@ pub fn publish_step<J: Naming, R: Wait>(rt: &R, desk: &mut Desk<J>) -> Result<St
     }
 }
 
-/// Takes the next step of a publisher under the lock, and gives the lock back. Refused only as
-/// `OutOfMemory`, and then the desk is as it was.
-pub fn publish_step_locked<J: Naming, R: Wait>(
-    rt: &R,
-    desk: &Mutex<Desk<J>>,
-) -> Result<Step, Fault> {
+/// Takes the next step of a publisher under the lock, as [`publish_step`] does, and gives the lock
+/// back. Refused only as `OutOfMemory`.
+pub fn publish_step_locked<J: Naming, R: Wait>(rt: &R, desk: &Mutex<Desk<J>>) -> Result<Step, Fault>
+    ensures { IfErr result (λ fault. fault ≡ OutOfMemory) }
+{
     let mut guard = desk.lock(rt);
     let step = publish_step(rt, &mut *guard);
     MutexGuard::unlock(guard);

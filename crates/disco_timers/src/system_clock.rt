@@ -1,11 +1,15 @@
 //! The host's clock.
 ghost use Rattle.std.specs.Prelude.{◌≡◌, ◌≤◌};
+ghost use Rattle.core.specs.Duration.{as_nanos};
+ghost use Rattle.disco_timers.specs.Timers.{moment_of};
 
 use crate::clock::Clock;
 use std::rt;
+use std::time::Duration;
 
-/// The host's clock in whole milliseconds since the Unix epoch. Its moments don't fall: where the
-/// host's clock goes back, or can't be read, it says the last moment once more.
+/// The host's clock in whole milliseconds since the Unix epoch. The moments of one copy don't fall:
+/// where the host's clock goes back, or can't be read, it says its last moment once more. Two copies
+/// know nothing of one another.
 #[derive(Clone, Copy, Debug)]
 pub struct SystemClock<R> {
     host: R,
@@ -20,10 +24,17 @@ impl<R> SystemClock<R> {
     }
 }
 
+/// The whole milliseconds of a time, up to 2^64 - 1.
+fn moment_of(time: Duration) -> u64
+    ensures { result ≡ moment_of (as_nanos time) }
+{
+    u64::try_from(time.as_millis()).unwrap_or(u64::MAX)
+}
+
 /// The moment of the host's clock, and 0 where it can't be read.
 fn host_moment<R: rt::Clock>(host: &R) -> u64 {
     match host.since_1970() {
-        Ok(time) => u64::try_from(time.as_millis()).unwrap_or(u64::MAX),
+        Ok(time) => moment_of(time),
         Err(_) => 0,
     }
 }

@@ -2,8 +2,8 @@
 ghost use Rattle.std.specs.Prelude.{◌≡◌, IfErr};
 ghost use Rattle.disco_values.specs.declared.fault.Fault.TheVariants.{ReadFailed};
 
+use crate::chores::{CHORES, Chore, tend_once};
 use crate::clock::Clock;
-use crate::publishing::{Step, publish_step_locked};
 use crate::timer::Timer;
 use disco_editions::Naming;
 use disco_press::Desk;
@@ -17,46 +17,6 @@ use std::{rt, thread};
 /// How many milliseconds a worker sleeps before it looks again whether it is to stop, and what is
 /// due.
 const NAP_MILLIS: u64 = 50;
-
-/// Milliseconds between two rounds of the publisher.
-const PUBLISHER_PERIOD: u64 = 30_000;
-
-/// Milliseconds between two cleanings of the recent changes.
-const CLEANER_PERIOD: u64 = 30_000;
-
-/// Milliseconds between two closings of a minute.
-const MINUTE_PERIOD: u64 = 60_000;
-
-/// Milliseconds between two runs that let leases run out.
-const EXPIRY_PERIOD: u64 = 60_000;
-
-/// What a timed worker does.
-#[derive(Clone, Copy, Debug)]
-enum Chore {
-    Publish,
-    Clean,
-    CloseMinute,
-    Expire,
-}
-
-const CHORES: [Chore; 4] = [
-    Chore::Publish,
-    Chore::Clean,
-    Chore::CloseMinute,
-    Chore::Expire,
-];
-
-impl Chore {
-    /// How long it is from one time to the next, in milliseconds.
-    fn period(self) -> u64 {
-        match self {
-            Chore::Publish => PUBLISHER_PERIOD,
-            Chore::Clean => CLEANER_PERIOD,
-            Chore::CloseMinute => MINUTE_PERIOD,
-            Chore::Expire => EXPIRY_PERIOD,
-        }
-    }
-}
 
 /// What ends the timed workers.
 #[derive(Clone, Copy)]
@@ -73,48 +33,20 @@ impl<'a> Ends<'a> {
     }
 }
 
-/// Goes on with the open round, or begins one, up to its publication. Others may have the lock
-/// between two steps. Where there is no memory the round stays open for the next time.
-fn publish<J: Naming, R: Wait>(rt: &R, desk: &Mutex<Desk<J>>, ends: Ends<'_>) {
+/// Does a chore at a moment, each go of it under the lock, which others may have between two goes.
+/// Where there is no memory the round stays open for the next time, and what a run is refused is taken
+/// the next time.
+fn tend<J: Naming, R: Wait>(rt: &R, desk: &Mutex<Desk<J>>, chore: Chore, now: u64, ends: Ends<'_>) {
     for _ in rt.forever() {
         if ends.have_come() {
             return;
         }
-        match publish_step_locked(rt, desk) {
-            Ok(Step::Begun) | Ok(Step::Copied) => {}
-            Ok(Step::Published) | Err(_) => return,
+        let mut guard = desk.lock(rt);
+        let tended = tend_once(rt, &mut *guard, chore, now);
+        MutexGuard::unlock(guard);
+        if !matches!(tended, Ok(true)) {
+            return;
         }
-    }
-}
-
-/// Forgets recent changes.
-fn clean<J: Naming, R: Wait>(rt: &R, desk: &Mutex<Desk<J>>, now: u64) {
-    let mut guard = desk.lock(rt);
-    guard.clean(now);
-    MutexGuard::unlock(guard);
-}
-
-/// Closes a minute of renewals.
-fn close_minute<J: Naming, R: Wait>(rt: &R, desk: &Mutex<Desk<J>>) {
-    let mut guard = desk.lock(rt);
-    guard.close_minute();
-    MutexGuard::unlock(guard);
-}
-
-/// Lets leases run out. What a refusal leaves is taken the next time.
-fn expire<J: Naming, R: Wait>(rt: &R, desk: &Mutex<Desk<J>>, now: u64) {
-    let mut guard = desk.lock(rt);
-    guard.expire(now);
-    MutexGuard::unlock(guard);
-}
-
-/// Does what is due at a moment.
-fn tend<J: Naming, R: Wait>(rt: &R, desk: &Mutex<Desk<J>>, chore: Chore, now: u64, ends: Ends<'_>) {
-    match chore {
-        Chore::Publish => publish(rt, desk, ends),
-        Chore::Clean => clean(rt, desk, now),
-        Chore::CloseMinute => close_minute(rt, desk),
-        Chore::Expire => expire(rt, desk, now),
     }
 }
 

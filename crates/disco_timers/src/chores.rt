@@ -1,0 +1,101 @@
+//! What is done to a desk again and again, and how often.
+ghost use Rattle.std.specs.Prelude.{◌≡◌, None, Ok, Some};
+ghost use Rattle.disco_timers.specs.Chores.{LetsRunOut, PublishesOn, Tends, period_of};
+ghost use Rattle.disco_timers.specs.declared.chores.Chore.TheVariants as chore;
+
+use crate::publishing::{Step, publish_step};
+use disco_editions::Naming;
+use disco_press::Desk;
+use disco_values::Fault;
+use std::sync::Wait;
+
+/// Milliseconds between two rounds of the publisher.
+const PUBLISHER_PERIOD: u64 = 30_000;
+
+/// Milliseconds between two cleanings of the recent changes.
+const CLEANER_PERIOD: u64 = 30_000;
+
+/// Milliseconds between two closings of a minute.
+const MINUTE_PERIOD: u64 = 60_000;
+
+/// Milliseconds between two runs that let leases run out.
+const EXPIRY_PERIOD: u64 = 60_000;
+
+/// What a timed worker does.
+#[derive(Clone, Copy, Debug)]
+pub(crate) enum Chore {
+    Publish,
+    Clean,
+    CloseMinute,
+    Expire,
+}
+
+pub(crate) const CHORES: [Chore; 4] = [
+    Chore::Publish,
+    Chore::Clean,
+    Chore::CloseMinute,
+    Chore::Expire,
+];
+
+impl Chore {
+    /// How long it is from one time to the next, in milliseconds.
+    pub(crate) fn period(self) -> u64
+        ensures { result ≡ period_of self }
+    {
+        match self {
+            Chore::Publish => PUBLISHER_PERIOD,
+            Chore::Clean => CLEANER_PERIOD,
+            Chore::CloseMinute => MINUTE_PERIOD,
+            Chore::Expire => EXPIRY_PERIOD,
+        }
+    }
+}
+
+/// Takes a publisher's next step. Whether it goes on at once: up to the end of its round.
+fn publish_on<J: Naming, R: Wait>(rt: &R, desk: &mut Desk<J>) -> Result<bool, Fault>
+    ensures { PublishesOn desk.old result desk.new }
+{
+    match publish_step(rt, desk) {
+        Ok(Step::Begun) => Ok(true),
+        Ok(Step::Copied) => Ok(true),
+        Ok(Step::Published) => Ok(false),
+        Err(fault) => Err(fault),
+    }
+}
+
+/// Lets leases run out. Why the run stopped, if it did.
+fn expire<J: Naming>(desk: &mut Desk<J>, now: u64) -> Option<Fault>
+    ensures { LetsRunOut now desk.old desk.new result }
+{
+    desk.expire(now).stopped
+}
+
+/// What one go at a chore does to a desk that is lent to it, at a moment. Answers whether the chore
+/// goes on at once: a round, up to its publication. May wait for a seat that is inside its look.
+///
+/// Refused as `OutOfMemory` in a step of a round, which stays as it was, and as a run is that lets
+/// leases run out, with what is gone by then.
+pub(crate) fn tend_once<J: Naming, R: Wait>(
+    rt: &R,
+    desk: &mut Desk<J>,
+    chore: Chore,
+    now: u64,
+) -> Result<bool, Fault>
+    ensures { Tends chore now desk.old result desk.new }
+{
+    match chore {
+        Chore::Publish => publish_on(rt, desk),
+        Chore::Clean => {
+            let _from = desk.clean(now);
+            Ok(false)
+        }
+        Chore::CloseMinute => {
+            let _closed = desk.close_minute();
+            Ok(false)
+        }
+        Chore::Expire => match expire(desk, now) {
+            Some(fault) => Err(fault),
+            None => Ok(false),
+        },
+    }
+}
