@@ -1,10 +1,14 @@
 //! The command `fleet`.
-ghost use Rattle.std.specs.Prelude.{◌<◌, ◌≤◌, map, string_bytes};
+ghost use Rattle.std.specs.Prelude.{map, string_bytes};
+ghost use Rattle.clap.specs.Words.{found_of, rows_of};
+ghost use Rattle.disco_fleet.specs.Fleets.{IsGiven};
 ghost use Rattle.disco_options.specs.Ending.{EndsBy};
 ghost use Rattle.disco_options.specs.Options.{faults_of};
 ghost use Rattle.disco_press.specs.Openings.{Opens};
 
+mod comparing;
 mod following;
+mod plan;
 mod registering;
 mod rounds;
 mod showing;
@@ -15,15 +19,17 @@ use disco_message::Limits;
 use disco_options::{Verb, count, read_words, refused, report, settings_from};
 use disco_press::{Desk, Opening, Seat, open};
 use disco_server::{Open, listen, start};
-use disco_settings::{MOST_INSTANCES, Settings};
+use disco_settings::MOST_INSTANCES;
+use disco_streams::Sink;
 use disco_timers::SystemClock;
 use disco_values::Fault;
 use following::{Follower, connect_all, refresh_all};
+use plan::Plan;
 use registering::register_all;
 use rounds::{publish_round, publish_rounds};
+pub use showing::lines_of;
 use showing::show;
 use std::alloc::Global;
-use std::io::Write;
 use std::net::{Net, TcpListener, TcpStream};
 use std::rt::Clock;
 use std::sync::{Mutex, Wait};
@@ -35,20 +41,10 @@ const REFRESHES: u64 = 5;
 /// How many rounds are published while instances are registered.
 const ROUNDS: u64 = 3;
 
-/// Who is at work.
-#[derive(Clone, Copy, Debug)]
-struct Plan {
-    settings: Settings,
-    writers: u64,
-    clients: u64,
-    instances: u64,
-    ghost some_writers: { 0 < writers },
-    ghost some_clients: { 0 < clients },
-    ghost few_clients: { clients ≤ 64 },
-}
-
 /// What the words of `fleet` name.
-fn plan_from(matches: &ArgMatches<'_>) -> Plan {
+fn plan_from(matches: &ArgMatches<'_>) -> Plan
+    ensures { IsGiven (rows_of (found_of matches.now)) result }
+{
     Plan {
         settings: settings_from(matches),
         writers: count(matches, "writers", 64, 1),
@@ -86,7 +82,7 @@ where
 }
 
 /// What the writers, the publisher and the clients do beside the server.
-fn work<J: Naming + Send + Sync, R, W: Write>(
+fn work<J: Naming + Send + Sync, R, W: Sink>(
     rt: &R,
     alloc: Global,
     plan: &Plan,
@@ -104,7 +100,7 @@ where
 }
 
 /// A server with a worker for each client, and beside it the work.
-fn run<J: Naming + Send + Sync, R, W: Write>(
+fn run<J: Naming + Send + Sync, R, W: Sink>(
     rt: &R,
     alloc: Global,
     plan: &Plan,
@@ -141,7 +137,7 @@ where
 }
 
 /// Listens, opens a desk, and runs all.
-fn listen_and_run<J: Naming + Send + Sync, R, W: Write>(
+fn listen_and_run<J: Naming + Send + Sync, R, W: Sink>(
     rt: &R,
     alloc: Global,
     plan: &Plan,
@@ -171,7 +167,7 @@ where
 /// whether its copy has exactly the registry's records: `client I yes` or `client I no`. The status
 /// is 0 then, and where help was asked for. It is 2 for words that are refused, with a message on
 /// `errors`. Else it is 1, with the line `discovery: fault N` on `errors`.
-pub fn fleet<J: Naming + Send + Sync, R, W: Write, E: Write>(
+pub fn fleet<J: Naming + Send + Sync, R, W: Sink, E: Sink>(
     rt: &R,
     alloc: Global,
     opening: Opening,
@@ -182,11 +178,11 @@ pub fn fleet<J: Naming + Send + Sync, R, W: Write, E: Write>(
 where
     R: Net<Listener = TcpListener, Stream = TcpStream> + Threads + Wait + Clock + Sync,
     requires opening { Opens J.list J.name J.parts opening }
-    ensures { EndsBy (faults_of Verb.Fleet (map string_bytes words.now)) result out.old out.new errors.old errors.new }
+    ensures { EndsBy E.contents E.failed (faults_of Verb.Fleet (map string_bytes words.now)) result out.old out.new errors.old errors.new }
 {
     let plan = match read_words(alloc, Verb::Fleet, words) {
         Ok(matches) => plan_from(&matches),
-        Err(error) => return refused(&error, out, errors),
+        Err(error) => return refused(alloc, &error, out, errors),
     };
     match listen_and_run::<J, R, W>(rt, alloc, &plan, opening, out) {
         Ok(()) => 0,

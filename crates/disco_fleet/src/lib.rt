@@ -3,4 +3,4 @@
 
 mod fleets;
 
-pub use fleets::fleet;
+pub use fleets::{fleet, lines_of};

@@ -2,11 +2,9 @@
 use Rattle.std.specs.Prelude.{ℕ, Bool, true, false, List, [], length, Option, Some, None, ◌++◌, codes, decimal}
 use Rattle.std.specs.List.{flat_map}
 use Rattle.std.specs.Arc.{arc_value}
-use Rattle.std.specs.declared.io.ErrorKind.{ErrorKind}
-use Rattle.std.specs.declared.io.ErrorKind.TheVariants as io
 use Rattle.disco_values.specs.Fault.{fault_number, field_name}
 use Rattle.disco_values.specs.declared.fault.Fault.{Fault}
-use Rattle.disco_values.specs.declared.fault.Fault.TheVariants.{MissingField, OutOfMemory, WriteFailed}
+use Rattle.disco_values.specs.declared.fault.Fault.TheVariants.{MissingField}
 use Rattle.disco_cache.specs.declared.payload.Payload.{Payload}
 use Rattle.disco_rounds.specs.declared.copied.Copied.TheVariants as copied
 use Rattle.disco_values.specs.Status.{status_name}
@@ -14,9 +12,13 @@ use Rattle.disco_world.specs.declared.holding.Holding.{Holding}
 use Rattle.disco_world.specs.declared.event.Reply.{Reply}
 use Rattle.disco_world.specs.declared.event.Reply.TheVariants.{Changed, Same, Doc, Cleaned, Closed, Expired, Begun, Copied, Done, Published, Missed, Taken, Held, Refused}
 
--- `doc BASE VERSION TEXT`
+-- `doc BASE VERSION `
+abbrev pub document_front : Payload → List ℕ
+document_front p = codes "doc " ++ decimal p.base ++ codes " " ++ decimal p.version ++ codes " "
+
+-- and the text
 abbrev pub document_line : Payload → List ℕ
-document_line p = codes "doc " ++ decimal p.base ++ codes " " ++ decimal p.version ++ codes " " ++ p.text ++ codes "\n"
+document_line p = document_front p ++ p.text ++ codes "\n"
 
 -- `fault N`, and the member's name where one is missing
 abbrev pub refusal_line : Fault → List ℕ
@@ -62,8 +64,3 @@ answer_line (Refused fault) = refusal_line fault
 -- the answer lines of replies, one behind another
 abbrev pub answer_lines : List Reply → List ℕ
 answer_lines replies = flat_map answer_line replies
-
--- what a write that fails is refused as
-abbrev pub write_fault : ErrorKind → Fault
-write_fault io.OutOfMemory = OutOfMemory
-write_fault _ = WriteFailed

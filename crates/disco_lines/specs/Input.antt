@@ -1,9 +1,6 @@
 -- All that a reader gives, read as lines.
 use Rattle.std.specs.Prelude.{◌≡◌, ℕ, List, map, Option, Some, IfSome}
-use Rattle.std.specs.declared.io.ErrorKind.{ErrorKind}
-use Rattle.std.specs.declared.io.ErrorKind.TheVariants as io
 use Rattle.disco_values.specs.declared.fault.Fault.{Fault}
-use Rattle.disco_values.specs.declared.fault.Fault.TheVariants.{OutOfMemory, ReadFailed}
 use Rattle.disco_world.specs.declared.event.Event.{Event}
 use Rattle.disco_lines.specs.Lines.{IsFirstBadLine, meanings}
 
@@ -18,8 +15,3 @@ AreRead known events = (input : List ℕ) × IsAllOf known input × (map Some ev
 -- the fault names the first line of the whole input that means nothing
 abbrev pub NamesBadLine : Option (List ℕ) → Fault → Type 0
 NamesBadLine known fault = (input : List ℕ) × IsAllOf known input × IsFirstBadLine input fault
-
--- what a read that fails is refused as
-abbrev pub read_fault : ErrorKind → Fault
-read_fault io.OutOfMemory = OutOfMemory
-read_fault _ = ReadFailed

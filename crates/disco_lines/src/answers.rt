@@ -1,9 +1,9 @@
 //! Answer lines.
-ghost use Rattle.std.specs.Prelude.{◌≡◌, ◌⊎◌, [], IfErr, OnOk};
+ghost use Rattle.std.specs.Prelude.{◌≡◌, ◌⊎◌, ◌++◌, [], IfErr, OnErr, OnOk};
 ghost use Rattle.disco_values.specs.declared.fault.Fault.TheVariants.{OutOfMemory, WriteFailed};
 ghost use Rattle.std.specs.Io.KnownBytes.{Appends, append_known};
-ghost use Rattle.std.specs.IoError.{error_kind};
-ghost use Rattle.disco_lines.specs.Answers.{answer_line, answer_lines, document_line, holding_text, refusal_line, yes_or_no, write_fault};
+ghost use Rattle.disco_reader.specs.Causes.{Cause, Raises};
+ghost use Rattle.disco_lines.specs.Answers.{answer_line, answer_lines, document_front, document_line, holding_text, refusal_line, yes_or_no};
 ghost use Rattle.std.specs.List.{flat_map};
 ghost use Rattle.disco_world.specs.declared.event.Reply.TheVariants as reply;
 ghost use Rattle.disco_world.specs.declared.event.Reply.TheVariants.{Taken, Held};
@@ -12,17 +12,25 @@ use disco_cache::Payload;
 use disco_hub::Expired;
 use disco_lease::Minute;
 use disco_rounds::Copied;
+use disco_streams::{Failed, Sink, write_all};
 use disco_values::Fault;
 use disco_world::{Holding, Reply};
 use std::alloc::Global;
 use std::io;
-use std::io::{ErrorKind, Write};
+use std::io::Write;
+
+/// Writes what stands in front of a document's text.
+fn write_front<W: Write>(payload: &Payload, out: &mut W) -> io::Result<()>
+    ensures { OnOk result (Appends (W.contents out.old) (W.contents out.new) (document_front payload.now)) }
+{
+    let (base, version) = (payload.base, payload.version);
+    write!(out, "doc {base} {version} ")
+}
 
 fn write_document<W: Write>(payload: &Payload, out: &mut W) -> io::Result<()>
     ensures { OnOk result (Appends (W.contents out.old) (W.contents out.new) (document_line payload.now)) }
 {
-    let (base, version) = (payload.base, payload.version);
-    write!(out, "doc {base} {version} ")?;
+    write_front(payload, out)?;
     out.write_all(payload.text.as_slice())?;
     out.write_all(b"\n")
 }
@@ -144,73 +152,106 @@ const ENOUGH: usize = 65_536;
 /// How many bytes can be gathered without more memory: less than enough, and one short line more.
 pub(crate) const ROOM: usize = 2 * ENOUGH + 64;
 
+/// Writes bytes.
+fn write_bytes<W: Sink>(bytes: &[u8], out: &mut W) -> Result<(), Fault>
+    ensures written { OnOk result (Appends (W.contents out.old) (W.contents out.new) bytes.now) }
+    ensures fault { IfErr result (λ e. e ≡ WriteFailed) }
+    ensures cause { OnErr result (Raises (W.failed out.old) (W.failed out.new)) }
+    ensures none_failed { OnOk result (W.failed out.new ≡ W.failed out.old) }
+{
+    match write_all(out, bytes) {
+        Ok(()) => Ok(()),
+        Err(Failed) => Err(Fault::WriteFailed),
+    }
+}
+
 /// Writes what is gathered, and takes it out.
-fn write_gathered<W: Write>(gathered: &mut Vec<u8>, out: &mut W) -> io::Result<()>
+pub(crate) fn write_gathered<W: Sink>(gathered: &mut Vec<u8>, out: &mut W) -> Result<(), Fault>
     ensures empty { OnOk result (gathered.new.items ≡ []) }
     ensures written { OnOk result (Appends (W.contents out.old) (W.contents out.new) gathered.old.items) }
+    ensures fault { IfErr result (λ e. e ≡ WriteFailed) }
+    ensures cause { OnErr result (Raises (W.failed out.old) (W.failed out.new)) }
+    ensures none_failed { OnOk result (W.failed out.new ≡ W.failed out.old) }
 {
-    out.write_all(gathered.as_slice())?;
+    write_bytes(gathered.as_slice(), out)?;
     gathered.clear();
+    Ok(())
+}
+
+/// Gathers an answer line.
+fn gather(reply: &Reply, gathered: &mut Vec<u8>) -> Result<(), Fault>
+    ensures line { OnOk result (gathered.new.items ≡ gathered.old.items ++ answer_line reply.now) }
+    ensures memory { IfErr result (λ e. e ≡ OutOfMemory) }
+{
+    match write_answer(reply, gathered) {
+        Ok(()) => Ok(()),
+        Err(_) => Err(Fault::OutOfMemory),
+    }
+}
+
+/// Gathers what stands in front of a document's text.
+fn gather_front(payload: &Payload, gathered: &mut Vec<u8>) -> Result<(), Fault>
+    ensures front { OnOk result (gathered.new.items ≡ gathered.old.items ++ document_front payload.now) }
+    ensures memory { IfErr result (λ e. e ≡ OutOfMemory) }
+{
+    match write_front(payload, gathered) {
+        Ok(()) => Ok(()),
+        Err(_) => Err(Fault::OutOfMemory),
+    }
+}
+
+/// Writes a document as it lies, behind what is gathered, and gathers the end of its line.
+fn write_long<W: Sink>(payload: &Payload, gathered: &mut Vec<u8>, out: &mut W) -> Result<(), Fault>
+    ensures told { OnOk result (Appends (append_known (W.contents out.old) gathered.old.items)
+        (append_known (W.contents out.new) gathered.new.items) (document_line payload.now)) }
+    ensures fault { IfErr result (λ e. (e ≡ WriteFailed) ⊎ (e ≡ OutOfMemory)) }
+    ensures cause { Cause WriteFailed (W.failed out.old) (W.failed out.new) result }
+    ensures none_failed { OnOk result (W.failed out.new ≡ W.failed out.old) }
+{
+    gather_front(payload, gathered)?;
+    write_gathered(gathered, out)?;
+    write_bytes(payload.text.as_slice(), out)?;
+    gathered.push(b'\n')?;
     Ok(())
 }
 
 /// Gathers an answer line, and writes what is gathered where that is enough. A document that is
 /// enough by itself is written as it lies, behind what is gathered.
-pub(crate) fn gather_answer<W: Write>(
+pub(crate) fn gather_answer<W: Sink>(
     reply: &Reply,
     gathered: &mut Vec<u8>,
     out: &mut W,
-) -> io::Result<()>
-    ensures { OnOk result (Appends (append_known (W.contents out.old) gathered.old.items)
+) -> Result<(), Fault>
+    ensures told { OnOk result (Appends (append_known (W.contents out.old) gathered.old.items)
         (append_known (W.contents out.new) gathered.new.items) (answer_line reply.now)) }
+    ensures fault { IfErr result (λ e. (e ≡ WriteFailed) ⊎ (e ≡ OutOfMemory)) }
+    ensures cause { Cause WriteFailed (W.failed out.old) (W.failed out.new) result }
+    ensures none_failed { OnOk result (W.failed out.new ≡ W.failed out.old) }
 {
-    if matches!(reply, Reply::Doc(payload) if payload.text.as_slice().len() >= ENOUGH) {
-        write_gathered(gathered, out)?;
-        return write_answer(reply, out);
+    if let Reply::Doc(payload) = reply
+        && payload.text.as_slice().len() >= ENOUGH
+    {
+        return write_long(payload, gathered, out);
     }
-    write_answer(reply, gathered)?;
+    gather(reply, gathered)?;
     if gathered.len() < ENOUGH {
         return Ok(());
     }
     write_gathered(gathered, out)
 }
 
-/// Writes what is gathered last, and lets the writer pass on all that it has.
-pub(crate) fn write_last<W: Write>(gathered: &mut Vec<u8>, out: &mut W) -> io::Result<()>
-    ensures { OnOk result (Appends (W.contents out.old) (W.contents out.new) gathered.old.items) }
-{
-    write_gathered(gathered, out)?;
-    out.flush()
-}
-
-fn write_buffered<W: Write>(alloc: Global, replies: &[Reply], out: &mut W) -> io::Result<()>
-    ensures { OnOk result (Appends (W.contents out.old) (W.contents out.new) (answer_lines replies.now)) }
+/// Writes one line for each reply, in order. Refused as `WriteFailed` where a write fails, with
+/// some of the lines perhaps written, and as `OutOfMemory`. Memory is asked for at the start.
+pub fn write_answers<W: Sink>(alloc: Global, replies: &[Reply], out: &mut W) -> Result<(), Fault>
+    ensures written { OnOk result (Appends (W.contents out.old) (W.contents out.new) (answer_lines replies.now)) }
+    ensures fault { IfErr result (λ e. (e ≡ WriteFailed) ⊎ (e ≡ OutOfMemory)) }
+    // A failed write has raised the count of failures.
+    ensures cause { Cause WriteFailed (W.failed out.old) (W.failed out.new) result }
+    ensures none_failed { OnOk result (W.failed out.new ≡ W.failed out.old) }
 {
     let mut gathered = Vec::with_capacity(alloc, ROOM)?;
     for reply in replies {
         gather_answer(reply, &mut gathered, out)?;
     }
-    write_last(&mut gathered, out)
-}
-
-/// What a write that fails is refused as.
-pub(crate) fn write_fault(error: &io::Error) -> Fault
-    ensures { result ≡ write_fault (error_kind error.now) }
-{
-    match error.kind() {
-        ErrorKind::OutOfMemory => Fault::OutOfMemory,
-        _ => Fault::WriteFailed,
-    }
-}
-
-/// Writes one line for each reply, in order. Refused as `WriteFailed` where a write fails, with
-/// some of the lines perhaps written, and as `OutOfMemory`. Memory is asked for at the start.
-pub fn write_answers<W: Write>(alloc: Global, replies: &[Reply], out: &mut W) -> Result<(), Fault>
-    ensures written { OnOk result (Appends (W.contents out.old) (W.contents out.new) (answer_lines replies.now)) }
-    ensures fault { IfErr result (λ e. (e ≡ WriteFailed) ⊎ (e ≡ OutOfMemory)) }
-{
-    match write_buffered(alloc, replies, out) {
-        Ok(()) => Ok(()),
-        Err(error) => Err(write_fault(&error)),
-    }
+    write_gathered(&mut gathered, out)
 }

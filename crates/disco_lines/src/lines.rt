@@ -1,18 +1,17 @@
 //! All lines of the input.
 ghost use Rattle.std.specs.Prelude.{◌≡◌, ◌⊎◌, IfOk, IfErr, OnOk, Some, map};
 ghost use Rattle.std.specs.Io.KnownBytes.{IsAtEnd};
-ghost use Rattle.std.specs.IoError.{error_kind};
 ghost use Rattle.std.specs.List.{after_first, before_first, position};
 ghost use Rattle.disco_values.specs.declared.fault.Fault.TheVariants.{OutOfMemory, ReadFailed};
 ghost use Rattle.disco_lines.specs.Lines.{IsFirstBadLine, is_feed, meanings};
-ghost use Rattle.disco_lines.specs.Input.{AreRead, NamesBadLine, read_fault};
+ghost use Rattle.disco_lines.specs.Input.{AreRead, NamesBadLine};
+ghost use Rattle.disco_reader.specs.Causes.{Cause};
 
 use crate::line::event_of;
+use disco_streams::{Source, read_all};
 use disco_values::Fault;
 use disco_world::Event;
 use std::alloc::Global;
-use std::io;
-use std::io::{ErrorKind, Read};
 
 fn first_feed(input: &[u8]) -> Option<usize>
     ensures { result ≡ position is_feed input.now }
@@ -50,27 +49,16 @@ pub(crate) fn events_of(alloc: Global, input: &[u8]) -> Result<Vec<Event>, Fault
     Ok(events)
 }
 
-/// What a read that fails is refused as.
-fn read_fault(error: &io::Error) -> Fault
-    ensures { result ≡ read_fault (error_kind error.now) }
-{
-    match error.kind() {
-        ErrorKind::OutOfMemory => Fault::OutOfMemory,
-        _ => Fault::ReadFailed,
-    }
-}
-
-/// The events of all that a reader gives, up to its end. Refused as `ReadFailed` where a read
+/// The events of all that a source gives, up to its end. Refused as `ReadFailed` where a read
 /// fails, and as [`events_of`] is.
-pub fn read_events<R: Read>(alloc: Global, reader: &mut R) -> Result<Vec<Event>, Fault>
+pub fn read_events<R: Source>(alloc: Global, reader: &mut R) -> Result<Vec<Event>, Fault>
     ensures events { IfOk result (λ events. AreRead (R.remaining reader.old) events.items) }
     ensures end { OnOk result (IsAtEnd (R.remaining reader.new)) }
     ensures fault { IfErr result (λ e. (e ≡ OutOfMemory) ⊎ ((e ≡ ReadFailed)
         ⊎ NamesBadLine (R.remaining reader.old) e)) }
+    // A failed read has raised the count of failures.
+    ensures cause { Cause ReadFailed (R.failed reader.old) (R.failed reader.new) result }
 {
-    let mut input = Vec::new(alloc);
-    match reader.read_to_end(&mut input) {
-        Ok(_) => events_of(alloc, input.as_slice()),
-        Err(error) => Err(read_fault(&error)),
-    }
+    let input = read_all(alloc, reader)?;
+    events_of(alloc, input.as_slice())
 }

@@ -1,39 +1,64 @@
 //! Answer lines of a run, written as its replies come.
-ghost use Rattle.std.specs.Prelude.{◌≡◌, ◌⊎◌, IfErr, OnOk};
+ghost use Rattle.std.specs.Prelude.{◌≡◌, ◌⊎◌, ℕ, IfErr, OnOk};
 ghost use Rattle.std.specs.Io.KnownBytes.{append_known};
 ghost use Rattle.disco_values.specs.declared.fault.Fault.TheVariants.{OutOfMemory, WriteFailed};
 ghost use Rattle.disco_core.specs.State.{rules};
 ghost use Rattle.disco_lines.specs.Answers.{answer_line};
+ghost use Rattle.disco_reader.specs.Causes.{Cause, Raises};
 ghost use Rattle.disco_world.specs.Telling.{AreTold};
 
-use crate::answers::{ROOM, gather_answer, write_fault, write_last};
+use crate::answers::{ROOM, gather_answer, write_gathered};
 use disco_settings::Settings;
+use disco_streams::Sink;
 use disco_values::Fault;
 use disco_world::{Reply, Steps, Tell, run_to};
 use std::alloc::Global;
-use std::io::Write;
 
 /// Answer lines that are gathered, and written where there are enough.
 #[derive(Drop)]
 struct Gathered(Vec<u8>);
 
-impl<W: Write> Tell<W> for Gathered {
+impl<W: Sink> Tell<W> for Gathered {
     ghost told = { λ s out. append_known (W.contents out) s.0.items };
 
     ghost text = { answer_line };
 
     fn tell(&mut self, reply: &Reply, out: &mut W) -> Result<(), Fault> {
-        match gather_answer(reply, &mut self.0, out) {
-            Ok(()) => Ok(()),
-            Err(error) => Err(write_fault(&error)),
-        }
+        gather_answer(reply, &mut self.0, out)
     }
+}
+
+/// What a run that was refused is refused as, by how often a write had failed before it and now: it
+/// ends with the first write that fails.
+fn refusal(before: u64, now: u64) -> Fault
+    ensures either { (result ≡ WriteFailed) ⊎ (result ≡ OutOfMemory) }
+    ensures cause { result ≡ WriteFailed → Raises before now }
+{
+    if before < now || now == u64::MAX {
+        Fault::WriteFailed
+    } else {
+        Fault::OutOfMemory
+    }
+}
+
+/// Runs the events in order from an empty registry, and writes one line for each reply as it comes.
+fn run_and_write<W: Sink>(
+    alloc: Global,
+    settings: &Settings,
+    steps: Steps,
+    out: &mut W,
+) -> Result<(), Fault>
+    ensures { OnOk result (AreTold (rules settings.now) steps.entry.events.now answer_line (W.contents out.old) (W.contents out.new)) }
+{
+    let mut gathered = Gathered(Vec::with_capacity(alloc, ROOM)?);
+    run_to(alloc, settings, steps, &mut gathered, out)?;
+    write_gathered(&mut gathered.0, out)
 }
 
 /// Runs the events in order from an empty registry, and writes one line for each reply as it comes.
 /// No reply is held, so none of them is a take. Refused as `WriteFailed` where a write fails, and as
 /// `OutOfMemory`, with some of the lines perhaps written.
-pub fn answer_events<W: Write>(
+pub fn answer_events<W: Sink>(
     alloc: Global,
     settings: &Settings,
     steps: Steps,
@@ -41,11 +66,12 @@ pub fn answer_events<W: Write>(
 ) -> Result<(), Fault>
     ensures told { OnOk result (AreTold settings.now.entries (rules settings.now) steps.entry.events.now answer_line (W.contents out.old) (W.contents out.new)) }
     ensures fault { IfErr result (λ e. (e ≡ WriteFailed) ⊎ (e ≡ OutOfMemory)) }
+    // A failed write has raised the count of failures.
+    ensures cause { Cause WriteFailed (W.failed out.old) (W.failed out.new) result }
 {
-    let mut gathered = Gathered(Vec::with_capacity(alloc, ROOM)?);
-    run_to(alloc, settings, steps, &mut gathered, out)?;
-    match write_last(&mut gathered.0, out) {
+    let before = out.failures();
+    match run_and_write(alloc, settings, steps, out) {
         Ok(()) => Ok(()),
-        Err(error) => Err(write_fault(&error)),
+        Err(_) => Err(refusal(before, out.failures())),
     }
 }

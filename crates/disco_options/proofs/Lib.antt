@@ -1,1 +1,2 @@
 mod Given
+pub mod Said

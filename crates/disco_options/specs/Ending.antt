@@ -1,12 +1,13 @@
 -- How a command of the program ends.
-use Rattle.std.specs.Prelude.{◌≡◌, ◌≢◌, ◌≤◌, ℕ, []}
+use Rattle.std.specs.Prelude.{◌≡◌, ◌≢◌, ◌≤◌, ℕ, List, Option, []}
 use Rattle.clap.specs.Words.{Kinds}
-use Rattle.disco_options.specs.Faults.{IsStatusAmong}
+use Rattle.disco_options.specs.Faults.{IsStatusAmong, SaysAny}
 
--- its words have these faults, or ask for help: it ends with a status of one of them, and where words are refused nothing was written; words with no fault are never refused, and 0 leaves the errors as they were
-pub record EndsBy {W E : Type 0} (faults : Kinds) (status : ℕ) (out-old out-new : W) (errors-old errors-new : E) : Type 0 where
+-- its words have these faults, or ask for help: it ends with a status of one of them, and where words are refused nothing was written; words with no fault are never refused; 0 leaves the errors as they were, and 1 ends them with the line of a fault
+pub record EndsBy {W E : Type 0} (contents : E → Option (List ℕ)) (failed : E → ℕ) (faults : Kinds) (status : ℕ) (out-old out-new : W) (errors-old errors-new : E) : Type 0 where
   pub most : status ≤ 2
   pub refused : faults ≢ [] → IsStatusAmong faults status
   pub settled : faults ≡ [] → status ≤ 1
   pub unwritten : status ≡ 2 → out-new ≡ out-old
   pub silent : status ≡ 0 → errors-new ≡ errors-old
+  pub told : status ≡ 1 → SaysAny (contents errors-old) (contents errors-new) (failed errors-old) (failed errors-new)

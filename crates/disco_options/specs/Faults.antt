@@ -1,10 +1,13 @@
 -- What a run that fails says and ends with (this project's own format).
-use Rattle.std.specs.Prelude.{◌≡◌, ◌⊎◌, ℕ, List, ◌++◌, codes, decimal}
+use Rattle.std.specs.Prelude.{◌≡◌, ◌⊎◌, ℕ, List, Option, ◌++◌, codes, decimal}
+use Rattle.std.specs.Io.KnownBytes.{Appends, append_known}
 use Rattle.std.specs.declared.io.ErrorKind.{ErrorKind as IoKind}
 use Rattle.std.specs.declared.io.ErrorKind.TheVariants as io
 use Rattle.clap.specs.Words.{IsAmong, Kinds}
 use Rattle.clap.specs.declared.error.kind.ErrorKind.{ErrorKind}
 use Rattle.clap.specs.declared.error.kind.ErrorKind.TheVariants as kind
+use Rattle.disco_reader.specs.Causes.{Raises}
+use Rattle.disco_streams.specs.Writes.{AppendsFront}
 use Rattle.disco_values.specs.Fault.{fault_number}
 use Rattle.disco_values.specs.declared.fault.Fault.{Fault}
 use Rattle.disco_values.specs.declared.fault.Fault.TheVariants.{BadEvent}
@@ -13,6 +16,14 @@ use Rattle.disco_values.specs.declared.fault.Fault.TheVariants.{BadEvent}
 abbrev pub report_line : Fault → List ℕ
 report_line (BadEvent line) = codes "discovery: fault " ++ decimal (fault_number (BadEvent line)) ++ codes " at line " ++ decimal line ++ codes "\n"
 report_line fault = codes "discovery: fault " ++ decimal (fault_number fault) ++ codes "\n"
+
+-- the line of a fault is written, or a front of it, where a write failed; the numbers count failures before and after
+abbrev pub Says : Fault → Option (List ℕ) → Option (List ℕ) → ℕ → ℕ → Type 0
+Says fault old new before now = Appends old new (report_line fault) ⊎ (AppendsFront old new (report_line fault) × Raises before now)
+
+-- what was written ends with the line of some fault, or with a front of it, where a write failed
+abbrev pub SaysAny : Option (List ℕ) → Option (List ℕ) → ℕ → ℕ → Type 0
+SaysAny old new before now = (fault : Fault) × (first : List ℕ) × Says fault (append_known old first) new before now
 
 -- the status for words that give no settings: 0 for help, 1 for want of memory, 2 for a mistake
 abbrev pub status_of_kind : ErrorKind → ℕ

@@ -1,35 +1,67 @@
 //! What a run that fails says on standard error, and the status that it ends with.
-ghost use Rattle.std.specs.Prelude.{◌≡◌, ◌≢◌, ◌⊎◌, IfSome, OnOk};
-ghost use Rattle.std.specs.IoError.{error_kind};
+ghost use Rattle.std.specs.Prelude.{◌≡◌, ◌≢◌, ◌⊎◌, ◌++◌, IfSome, OnOk, codes, decimal};
 ghost use Rattle.std.specs.Io.KnownBytes.{Appends};
+ghost use Rattle.std.specs.IoError.{error_kind};
 ghost use Rattle.clap.specs.Words.{kind_of};
-ghost use Rattle.disco_options.specs.Faults.{report_line, status_of_kind, status_without_words};
+ghost use Rattle.disco_options.specs.Faults.{Says, SaysAny, report_line, status_of_kind, status_without_words};
+ghost use Rattle.disco_streams.specs.Writes.{Writes};
+ghost use Rattle.disco_values.specs.declared.fault.Fault.TheVariants.{OutOfMemory};
 
 use clap::Error;
 use clap::error::ErrorKind;
+use disco_streams::{Failed, Sink, write_all};
 use disco_values::Fault;
+use itoa::Buffer;
+use std::alloc::Global;
 use std::fmt::Display;
 use std::io;
-use std::io::Write;
 
-fn write_report<E: Write>(fault: &Fault, errors: &mut E) -> io::Result<()>
-    ensures { OnOk result (Appends (E.contents errors.old) (E.contents errors.new) (report_line fault.now)) }
+/// Writes a text, and a number behind it.
+fn write_number<E: Sink>(text: &[u8], number: u64, errors: &mut E) -> Result<(), Failed>
+    ensures { Writes (E.contents errors.old) (E.contents errors.new) (E.failed errors.old) (E.failed errors.new) result (text.now ++ decimal number) }
 {
-    let number = fault.number();
+    let mut digits = Buffer::new();
+    write_all(errors, text)?;
+    write_all(errors, digits.format(number).as_bytes())
+}
+
+/// Writes the end of a line behind a number.
+fn write_end<E: Sink>(text: &[u8], number: u64, errors: &mut E) -> Result<(), Failed>
+    ensures { Writes (E.contents errors.old) (E.contents errors.new) (E.failed errors.old) (E.failed errors.new) result (text.now ++ decimal number ++ codes "\n") }
+{
+    write_number(text, number, errors)?;
+    write_all(errors, b"\n")
+}
+
+fn write_bad_line<E: Sink>(number: u64, line: u64, errors: &mut E) -> Result<(), Failed>
+    ensures { Writes (E.contents errors.old) (E.contents errors.new) (E.failed errors.old) (E.failed errors.new) result
+        (codes "discovery: fault " ++ decimal number ++ codes " at line " ++ decimal line ++ codes "\n") }
+{
+    write_number(b"discovery: fault ", number, errors)?;
+    write_end(b" at line ", line, errors)
+}
+
+fn write_report<E: Sink>(fault: &Fault, errors: &mut E) -> Result<(), Failed>
+    ensures { Writes (E.contents errors.old) (E.contents errors.new) (E.failed errors.old) (E.failed errors.new) result (report_line fault.now) }
+{
+    let number = fault.number() as u64;
     match fault {
-        Fault::BadEvent(line) => writeln!(errors, "discovery: fault {number} at line {line}"),
-        _ => writeln!(errors, "discovery: fault {number}"),
+        Fault::BadEvent(line) => write_bad_line(number, *line, errors),
+        _ => write_end(b"discovery: fault ", number, errors),
     }
 }
 
 /// Writes the one line that names a fault, and gives the status 1. Nothing is left to try where
-/// that line can't be written.
-pub fn report<E: Write>(fault: &Fault, errors: &mut E) -> u8
-    ensures { result ≡ 1 }
+/// that line can't be written. Takes no memory.
+pub fn report<E: Sink>(fault: &Fault, errors: &mut E) -> u8
+    ensures status { result ≡ 1 }
+    ensures says { Says fault.now (E.contents errors.old) (E.contents errors.new) (E.failed errors.old) (E.failed errors.new) }
+    ensures told { SaysAny (E.contents errors.old) (E.contents errors.new) (E.failed errors.old) (E.failed errors.new) }
 {
-    let _ = write_report(fault, errors);
-    let _ = errors.flush();
-    1
+    match write_report(fault, errors) {
+        Ok(()) => 1,
+        Err(Failed) => 1,
+    }
 }
 
 /// The status for a command line that gave no settings: 0 where help was asked for, 1 for want of
@@ -44,31 +76,38 @@ pub(crate) fn status_of(error: &Error) -> u8
     }
 }
 
-fn show<D: Display + Drop, W: Write>(text: D, out: &mut W) -> io::Result<()>
+/// Shows a text. Refused as `WriteFailed`, with a front of it written, and as `OutOfMemory`.
+fn show<D: Display + Drop, W: Sink>(alloc: Global, text: D, out: &mut W) -> Result<(), Fault>
     ensures { OnOk result (IfSome (D.output text) (Appends (W.contents out.old) (W.contents out.new))) }
 {
-    write!(out, "{text}")?;
-    out.flush()
+    let text = format!(in alloc; "{text}")?;
+    match write_all(out, text.as_bytes()) {
+        Ok(()) => Ok(()),
+        Err(Failed) => Err(Fault::WriteFailed),
+    }
 }
 
 /// Shows what a command line that gave no settings is answered with, and gives the status: help on
-/// `out`, a mistake on `errors`.
-pub fn refused<W: Write, E: Write>(error: &Error, out: &mut W, errors: &mut E) -> u8
+/// `out`, a mistake on `errors`. Where there is no memory for the text of a mistake, it isn't shown.
+pub fn refused<W: Sink, E: Sink>(alloc: Global, error: &Error, out: &mut W, errors: &mut E) -> u8
     // Help that can't be written ends with 1.
     ensures status { (result ≡ status_of_kind (kind_of error.now))
         ⊎ ((status_of_kind (kind_of error.now) ≡ 0) × (result ≡ 1)) }
 
     ensures unwritten { status_of_kind (kind_of error.now) ≢ 0 → out.new ≡ out.old }
     ensures silent { result ≡ 0 → errors.new ≡ errors.old }
+    ensures memory { status_of_kind (kind_of error.now) ≡ 1
+        → Says OutOfMemory (E.contents errors.old) (E.contents errors.new) (E.failed errors.old) (E.failed errors.new) }
+    ensures told { result ≡ 1 → SaysAny (E.contents errors.old) (E.contents errors.new) (E.failed errors.old) (E.failed errors.new) }
 {
     match status_of(error) {
-        0 => match show(error, out) {
+        0 => match show(alloc, error, out) {
             Ok(()) => 0,
-            Err(_) => report(&Fault::WriteFailed, errors),
+            Err(fault) => report(&fault, errors),
         },
         1 => report(&Fault::OutOfMemory, errors),
         status => {
-            let _ = show(error, errors);
+            let _ = show(alloc, error, errors);
             status
         }
     }
@@ -76,13 +115,14 @@ pub fn refused<W: Write, E: Write>(error: &Error, out: &mut W, errors: &mut E) -
 
 /// The status where the words themselves can't be had: 1 for want of memory, 2 where one isn't
 /// text.
-pub fn without_words<E: Write>(error: &io::Error, errors: &mut E) -> u8
-    ensures { result ≡ status_without_words (error_kind error.now) }
+pub fn without_words<E: Sink>(error: &io::Error, errors: &mut E) -> u8
+    ensures status { result ≡ status_without_words (error_kind error.now) }
+    ensures told { result ≡ 1 → SaysAny (E.contents errors.old) (E.contents errors.new) (E.failed errors.old) (E.failed errors.new) }
 {
     match error.kind() {
         io::ErrorKind::OutOfMemory => report(&Fault::OutOfMemory, errors),
         _ => {
-            let _ = writeln!(errors, "error: a word of the command line is not UTF-8");
+            let _ = write_all(errors, b"error: a word of the command line is not UTF-8\n");
             2
         }
     }

@@ -26,9 +26,9 @@ none_bad known events read input bad e line =
     not_bad events input bad (read.2 ∙ ap meanings same) line
 
 -- a run of events is refused for want of memory, or for an event that can't be run
-pub run_fault : (settings : Settings) (known : Option (List ℕ)) (events : List Event) → AreRead known events → (e : Fault) → (e ≢ OutOfMemory → IsFirstBadEvent (rules settings) events e) → IsRunFault settings known e
-run_fault settings known events read OutOfMemory refused = inl refl
-run_fault settings known events read other refused = inr (inr (inr (inr (events, read, refused (λ bad. cc)))))
+pub run_fault : (settings : Settings) (known : Option (List ℕ)) (reads writes : Type 0) (events : List Event) → AreRead known events → (e : Fault) → (e ≢ OutOfMemory → IsFirstBadEvent (rules settings) events e) → IsRunFault settings known reads writes e
+run_fault settings known reads writes events read OutOfMemory refused = inl refl
+run_fault settings known reads writes events read other refused = inr (inr (inr (inr (events, read, refused (λ bad. cc)))))
 
 pub then_ok : {A E : Type 0} (r : Result A E) (P Q : Type 0) → (P → Q) → OnOk r P → OnOk r Q
 then_ok (Ok a) P Q f p = f p

@@ -4,21 +4,23 @@ ghost use Rattle.std.specs.Io.KnownBytes.{IsAtEnd};
 ghost use Rattle.disco_values.specs.declared.fault.Fault.{Fault};
 ghost use Rattle.disco_values.specs.declared.fault.Fault.TheVariants.{OutOfMemory, WriteFailed};
 ghost use Rattle.disco_options.specs.Ending.{EndsBy};
+ghost use Rattle.disco_options.specs.Faults.{Says};
 ghost use Rattle.disco_lines.specs.Lines.{IsFirstBadLine};
 ghost use Rattle.disco_options.specs.Options.{faults_of};
+ghost use Rattle.disco_reader.specs.Causes.{Raises};
 ghost use Rattle.disco_replay.specs.Replay.{IsAnswered, IsFailed, IsReplayed, IsRunFault};
 
 use disco_lines::{answer_events, read_events, write_answers};
 use disco_options::{Verb, read_settings, refused, report};
 use disco_settings::Settings;
+use disco_streams::{Sink, Source};
 use disco_values::Fault;
 use disco_world::{Steps, run};
 use std::alloc::Global;
-use std::io::{Read, Write};
 
 /// Answers all events of an input. A take of no earlier document is refused before anything is
 /// written, so the replies are held where an event is a take.
-fn answer<R: Read, W: Write>(
+fn answer<R: Source, W: Sink>(
     alloc: Global,
     settings: &Settings,
     reader: &mut R,
@@ -27,7 +29,8 @@ fn answer<R: Read, W: Write>(
     ensures answered { OnOk result (IsAnswered settings.now (R.remaining reader.old)
         (W.contents out.old) (W.contents out.new)) }
     ensures end { OnOk result (IsAtEnd (R.remaining reader.new)) }
-    ensures fault { IfErr result (IsRunFault settings.now (R.remaining reader.old)) }
+    ensures fault { IfErr result (IsRunFault settings.now (R.remaining reader.old)
+        (Raises (R.failed reader.old) (R.failed reader.new)) (Raises (W.failed out.old) (W.failed out.new))) }
     ensures bad_line { (input : List ℕ) (bad : Fault) → R.remaining reader.old ≡ Some input
         → IsFirstBadLine input bad → out.new ≡ out.old }
     ensures unwritten { IfErr result (λ e. e ≢ OutOfMemory → e ≢ WriteFailed → out.new ≡ out.old) }
@@ -47,14 +50,14 @@ fn answer<R: Read, W: Write>(
 /// words that are refused, with a message on `errors`. Else it is 1, with the one line
 /// `discovery: fault N` on `errors`; no answer is then written, but for those that went out before
 /// a write failed.
-pub fn replay<R: Read, W: Write, E: Write>(
+pub fn replay<R: Source, W: Sink, E: Sink>(
     alloc: Global,
     reader: &mut R,
     out: &mut W,
     errors: &mut E,
     words: &[String],
 ) -> u8
-    ensures ends { EndsBy (faults_of Verb.Replay (map string_bytes words.now)) result out.old out.new errors.old errors.new }
+    ensures ends { EndsBy E.contents E.failed (faults_of Verb.Replay (map string_bytes words.now)) result out.old out.new errors.old errors.new }
 
     // Words with no fault are `replay` with options: 0 says that all is answered, else it is 1.
     ensures answered { faults_of Verb.Replay (map string_bytes words.now) ≡ [] → result ≡ 0
@@ -71,15 +74,19 @@ pub fn replay<R: Read, W: Write, E: Write>(
         → (input : List ℕ) (bad : Fault) → R.remaining reader.old ≡ Some input
         → IsFirstBadLine input bad → (result ≡ 1) × (out.new ≡ out.old) }
 
-    // Where the run is refused no event is answered, unless memory or a write failed.
+    // Where the run is refused its fault is told, and no event is answered, unless memory or a write
+    // failed. A read or a write that failed has raised the count of failures.
     ensures failed { faults_of Verb.Replay (map string_bytes words.now) ≡ [] → result ≡ 1
-        → IsFailed (map string_bytes words.now) (R.remaining reader.old) out.old out.new }
+        → IsFailed (map string_bytes words.now) (R.remaining reader.old)
+        (Raises (R.failed reader.old) (R.failed reader.new)) (Raises (W.failed out.old) (W.failed out.new))
+        (λ fault. Says fault (E.contents errors.old) (E.contents errors.new) (E.failed errors.old) (E.failed errors.new))
+        out.old out.new }
 {
     match read_settings(alloc, Verb::Replay, words) {
         Ok(settings) => match answer(alloc, &settings, reader, out) {
             Ok(()) => 0,
             Err(fault) => report(&fault, errors),
         },
-        Err(error) => refused(&error, out, errors),
+        Err(error) => refused(alloc, &error, out, errors),
     }
 }

@@ -4,11 +4,9 @@ ghost use Rattle.disco_press.specs.Openings.{Opens};
 use crate::meanings::write_meanings;
 use crate::outcome::Outcome;
 use disco_editions::Naming;
-use disco_fleet::fleet;
-use disco_options::Verb;
 use disco_press::Opening;
-use disco_replay::replay;
-use disco_serve::serve;
+use disco_prog::run as run_program;
+use disco_streams::Counted;
 use std::alloc::Global;
 use std::io;
 use std::io::Write;
@@ -41,12 +39,12 @@ pub(crate) fn status_line(alloc: Global, status: u8) -> io::Result<Vec<u8>> {
     Ok(line)
 }
 
-/// Runs the command that the words name, as the program does.
+/// Runs what the program runs, on these words and this input.
 fn run_command<J: Naming + Send + Sync, R>(
     rt: &R,
     opening: Opening,
     words: &[String],
-    mut input: &[u8],
+    input: &[u8],
 ) -> io::Result<Outcome>
 where
     R: Net<Listener = TcpListener, Stream = TcpStream> + Threads + Wait + Clock,
@@ -54,17 +52,21 @@ where
     requires opening { Opens J.list J.name J.parts opening }
 {
     let alloc = rt.alloc();
-    let (mut answers, mut faults) = (Vec::new(alloc), Vec::new(alloc));
-    let (out, errors) = (&mut answers, &mut faults);
-    let status = match Verb::of(words) {
-        Verb::Replay => replay(alloc, &mut input, out, errors, words),
-        Verb::Serve => serve::<J, R, _, _>(rt, alloc, opening, out, errors, words),
-        Verb::Fleet => fleet::<J, R, _, _>(rt, alloc, opening, out, errors, words),
-    };
+    let mut input = Counted::new(input);
+    let (mut out, mut errors) = (Counted::new(Vec::new(alloc)), Counted::new(Vec::new(alloc)));
+    let status = run_program::<J, R, _, _, _>(
+        rt,
+        alloc,
+        opening,
+        &mut input,
+        &mut out,
+        &mut errors,
+        words,
+    );
     Ok(Outcome {
         status: status_line(alloc, status)?,
-        answers,
-        faults,
+        answers: out.inner,
+        faults: errors.inner,
     })
 }
 

@@ -1,41 +1,37 @@
 //! The command `serve`.
-ghost use Rattle.std.specs.Prelude.{◌≡◌, ◌<◌, ◌≤◌, map, string_bytes};
+ghost use Rattle.std.specs.Prelude.{◌≡◌, ◌⊎◌, [], IfErr, OnOk, map, string_bytes};
+ghost use Rattle.std.specs.Io.KnownBytes.{Appends};
+ghost use Rattle.clap.specs.Words.{found_of, rows_of};
 ghost use Rattle.disco_options.specs.Ending.{EndsBy};
+ghost use Rattle.disco_options.specs.Faults.{SaysAny};
 ghost use Rattle.disco_options.specs.Options.{faults_of};
 ghost use Rattle.disco_press.specs.Openings.{Opens};
+ghost use Rattle.disco_reader.specs.Causes.{Cause};
+ghost use Rattle.disco_serve.specs.Serving.{Adds, IsGiven, SaysListening, listening_line};
+ghost use Rattle.disco_values.specs.declared.fault.Fault.TheVariants.{OutOfMemory, WriteFailed};
 
+use crate::service::Service;
 use clap::ArgMatches;
 use disco_editions::Naming;
 use disco_message::Limits;
 use disco_options::{Verb, count, number_given, read_words, refused, report, settings_from};
 use disco_press::{Desk, Opening, Seat, open};
 use disco_server::{Open, listen, start};
-use disco_settings::Settings;
+use disco_streams::{Failed, Sink, write_all};
 use disco_timers::{SystemClock, timers};
 use disco_values::Fault;
 use std::alloc::Global;
 use std::io;
-use std::io::Write;
 use std::net::{Net, TcpListener, TcpStream};
 use std::rt::Clock;
 use std::sync::atomic::{AtomicBool, Ordering};
 use std::sync::{Mutex, Wait};
 use std::thread::{Threads, join};
 
-/// What is served, and for how long.
-#[derive(Clone, Copy, Debug)]
-struct Service {
-    settings: Settings,
-    port: u16,
-    workers: usize,
-    /// After how many connections it ends; 0 is no end.
-    connections: u64,
-    ghost some: { 0 < workers },
-    ghost few: { workers ≤ 64 },
-}
-
 /// What the words of `serve` name.
-fn service_from(matches: &ArgMatches<'_>) -> Service {
+fn service_from(matches: &ArgMatches<'_>) -> Service
+    ensures { IsGiven (rows_of (found_of matches.now)) result }
+{
     Service {
         settings: settings_from(matches),
         port: count(matches, "port", 65_535, 1) as u16,
@@ -83,18 +79,21 @@ where
     timed
 }
 
-/// Says that connections are taken, in one write.
-fn say<W: Write>(alloc: Global, port: u16, out: &mut W) -> Result<(), Fault> {
+/// Says that connections are taken, in one write where the host takes it whole.
+fn say<W: Sink>(alloc: Global, port: u16, out: &mut W) -> Result<(), Fault>
+    ensures said { OnOk result (Appends (W.contents out.old) (W.contents out.new) (listening_line port)) }
+    ensures fault { IfErr result (λ fault. (fault ≡ OutOfMemory) ⊎ (fault ≡ WriteFailed)) }
+    ensures cause { Cause WriteFailed (W.failed out.old) (W.failed out.new) result }
+{
     let line = format!(in alloc; "listening 127.0.0.1:{port}\n")?;
-    if out.write_all(line.as_bytes()).is_ok() && out.flush().is_ok() {
-        Ok(())
-    } else {
-        Err(Fault::WriteFailed)
+    match write_all(out, line.as_bytes()) {
+        Ok(()) => Ok(()),
+        Err(Failed) => Err(Fault::WriteFailed),
     }
 }
 
 /// Opens a desk, says that connections are taken, and serves them.
-fn open_and_serve<J: Naming + Send + Sync, R, W: Write>(
+fn open_and_serve<J: Naming + Send + Sync, R, W: Sink>(
     rt: &R,
     alloc: Global,
     service: &Service,
@@ -105,6 +104,7 @@ fn open_and_serve<J: Naming + Send + Sync, R, W: Write>(
 where
     R: Threads + Wait + Clock + Sync,
     requires opening { Opens J.list J.name J.parts opening }
+    ensures said { OnOk result (Appends (W.contents out.old) (W.contents out.new) (listening_line service.now.port)) }
 {
     let (desk, seats) = open::<J, R>(rt, alloc, &service.settings, service.workers, opening)?;
     let desk = Mutex::new(desk);
@@ -116,15 +116,28 @@ where
     served
 }
 
-/// Tells why the host lets nobody listen on a port, and gives the status.
-fn unheard<E: Write>(port: u16, error: &io::Error, errors: &mut E) -> u8
-    ensures { result ≡ 1 }
+/// Tells why the host lets nobody listen on a port.
+fn explain<E: Sink>(alloc: Global, port: u16, error: &io::Error, errors: &mut E)
+    ensures { Adds (E.contents errors.old) (E.contents errors.new) (E.failed errors.old) (E.failed errors.new) }
 {
-    let _ = writeln!(
-        errors,
-        "discovery: no listening on 127.0.0.1:{port}: {error}"
-    );
-    report(&Fault::ReadFailed, errors)
+    let Ok(text) = format!(in alloc; "discovery: no listening on 127.0.0.1:{port}: {error}\n")
+    else {
+        return;
+    };
+    let _ = write_all(errors, text.as_bytes());
+}
+
+/// Tells why the host lets nobody listen on a port, where there is memory for it, and gives the
+/// status.
+fn unheard<E: Sink>(alloc: Global, port: u16, error: &io::Error, errors: &mut E) -> u8
+    ensures status { result ≡ 1 }
+    ensures told { SaysAny (E.contents errors.old) (E.contents errors.new) (E.failed errors.old) (E.failed errors.new) }
+{
+    explain(alloc, port, error, errors);
+    let status = report(&Fault::ReadFailed, errors);
+    // No effect at run time: the proof reads from it how far failures are counted.
+    let _failures = errors.failures();
+    status
 }
 
 /// Runs the command `serve` on the words behind the program's name, and gives the exit status.
@@ -134,7 +147,7 @@ fn unheard<E: Write>(port: u16, error: &io::Error, errors: &mut E) -> u8
 /// then, and where help was asked for. It is 2 for words that are refused, with a message on
 /// `errors`. Else it is 1, with the line `discovery: fault N` on
 /// `errors`, and in front of it why where the host refuses the port.
-pub fn serve<J: Naming + Send + Sync, R, W: Write, E: Write>(
+pub fn serve<J: Naming + Send + Sync, R, W: Sink, E: Sink>(
     rt: &R,
     alloc: Global,
     opening: Opening,
@@ -145,15 +158,18 @@ pub fn serve<J: Naming + Send + Sync, R, W: Write, E: Write>(
 where
     R: Net<Listener = TcpListener, Stream = TcpStream> + Threads + Wait + Clock + Sync,
     requires opening { Opens J.list J.name J.parts opening }
-    ensures { EndsBy (faults_of Verb.Serve (map string_bytes words.now)) result out.old out.new errors.old errors.new }
+    ensures ends { EndsBy E.contents E.failed (faults_of Verb.Serve (map string_bytes words.now)) result out.old out.new errors.old errors.new }
+    // Words with no fault are `serve` with options: 0 says that the line which these ask for was written.
+    ensures listening { faults_of Verb.Serve (map string_bytes words.now) ≡ [] → result ≡ 0
+        → SaysListening (map string_bytes words.now) (W.contents out.old) (W.contents out.new) }
 {
     let service = match read_words(alloc, Verb::Serve, words) {
         Ok(matches) => service_from(&matches),
-        Err(error) => return refused(&error, out, errors),
+        Err(error) => return refused(alloc, &error, out, errors),
     };
     let listener = match listen(rt, service.port) {
         Ok(listener) => listener,
-        Err(error) => return unheard(service.port, &error, errors),
+        Err(error) => return unheard(alloc, service.port, &error, errors),
     };
     match open_and_serve::<J, R, W>(rt, alloc, &service, listener, opening, out) {
         Ok(()) => 0,

@@ -1,16 +1,17 @@
 //! What a fleet came to.
-use crate::fleets::following::Follower;
+ghost use Rattle.std.specs.Prelude.{IsTrue};
+ghost use Rattle.disco_fleet.specs.Fleets.{IsExact};
+
+use crate::fleets::comparing::are_same;
 use disco_client::Copy;
 use disco_editions::Naming;
-use disco_history::Held;
-use disco_instance::Record;
 use disco_press::Desk;
 use disco_query::{DocKey, Query};
+use disco_reconcile::{Client, Fetch};
+use disco_streams::{Failed, Sink, write_all};
 use disco_values::{Fault, Form};
 use disco_wire::read_document;
-use std::alloc::{AllocError, Global};
-use std::io;
-use std::io::Write;
+use std::alloc::Global;
 use std::sync::{Mutex, MutexGuard, Wait};
 
 /// A copy of the registry as it is now.
@@ -31,64 +32,50 @@ fn copy_of<J: Naming, R: Wait>(
     Ok(copy)
 }
 
-/// A record's members as text.
-fn members_of(alloc: Global, record: &Record) -> Result<String, AllocError> {
-    format!(in alloc; "{record:?}")
-}
-
-/// Whether the records are the same, member by member, in the same order.
-fn are_same(alloc: Global, ones: &[Held], others: &[Held]) -> Result<bool, AllocError> {
-    if ones.len() != others.len() {
-        return Ok(false);
-    }
-    for (one, other) in ones.iter().zip(others.iter()) {
-        if members_of(alloc, &one.rec)? != members_of(alloc, &other.rec)? {
-            return Ok(false);
-        }
-    }
-    Ok(true)
-}
-
-/// Whether a client's copy has exactly these records.
-fn is_exact(alloc: Global, client: &Follower, registry: &Copy) -> Result<bool, AllocError> {
+/// Whether a client's copy has exactly the records of the registry. No copy hasn't.
+fn is_exact<F: Fetch>(client: &Client<F>, registry: &Copy) -> bool
+    ensures { IsTrue result → IsExact client.now.copy registry.now }
+{
     match client.copy() {
-        Some(copy) => are_same(alloc, copy.records(), registry.records()),
-        None => Ok(false),
+        Some(copy) => are_same(copy.records(), registry.records()),
+        None => false,
     }
 }
 
-/// Writes a line for the registry.
-fn show_registry<W: Write>(registry: &Copy, hash: &str, out: &mut W) -> io::Result<()> {
-    writeln!(out, "fleet {} {hash}", registry.len())
+/// `yes` where a client's copy is the registry, and `no` where it isn't.
+fn answer(exact: bool) -> &'static str {
+    if exact { "yes" } else { "no" }
 }
 
-/// Writes a line for a client.
-fn show_client<W: Write>(number: usize, exact: bool, out: &mut W) -> io::Result<()> {
-    let exact = if exact { "yes" } else { "no" };
-    writeln!(out, "client {number} {exact}")
+/// What a fleet came to, as lines: `fleet N HASH` of the registry, and of each client whether its
+/// copy has exactly the registry's records, `client I yes` or `client I no`.
+pub fn lines_of<F: Fetch>(
+    alloc: Global,
+    registry: &Copy,
+    clients: &[Client<F>],
+) -> Result<String, Fault> {
+    let hash = registry.hash(alloc)?;
+    let mut lines = String::new(alloc);
+    writeln!(lines, "fleet {} {}", registry.len(), hash.as_str())?;
+    for (number, client) in clients.iter().enumerate() {
+        let exact = answer(is_exact(client, registry));
+        writeln!(lines, "client {number} {exact}")?;
+    }
+    Ok(lines)
 }
 
 /// Writes a line for the registry, and one for each client.
-pub(super) fn show<J: Naming, R: Wait, W: Write>(
+pub(super) fn show<J: Naming, R: Wait, F: Fetch, W: Sink>(
     rt: &R,
     alloc: Global,
     desk: &Mutex<Desk<J>>,
-    clients: &[Follower],
+    clients: &[Client<F>],
     out: &mut W,
 ) -> Result<(), Fault> {
     let registry = copy_of(rt, alloc, desk)?;
-    let hash = registry.hash(alloc)?;
-    if show_registry(&registry, hash.as_str(), out).is_err() {
-        return Err(Fault::WriteFailed);
+    let lines = lines_of(alloc, &registry, clients)?;
+    match write_all(out, lines.as_bytes()) {
+        Ok(()) => Ok(()),
+        Err(Failed) => Err(Fault::WriteFailed),
     }
-    for (number, client) in clients.iter().enumerate() {
-        let exact = is_exact(alloc, client, &registry)?;
-        if show_client(number, exact, out).is_err() {
-            return Err(Fault::WriteFailed);
-        }
-    }
-    if out.flush().is_err() {
-        return Err(Fault::WriteFailed);
-    }
-    Ok(())
 }

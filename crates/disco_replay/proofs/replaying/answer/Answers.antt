@@ -5,7 +5,7 @@ use Rattle.disco_replay.proofs.replaying.answer.Goals as goal
 pub returns-in_err-replies-clause-fault : goal.returns-in_err-replies-clause-fault
 returns-in_err-replies-clause-fault g c =
     let p = err_from_is_err_and c.from_residual-in_err-replies.result c.from_residual-in_err-replies.ensures.1 in
-    rw (p.1, p.2) (run_fault c.args.settings.now _ _ c.in_ok-events.ensures.events _ (rw c.as_slice-2.ensures.value at c.in_err-replies.ensures.refused))
+    rw (p.1, p.2) (run_fault c.args.settings.now _ _ _ _ c.in_ok-events.ensures.events _ (rw c.as_slice-2.ensures.value at c.in_err-replies.ensures.refused))
 
 pub returns-clause-bad_line : goal.returns-clause-bad_line
 returns-clause-bad_line g c = λ input bad e line. absurd (none_bad _ _ c.in_ok-events.ensures.events input bad e line)

@@ -1,0 +1,16 @@
+//! Who is at work.
+ghost use Rattle.std.specs.Prelude.{◌<◌, ◌≤◌};
+
+use disco_settings::Settings;
+
+/// Who is at work.
+#[derive(Clone, Copy, Debug)]
+pub(super) struct Plan {
+    pub(super) settings: Settings,
+    pub(super) writers: u64,
+    pub(super) clients: u64,
+    pub(super) instances: u64,
+    pub(super) ghost some_writers: { 0 < writers },
+    pub(super) ghost some_clients: { 0 < clients },
+    pub(super) ghost few_clients: { clients ≤ 64 },
+}

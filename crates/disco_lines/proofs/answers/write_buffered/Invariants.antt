@@ -1,7 +1,0 @@
-use Rattle.std.proofs.Common.{take}
-use Rattle.std.specs.Io.KnownBytes.{Appends, append_known}
-use Rattle.disco_lines.specs.Answers.{answer_lines}
-use Rattle.disco_lines.proofs.answers.write_buffered.Given as goal
-
-abbrev pub invariant-loop-reply : goal.invariant-loop-reply
-invariant-loop-reply g l = Appends (g.W.Write.contents l.fn.out) (append_known (g.W.Write.contents l.out) l.gathered.items) (answer_lines (take l.reply-index l.replies))

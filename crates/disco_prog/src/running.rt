@@ -1,0 +1,60 @@
+//! The program.
+ghost use Rattle.std.specs.Prelude.{◌≡◌, [], map, string_bytes};
+ghost use Rattle.disco_options.specs.Ending.{EndsBy};
+ghost use Rattle.disco_options.specs.Faults.{Says};
+ghost use Rattle.disco_options.specs.Options.{faults_of, verb_of};
+ghost use Rattle.disco_options.specs.declared.verb.Verb.TheVariants.{Replay, Serve};
+ghost use Rattle.disco_press.specs.Openings.{Opens};
+ghost use Rattle.disco_reader.specs.Causes.{Raises};
+ghost use Rattle.disco_replay.specs.Replay.{IsFailed, IsReplayed};
+ghost use Rattle.disco_serve.specs.Serving.{SaysListening};
+
+use disco_editions::Naming;
+use disco_fleet::fleet;
+use disco_options::Verb;
+use disco_press::Opening;
+use disco_replay::replay;
+use disco_serve::serve;
+use disco_streams::{Sink, Source};
+use std::alloc::Global;
+use std::net::{Net, TcpListener, TcpStream};
+use std::rt::Clock;
+use std::sync::Wait;
+use std::thread::Threads;
+
+/// Runs the command that the words behind the program's name name, and gives the exit status: 0
+/// where all went well and where help was asked for, 2 for words that are refused, and else 1, with
+/// the line `discovery: fault N` last on `errors`.
+pub fn run<J: Naming + Send + Sync, R, I: Source, W: Sink, E: Sink>(
+    rt: &R,
+    alloc: Global,
+    opening: Opening,
+    input: &mut I,
+    out: &mut W,
+    errors: &mut E,
+    words: &[String],
+) -> u8
+where
+    R: Net<Listener = TcpListener, Stream = TcpStream> + Threads + Wait + Clock + Sync,
+    requires opening { Opens J.list J.name J.parts opening }
+    ensures ends { EndsBy E.contents E.failed (faults_of (verb_of (map string_bytes words.now)) (map string_bytes words.now)) result out.old out.new errors.old errors.new }
+
+    // `replay` with status 0 has answered all events of the input, and with 1 has told why it hasn't.
+    ensures replayed { verb_of (map string_bytes words.now) ≡ Replay → faults_of Replay (map string_bytes words.now) ≡ [] → result ≡ 0
+        → IsReplayed (map string_bytes words.now) (I.remaining input.old) (W.contents out.old) (W.contents out.new) }
+    ensures failed { verb_of (map string_bytes words.now) ≡ Replay → faults_of Replay (map string_bytes words.now) ≡ [] → result ≡ 1
+        → IsFailed (map string_bytes words.now) (I.remaining input.old)
+        (Raises (I.failed input.old) (I.failed input.new)) (Raises (W.failed out.old) (W.failed out.new))
+        (λ fault. Says fault (E.contents errors.old) (E.contents errors.new) (E.failed errors.old) (E.failed errors.new))
+        out.old out.new }
+
+    // `serve` with status 0 has said where it listens.
+    ensures listening { verb_of (map string_bytes words.now) ≡ Serve → faults_of Serve (map string_bytes words.now) ≡ [] → result ≡ 0
+        → SaysListening (map string_bytes words.now) (W.contents out.old) (W.contents out.new) }
+{
+    match Verb::of(words) {
+        Verb::Replay => replay(alloc, input, out, errors, words),
+        Verb::Serve => serve::<J, R, W, E>(rt, alloc, opening, out, errors, words),
+        Verb::Fleet => fleet::<J, R, W, E>(rt, alloc, opening, out, errors, words),
+    }
+}
