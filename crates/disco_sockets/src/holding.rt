@@ -9,6 +9,8 @@ const TURNS: u64 = 10_000_000;
 /// A gate that holds the first connection's first answer until the second connection has one.
 #[derive(Drop)]
 pub(crate) struct Holding {
+    /// The first connection has an answer.
+    first: AtomicBool,
     /// The second connection has an answer.
     second: AtomicBool,
     /// The first connection was held in vain.
@@ -18,17 +20,21 @@ pub(crate) struct Holding {
 impl Holding {
     pub(crate) fn new() -> Holding {
         Holding {
+            first: AtomicBool::new(false),
             second: AtomicBool::new(false),
             in_vain: AtomicBool::new(false),
         }
     }
 
-    /// Whether the first connection was held in vain.
-    pub(crate) fn was_in_vain(&self) -> bool {
-        self.in_vain.load(Ordering::SeqCst)
+    /// Whether the first connection was held, and not in vain.
+    pub(crate) fn was_kept(&self) -> bool {
+        self.first.load(Ordering::SeqCst)
+            && self.second.load(Ordering::SeqCst)
+            && !self.in_vain.load(Ordering::SeqCst)
     }
 
     fn hold(&self) {
+        self.first.store(true, Ordering::SeqCst);
         for _ in 0..TURNS {
             if self.second.load(Ordering::SeqCst) {
                 return;

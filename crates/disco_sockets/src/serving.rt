@@ -2,6 +2,7 @@
 ghost use Rattle.disco_press.specs.Openings.{Opens};
 
 use crate::holding::Holding;
+use crate::told::told;
 use crate::trials;
 use crate::trials::CONNECTIONS;
 use disco_editions::Naming;
@@ -25,16 +26,6 @@ const STEP: u64 = 30_000;
 
 /// Two workers, and one seat for the trials.
 const SEATS: usize = 3;
-
-/// Prints what came of a trial, and answers it.
-fn told<R: Print>(rt: &R, name: &str, well: bool) -> io::Result<bool> {
-    if well {
-        println!(rt; "{name}: yes")?;
-    } else {
-        println!(rt; "{name}: no")?;
-    }
-    Ok(well)
-}
 
 /// All trials of a server, one after another.
 fn try_all<J: Naming, R: Net<Stream = TcpStream> + Wait + rt::Clock + Print>(
@@ -106,7 +97,7 @@ where
             },
         ),
     );
-    let well = served.is_ok() && timed.is_ok() && !gate.was_in_vain();
+    let well = served.is_ok() && timed.is_ok() && gate.was_kept();
     Ok(told(rt, "all workers ended well", well)? && tried?)
 }
 

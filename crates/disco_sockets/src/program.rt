@@ -1,0 +1,176 @@
+//! The command `serve` of the program, on ports of this host.
+ghost use Rattle.disco_press.specs.Openings.{Opens};
+
+use crate::client::{hears, is_at_end, send, visit};
+use disco_editions::Naming;
+use disco_press::Opening;
+use disco_prog::run;
+use disco_streams::Counted;
+use std::alloc::Global;
+use std::io;
+use std::io::Write;
+use std::net::{Ipv4Addr, Net, SocketAddr, TcpListener, TcpStream};
+use std::rt::Clock;
+use std::sync::Wait;
+use std::sync::atomic::{AtomicBool, Ordering};
+use std::thread::{Threads, join, sleep};
+use std::time::Duration;
+
+/// Asks for all apps, and for the connection's end.
+const LAST_APPS: &[u8] = b"GET /eureka/v2/apps HTTP/1.1\r\nHost: a\r\nConnection: close\r\n\r\n";
+
+/// How often it is looked whether the program has written its line, at most.
+const LOOKS: u64 = 20_000;
+
+/// How many milliseconds it is waited between two looks.
+const NAP_MILLIS: u64 = 1;
+
+/// What the program writes to: says to another thread that a line is whole.
+#[derive(Drop)]
+struct Heard<'a> {
+    bytes: Vec<u8>,
+    whole: &'a AtomicBool,
+}
+
+impl Write for Heard<'_> {
+    fn write(&mut self, buf: &[u8]) -> io::Result<usize> {
+        let taken = self.bytes.write(buf)?;
+        if self.bytes.as_slice().ends_with(b"\n") {
+            self.whole.store(true, Ordering::SeqCst);
+        }
+        Ok(taken)
+    }
+
+    fn flush(&mut self) -> io::Result<()> {
+        Ok(())
+    }
+}
+
+/// The address of a port of this host.
+fn address(port: u16) -> SocketAddr {
+    SocketAddr::from((Ipv4Addr::LOCALHOST, port))
+}
+
+/// The words that have the program serve one connection on a port.
+fn words(alloc: Global, port: u16) -> io::Result<Vec<String>> {
+    let mut words = Vec::new(alloc);
+    for word in ["serve", "--connections", "1", "--port"] {
+        words.push(String::from_str(alloc, word)?)?;
+    }
+    words.push(format!(in alloc; "{port}")?)?;
+    Ok(words)
+}
+
+/// Makes one request once the program has said that it listens. Whether it is answered, and the
+/// connection ends.
+fn ask<R: Net<Stream = TcpStream> + Clock>(
+    rt: &R,
+    alloc: Global,
+    port: u16,
+    whole: &AtomicBool,
+) -> io::Result<bool> {
+    for _ in 0..LOOKS {
+        if whole.load(Ordering::SeqCst) {
+            let stream = visit(rt, address(port))?;
+            send(&stream, LAST_APPS)?;
+            return Ok(hears(alloc, &stream, 200) && is_at_end(&stream));
+        }
+        sleep(rt, Duration::from_millis(NAP_MILLIS));
+    }
+    Ok(false)
+}
+
+/// Runs the program on the words, beside a client. Whether it says where it listens and nothing else,
+/// answers the client, and ends with 0 behind its one connection.
+fn serve_one<J: Naming + Send + Sync, R>(
+    rt: &R,
+    alloc: Global,
+    opening: Opening,
+    port: u16,
+    words: &[String],
+) -> io::Result<bool>
+where
+    R: Net<Listener = TcpListener, Stream = TcpStream> + Threads + Wait + Clock + Sync,
+    requires opening { Opens J.list J.name J.parts opening }
+{
+    let whole = AtomicBool::new(false);
+    let whole = &whole;
+    let line = format!(in alloc; "listening 127.0.0.1:{port}\n")?;
+    let said = line.as_bytes();
+    let (served, asked) = join(
+        rt,
+        move ||
+            requires { Opens J.list J.name J.parts opening }
+        {
+            let bytes = Vec::new(alloc);
+            let (mut input, mut out) = (
+                Counted::new(io::empty()),
+                Counted::new(Heard { bytes, whole }),
+            );
+            let mut errors = Counted::new(Vec::new(alloc));
+            let status = run::<J, R, _, _, _>(
+                rt,
+                alloc,
+                opening,
+                &mut input,
+                &mut out,
+                &mut errors,
+                words,
+            );
+            status == 0 && out.inner.bytes.as_slice() == said && errors.inner.is_empty()
+        },
+        move || ask(rt, alloc, port, whole),
+    );
+    Ok(served && asked?)
+}
+
+/// The program serves one connection on a port that was free just before, and ends.
+pub(crate) fn serves<J: Naming + Send + Sync, R>(
+    rt: &R,
+    alloc: Global,
+    opening: Opening,
+) -> io::Result<bool>
+where
+    R: Net<Listener = TcpListener, Stream = TcpStream> + Threads + Wait + Clock + Sync,
+    requires opening { Opens J.list J.name J.parts opening }
+{
+    let listener = TcpListener::bind(rt, address(0))?;
+    let port = listener.local_addr()?.port();
+    drop(listener);
+    let words = words(alloc, port)?;
+    serve_one::<J, R>(rt, alloc, opening, port, words.as_slice())
+}
+
+/// On a port that another listens on, the program says so and ends with 1.
+pub(crate) fn is_refused<J: Naming + Send + Sync, R>(
+    rt: &R,
+    alloc: Global,
+    opening: Opening,
+) -> io::Result<bool>
+where
+    R: Net<Listener = TcpListener, Stream = TcpStream> + Threads + Wait + Clock + Sync,
+    requires opening { Opens J.list J.name J.parts opening }
+{
+    let listener = TcpListener::bind(rt, address(0))?;
+    let port = listener.local_addr()?.port();
+    let words = words(alloc, port)?;
+    let (mut input, mut out) = (Counted::new(io::empty()), Counted::new(Vec::new(alloc)));
+    let mut errors = Counted::new(Vec::new(alloc));
+    let status = run::<J, R, _, _, _>(
+        rt,
+        alloc,
+        opening,
+        &mut input,
+        &mut out,
+        &mut errors,
+        words.as_slice(),
+    );
+    let why = format!(in alloc; "discovery: no listening on 127.0.0.1:{port}: ")?;
+    let told = errors.inner.as_slice();
+    Ok(
+        status == 1
+            && out.inner.is_empty()
+            && told.starts_with(why.as_bytes())
+            && told.ends_with(b"\ndiscovery: fault 20\n"),
+    )
+}
