@@ -106,12 +106,7 @@ fn fails_past(alloc: Global, word: &str, room: usize) -> Result<bool, Fault> {
 /// Where a write fails, of answers or of help, it is said.
 pub(crate) fn tells_failed_writes(alloc: Global) -> Result<bool, Fault> {
     let mut all = true;
-    for (word, room) in [
-        ("replay", 0),
-        ("replay", 7),
-        ("--help", 0),
-        ("--help", 5),
-    ] {
+    for (word, room) in [("replay", 0), ("replay", 7), ("--help", 0), ("--help", 5)] {
         all = all && fails_past(alloc, word, room)?;
     }
     Ok(all)
