@@ -48,7 +48,7 @@ fn run_and_write<W: Sink>(
     steps: Steps,
     out: &mut W,
 ) -> Result<(), Fault>
-    ensures { OnOk result (AreTold (rules settings.now) steps.entry.events.now answer_line (W.contents out.old) (W.contents out.new)) }
+    ensures { OnOk result (AreTold settings.now.entries (rules settings.now) steps.entry.events.now answer_line (W.contents out.old) (W.contents out.new)) }
 {
     let mut gathered = Gathered(Vec::with_capacity(alloc, ROOM)?);
     run_to(alloc, settings, steps, &mut gathered, out)?;
