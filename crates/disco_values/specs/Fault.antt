@@ -3,7 +3,7 @@ use Rattle.std.specs.Prelude.{ℕ, List, codes}
 use Rattle.disco_values.specs.declared.fault.Field.{Field}
 use Rattle.disco_values.specs.declared.fault.Field.TheVariants.{InstanceId, HostName, IpAddr, App, DataCenterInfo}
 use Rattle.disco_values.specs.declared.fault.Fault.{Fault}
-use Rattle.disco_values.specs.declared.fault.Fault.TheVariants.{OutOfMemory, BadJson, MissingField, MismatchedApp, NotFound, BadStatus, VersionsSpent, TooManyInstances, DeltaDisabled, NotAcceptable, HeadTooLarge, BodyTooLarge, BadRequest, BadMethod, UnsupportedCoding, RoundOpen, NoRound, KeysLeft, BadDocument, ReadFailed, WriteFailed, NotFetched, BadEvent}
+use Rattle.disco_values.specs.declared.fault.Fault.TheVariants.{OutOfMemory, BadJson, MissingField, MismatchedApp, NotFound, BadStatus, VersionsSpent, TooManyInstances, DeltaDisabled, NotAcceptable, HeadTooLarge, BodyTooLarge, BadRequest, BadMethod, UnsupportedCoding, RoundOpen, NoRound, KeysLeft, BadDocument, ReadFailed, WriteFailed, NotFetched, BadEvent, RunNotNew}
 
 -- the name of a member, as Eureka writes it
 abbrev pub field_name : Field → List ℕ
@@ -38,3 +38,4 @@ fault_number ReadFailed = 20
 fault_number WriteFailed = 21
 fault_number NotFetched = 22
 fault_number (BadEvent line) = 23
+fault_number RunNotNew = 24

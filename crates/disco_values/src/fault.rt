@@ -88,12 +88,14 @@ pub enum Fault {
     NotFetched,
     #[error("event {0} is bad")]
     BadEvent(u64),
+    #[error("the run is not greater than the present one")]
+    RunNotNew,
 }
 
 impl Fault {
     ghost use Rattle.disco_values.specs.Fault.{fault_number};
 
-    /// Its number, 1 to 23.
+    /// Its number, 1 to 24.
     pub fn number(&self) -> u32
         ensures { result ≡ fault_number self.now }
     {
@@ -121,6 +123,7 @@ impl Fault {
             Fault::WriteFailed => 21,
             Fault::NotFetched => 22,
             Fault::BadEvent(_) => 23,
+            Fault::RunNotNew => 24,
         }
     }
 }

@@ -1,9 +1,10 @@
-//! The values that a registry is made of: texts, names, keys, entries, statuses, actions, forms, and
-//! the faults that all of it is refused by. Every refusal of the library is a [`Fault`].
+//! The values that a registry is made of: texts, names, keys, entries, statuses, actions, forms,
+//! certificates, and the faults that all of it is refused by. Every refusal of the library is a [`Fault`].
 #![tactic(auto)]
 
 mod action;
 mod bytes;
+mod cert;
 mod entries;
 mod fault;
 mod form;
@@ -13,6 +14,7 @@ mod text;
 
 pub use action::{Action, action_of};
 pub use bytes::Bytes;
+pub use cert::Cert;
 pub use entries::Entries;
 pub use fault::{Fault, Field};
 pub use form::Form;
