@@ -19,6 +19,7 @@ pub fn settings_from(matches: &ArgMatches<'_>) -> Settings
     ensures { AreGiven (rows_of (found_of matches.now)) result }
 {
     Settings {
+        run: 0,
         versions: count(matches, "versions", MOST_VERSIONS, MOST_VERSIONS),
         instances: count(matches, "instances", MOST_INSTANCES, MOST_INSTANCES),
         queue: count(matches, "queue", MOST_QUEUE, MOST_QUEUE),

@@ -1,5 +1,5 @@
 //! The limits and choices of a registry: their bounds, their defaults, and [`Settings`], which keep
-//! within the bounds.
+//! within the bounds, with the number of a run.
 #![tactic(auto)]
 
 mod limits;

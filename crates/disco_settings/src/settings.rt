@@ -1,12 +1,15 @@
-//! Limits and choices of a registry.
+//! Limits and choices of a registry, and the number of its run.
 ghost use Rattle.std.specs.Prelude.{◌≡◌, ◌<◌, ◌≤◌, true};
 ghost use Rattle.disco_settings.specs.Limits as limits;
 
 use crate::limits::{MOST_ENTRIES, MOST_INSTANCES, MOST_QUEUE, MOST_VERSIONS, RETENTION};
 
-/// Limits and choices of a registry.
+/// Limits and choices of a registry, and the number of its run.
 #[derive(Clone, Copy, Debug)]
 pub struct Settings {
+    /// The number of this run of the server, any u64. Whoever starts a server again gives it a greater
+    /// one, since documents and copies are told apart by it.
+    pub run: u64,
     /// How many versions there are at most: 1 to 2^64 - 1.
     pub versions: u64,
     /// How many instances are held at most: 1 to 65,536.
@@ -29,9 +32,10 @@ pub struct Settings {
 }
 
 impl Settings {
-    /// What is chosen where nothing is asked for: as much as may be, recent changes for 180,000
+    /// What is chosen where nothing is asked for: run 0, as much as may be, recent changes for 180,000
     /// milliseconds, and deltas.
     pub fn standard() -> Settings
+        ensures run { result.run ≡ 0 }
         ensures versions { result.versions ≡ limits.most_versions }
         ensures instances { result.instances ≡ limits.most_instances }
         ensures queue { result.queue ≡ limits.most_queue }
@@ -40,6 +44,7 @@ impl Settings {
         ensures delta { result.delta ≡ true }
     {
         Settings {
+            run: 0,
             versions: MOST_VERSIONS,
             instances: MOST_INSTANCES,
             queue: MOST_QUEUE,
