@@ -1,4 +1,5 @@
 pub mod Asked
+pub mod Certificate
 pub mod Few
 pub mod Fields
 pub mod Framing

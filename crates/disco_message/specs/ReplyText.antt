@@ -1,21 +1,23 @@
 -- The bytes of a reply (RFC 9112, sections 2 to 6).
-use Rattle.std.specs.Prelude.{ℕ, Bool, true, false, List, [], ◌∷◌, ◌++◌, ◌+◌, Option, Some, None, option_map, if◌then◌else◌, ◌==◌, length, codes}
+use Rattle.std.specs.Prelude.{ℕ, Bool, true, false, List, [], ◌∷◌, ◌++◌, Option, Some, None, option_map, if◌then◌else◌, ◌==◌, length, codes}
 use Rattle.disco_digits.specs.Digits.{digits}
+use Rattle.disco_values.specs.declared.cert.Cert.{Cert}
 use Rattle.disco_message.specs.declared.reply.Reply.{Reply}
 use Rattle.disco_message.specs.declared.status_line.Allow.{Allow}
 use Rattle.disco_message.specs.declared.status_line.StatusLine.{StatusLine}
 use Rattle.disco_message.specs.declared.status_line.StatusLine.TheVariants.{NoContent}
 use Rattle.disco_message.specs.StatusLine.{status_line, allowed}
 
--- a reply as plain data: its status, what `Allow` lists, and the bytes of its document
+-- a reply as plain data: its status, what `Allow` lists, the bytes of its document, and the certificate of that
 pub record Answer : Type 0 where
   pub status : StatusLine
   pub allow : Option Allow
   pub document : Option (List ℕ)
+  pub cert : Option Cert
 
 -- the same of a reply whose document has these bytes
 abbrev pub answer_of : {D : Type 0} → (D → List ℕ) → Reply D → Answer
-answer_of bytes r = record { status = r.status; allow = r.allow; document = option_map bytes r.document }
+answer_of bytes r = record { status = r.status; allow = r.allow; document = option_map bytes r.document; cert = r.cert }
 
 -- a number in decimal digits
 abbrev pub number_text : ℕ → List ℕ
@@ -28,6 +30,11 @@ type_line = codes "Content-Type: application/json\r\n"
 -- the length of the body
 unfoldable pub length_line : ℕ → List ℕ
 length_line n = codes "Content-Length: " ++ number_text n ++ codes "\r\n"
+
+-- the certificate of the document: its run, its base and its version, with a space between them (this project's own rule)
+unfoldable pub certificate_line : Option Cert → List ℕ
+certificate_line None = []
+certificate_line (Some c) = codes "X-Discovery-Certificate: " ++ number_text c.run ++ codes " " ++ number_text c.base ++ codes " " ++ number_text c.version ++ codes "\r\n"
 
 -- the methods of the path
 unfoldable pub allow_line : Option Allow → List ℕ
@@ -45,9 +52,9 @@ body_lines NoContent size = []
 body_lines status None = length_line 0
 body_lines status (Some n) = type_line ++ length_line n
 
--- the head of a reply with a document of so many bytes, or with none; `last` says that the connection ends behind it
-abbrev pub reply_head : StatusLine → Option Allow → Option ℕ → Bool → List ℕ
-reply_head status allow size last = status_line status ++ body_lines status size ++ allow_line allow ++ close_line last ++ codes "\r\n"
+-- the head of a reply with a document of so many bytes and this certificate, or with none; `last` says that the connection ends behind it
+abbrev pub reply_head : StatusLine → Option Allow → Option ℕ → Option Cert → Bool → List ℕ
+reply_head status allow size cert last = status_line status ++ body_lines status size ++ certificate_line cert ++ allow_line allow ++ close_line last ++ codes "\r\n"
 
 -- the body: the document, but for a 204
 abbrev pub reply_body : StatusLine → Option (List ℕ) → List ℕ
@@ -57,4 +64,4 @@ reply_body status (Some bytes) = bytes
 
 -- all bytes of a reply
 abbrev pub reply_text : Answer → Bool → List ℕ
-reply_text a last = reply_head a.status a.allow (option_map length a.document) last ++ reply_body a.status a.document
+reply_text a last = reply_head a.status a.allow (option_map length a.document) a.cert last ++ reply_body a.status a.document

@@ -4,6 +4,7 @@
 //! there. Rules are those of RFC 9110 and RFC 9112, narrowed where a line says so.
 #![tactic(auto)]
 
+mod certificate;
 mod fields;
 mod framing;
 mod head;

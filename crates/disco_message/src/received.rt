@@ -6,10 +6,11 @@ ghost use Rattle.disco_values.specs.declared.fault.Fault.TheVariants.{BadRequest
 ghost use Rattle.disco_message.specs.Received.{received, body_extent, extent_of};
 ghost use Rattle.disco_message.specs.Few.{FewAre};
 
+use crate::certificate::only_cert;
 use crate::fields::{Few, Values, few_values};
 use crate::framing::{Framing, framing_of};
 use crate::head::closes;
-use disco_values::Fault;
+use disco_values::{Cert, Fault};
 use httparse::spans::{HeaderSpan, ResponseSpans};
 use std::alloc::{AllocError, Global};
 use std::marker::Model;
@@ -110,6 +111,7 @@ fn copy(
 impl ReceivedHead {
     ghost use Rattle.disco_message.specs.Fields.{values};
     ghost use Rattle.disco_message.specs.ValuesLeft.{values_left};
+    ghost use Rattle.disco_message.specs.Certificate.{certificate_of};
 
     /// The head that was found at the front of a buffer. Refused as `BadRequest` for what it says,
     /// and else as `OutOfMemory`.
@@ -153,6 +155,15 @@ impl ReceivedHead {
         ensures { result ≡ self.now.closes }
     {
         self.closes
+    }
+
+    /// The certificate of the document (this project's own rule): the run, the base and the version
+    /// that `X-Discovery-Certificate` spells, in digits with one space between them. `None` where
+    /// the field is absent, comes twice or spells none.
+    pub fn certificate(&self) -> Option<Cert>
+        ensures { result ≡ certificate_of self.now.fields }
+    {
+        only_cert(few_values(&self.text, &self.spans, b"x-discovery-certificate"))
     }
 
     /// The values of the fields of this name, in any case, in their order.

@@ -2,6 +2,7 @@
 ghost use Rattle.std.specs.Prelude.{◌≡◌, ℕ, List};
 
 use crate::status_line::{Allow, StatusLine};
+use disco_values::Cert;
 
 /// What a reply may have as its body: bytes that something holds. An `Arc` of them is answered
 /// with no copy.
@@ -14,11 +15,12 @@ pub trait Document {
         ensures { result.now ≡ content self.now };
 }
 
-/// A reply: its status, what `Allow` lists where it is there, and the document, which is JSON. A
-/// reply of `NoContent` is written without its document.
+/// A reply: its status, what `Allow` lists where it is there, the document, which is JSON, and the
+/// certificate of that. A reply of `NoContent` is written without its document.
 #[derive(Debug, Drop)]
 pub struct Reply<D> {
     pub status: StatusLine,
     pub allow: Option<Allow>,
     pub document: Option<D>,
+    pub cert: Option<Cert>,
 }

@@ -1,10 +1,11 @@
 //! The head of a reply, pushed into room that is there.
-ghost use Rattle.std.specs.Prelude.{◌≡◌, ◌≤◌, ◌+◌, ◌++◌, length, vec_len};
+ghost use Rattle.std.specs.Prelude.{◌≡◌, ◌≤◌, ◌+◌, ◌++◌, codes, length, vec_len};
 ghost use Rattle.std.specs.Vec.{vec_capacity};
-ghost use Rattle.disco_message.specs.ReplyText.{number_text, type_line, length_line, allow_line, close_line, body_lines, reply_head};
+ghost use Rattle.disco_message.specs.ReplyText.{number_text, type_line, length_line, certificate_line, allow_line, close_line, body_lines, reply_head};
 
 use crate::status_line::{Allow, StatusLine};
 use disco_digits::push_digits;
+use disco_values::Cert;
 
 /// Room in which the head of any reply fits, in bytes.
 pub const HEAD_ROOM: usize = 256;
@@ -60,6 +61,32 @@ fn push_length(out: &mut Vec<u8>, size: u64)
     push_bytes(out, b"\r\n");
 }
 
+/// Pushes a number and a space behind it.
+fn push_spaced(out: &mut Vec<u8>, number: u64)
+    requires { vec_len out.old + 21 ≤ vec_capacity out.old }
+    ensures text { out.new.items ≡ out.old.items ++ (number_text number ++ codes " ") }
+    ensures len { vec_len out.new ≤ vec_len out.old + 21 }
+    ensures capacity { vec_capacity out.old ≤ vec_capacity out.new }
+{
+    push_number(out, number);
+    out.push_reserved(b' ');
+}
+
+fn push_certificate(out: &mut Vec<u8>, cert: Option<Cert>)
+    requires { vec_len out.old + 89 ≤ vec_capacity out.old }
+    ensures text { out.new.items ≡ out.old.items ++ certificate_line cert }
+    ensures len { vec_len out.new ≤ vec_len out.old + 89 }
+    ensures capacity { vec_capacity out.old ≤ vec_capacity out.new }
+{
+    if let Some(cert) = cert {
+        push_bytes(out, b"X-Discovery-Certificate: ");
+        push_spaced(out, cert.run);
+        push_spaced(out, cert.base);
+        push_number(out, cert.version);
+        push_bytes(out, b"\r\n");
+    }
+}
+
 fn push_allow(out: &mut Vec<u8>, allow: Option<Allow>)
     requires { vec_len out.old + 25 ≤ vec_capacity out.old }
     ensures text { out.new.items ≡ out.old.items ++ allow_line allow }
@@ -92,22 +119,24 @@ fn push_body_lines(out: &mut Vec<u8>, status: StatusLine, size: Option<u64>)
     }
 }
 
-/// Pushes the head of a reply with a document of `size` bytes, or with none, into room that is
-/// there; `last` says that the connection ends behind the reply. Takes no memory.
+/// Pushes the head of a reply with a document of `size` bytes and its certificate, or with none,
+/// into room that is there; `last` says that the connection ends behind the reply. Takes no memory.
 pub fn push_head(
     out: &mut Vec<u8>,
     status: StatusLine,
     allow: Option<Allow>,
     size: Option<u64>,
+    cert: Option<Cert>,
     last: bool,
 )
     requires { vec_len out.old + HEAD_ROOM ≤ vec_capacity out.old }
-    ensures text { out.new.items ≡ out.old.items ++ reply_head status allow size last }
+    ensures text { out.new.items ≡ out.old.items ++ reply_head status allow size cert last }
     ensures len { vec_len out.new ≤ vec_len out.old + HEAD_ROOM }
     ensures capacity { vec_capacity out.old ≤ vec_capacity out.new }
 {
     push_bytes(out, status.text());
     push_body_lines(out, status, size);
+    push_certificate(out, cert);
     push_allow(out, allow);
     push_bytes(out, close_line(last));
     push_bytes(out, b"\r\n");
