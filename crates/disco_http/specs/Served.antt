@@ -57,7 +57,7 @@ Chain answers old (a ∷ asks) [] new = ⊥
 
 -- the answer to a request that was refused
 abbrev pub refused : fault.Fault → Answer
-refused f = record { status = refusal f; allow = None; document = None }
+refused f = record { status = refusal f; allow = None; document = None; cert = None }
 
 -- what is written at the end, behind all replies: the refusal of a request, and nothing where a read or a write failed
 abbrev pub end_texts : End → List (List ℕ)

@@ -63,7 +63,7 @@ fn send_reply<W: Sink, D: Document>(
     ensures spent { is_spent writer.new ≡ is_spent writer.old }
 {
     let body = body_of(reply);
-    writer.put_head(reply.status, reply.allow, size_of(reply), last);
+    writer.put_head(reply.status, reply.allow, size_of(reply), reply.cert, last);
     if body.len() <= SMALL_BODY {
         writer.put_body(body);
         writer.send()?;

@@ -104,6 +104,7 @@ fn refuse<W: Sink, D: Document + Drop>(writer: &mut Writer<W>, fault: Fault) -> 
         status: refusal(fault),
         allow: None,
         document: None,
+        cert: None,
     };
     match write_reply(writer, &refused, true) {
         Ok(()) => Step::Stops(End::Fault(fault)),

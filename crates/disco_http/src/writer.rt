@@ -6,7 +6,7 @@ ghost use Rattle.disco_values.specs.declared.fault.Fault.TheVariants.{WriteFaile
 use crate::replying::write_all;
 use disco_message::{Allow, HEAD_ROOM, StatusLine, push_bytes, push_head};
 use disco_reader::{Failed, Sink};
-use disco_values::Fault;
+use disco_values::{Cert, Fault};
 use std::alloc::{AllocError, Global};
 
 /// Bodies up to this size are written together with their head, in bytes.
@@ -85,15 +85,16 @@ impl<W: Sink> Writer<W> {
         status: StatusLine,
         allow: Option<Allow>,
         size: Option<u64>,
+        cert: Option<Cert>,
         last: bool,
     )
-        ensures room { self.new.room.items ≡ reply_head status allow size last }
+        ensures room { self.new.room.items ≡ reply_head status allow size cert last }
         ensures len { vec_len self.new.room ≤ HEAD_ROOM }
         ensures sink { self.new.sink ≡ self.old.sink }
         ensures spent { self.new.spent ≡ self.old.spent }
     {
         self.room.clear();
-        push_head(&mut self.room, status, allow, size, last);
+        push_head(&mut self.room, status, allow, size, cert, last);
     }
 
     /// Puts a small body behind the head.

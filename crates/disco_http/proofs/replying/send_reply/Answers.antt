@@ -11,7 +11,7 @@ returns-in_err-send-2-clause-front g c =
     let p = err_from_is_err_and c.from_residual-in_err-send-2.result c.from_residual-in_err-send-2.ensures.1 in
     let reply = c.args.reply.now in
     let document = option_map g.D.Document.content reply.document in
-    let head = reply_head reply.status reply.allow (option_map length document) c.args.last in
+    let head = reply_head reply.status reply.allow (option_map length document) reply.cert c.args.last in
     let body = reply_body reply.status document in
     let sent : AppendsFront (g.W.Sink.contents (sink_of c.args.writer.now)) (g.W.Sink.contents (sink_of c.send-2.new.self)) head = search rules in
     rw p.1 (front_more (g.W.Sink.contents (sink_of c.args.writer.now)) (g.W.Sink.contents (sink_of c.send-2.new.self)) head body sent)
@@ -21,7 +21,7 @@ returns-in_err-write_all-clause-front g c =
     let p = err_from_is_err_and c.from_residual-in_err-write_all.result c.from_residual-in_err-write_all.ensures.1 in
     let reply = c.args.reply.now in
     let document = option_map g.D.Document.content reply.document in
-    let head = reply_head reply.status reply.allow (option_map length document) c.args.last in
+    let head = reply_head reply.status reply.allow (option_map length document) reply.cert c.args.last in
     let body = reply_body reply.status document in
     let first = g.W.Sink.contents (sink_of c.args.writer.now) in
     let mid = g.W.Sink.contents (sink_of c.send-2.new.self) in
