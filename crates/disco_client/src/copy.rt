@@ -1,5 +1,5 @@
 //! The copy.
-ghost use Rattle.std.specs.Prelude.{◌≡◌, ◌≢◌, ◌↔◌, ◌⊎◌, Err, IfOk, IfErr, IsTrue, OnOk, OnErr, filter, map};
+ghost use Rattle.std.specs.Prelude.{◌≡◌, ◌≢◌, ◌↔◌, Err, IfOk, IfErr, IsTrue, OnOk, OnErr, filter, map};
 ghost use Rattle.std.specs.FinMap.{empty, len, values};
 ghost use Rattle.std.specs.Str.{bytes_eq};
 ghost use Rattle.disco_instance.specs.Row.{row};
@@ -71,7 +71,7 @@ impl Copy {
     pub fn full(&mut self, wire: Wire) -> Result<(), Fault>
         ensures copied { OnOk result (self.new ≡ copied (tell_all wire.mentions)) }
         ensures shape { (result ≡ Err BadDocument) ↔ (wire.shape ≢ Many) }
-        ensures error { IfErr result (λ e. (e ≡ BadDocument) ⊎ (e ≡ OutOfMemory)) }
+        ensures memory { wire.shape ≡ Many → IfErr result (λ e. e ≡ OutOfMemory) }
         ensures unchanged { OnErr result (self.new ≡ self.old) }
     {
         if !is_many(wire.shape) {
@@ -93,7 +93,7 @@ impl Copy {
         ensures overlaid { OnOk result (self.new ≡ overlay self.old (tell_all wire.mentions)) }
         ensures hash_equal { IfOk result (λ o. o.hash_equal ≡ hash_equal wire.hash self.new) }
         ensures shape { (result ≡ Err BadDocument) ↔ (wire.shape ≢ Many) }
-        ensures error { IfErr result (λ e. (e ≡ BadDocument) ⊎ (e ≡ OutOfMemory)) }
+        ensures memory { wire.shape ≡ Many → IfErr result (λ e. e ≡ OutOfMemory) }
         ensures unchanged { OnErr result (self.new ≡ self.old) }
     {
         if !is_many(wire.shape) {

@@ -1,9 +1,11 @@
 //! A client's copy of a registry.
 //!
 //! A full document replaces the copy, and a delta is overlaid on it. What the copy holds after
-//! each is said by the document and the copy before it alone, whoever wrote the document.
+//! each is said by the document and the copy before it alone, whoever wrote the document. A
+//! `CertifiedCopy` takes only documents after which it is known of which run and version it is.
 #![tactic(auto)]
 
+mod certified;
 mod copy;
 mod counted;
 mod known;
@@ -11,6 +13,7 @@ mod overlaid;
 mod taken;
 mod vip;
 
+pub use certified::CertifiedCopy;
 pub use copy::Copy;
 pub use known::Known;
 pub use overlaid::Overlaid;
