@@ -31,6 +31,7 @@ use Rattle.disco_registry.specs.Settle.{settle}
 use Rattle.disco_registry.specs.State as registry
 use Rattle.disco_core.specs.Past.{Past, duration_at, history, marks_after, nothing, renewals_after, with_change, with_done}
 use Rattle.disco_core.specs.Moves.{GoesOn, Moves, counted_by, lease_by}
+use Rattle.disco_core.proofs.Runs.{run_done}
 use Rattle.disco_core.specs.State.{AreLeasesOf, IsFor, Prepared, Remembers, StandsFor, State, is_renewal}
 use Rattle.disco_core.specs.Tied.{AreLeased}
 
@@ -271,23 +272,24 @@ remembers : (q : Queue) (most : ℕ) (p : Past) (now : ℕ) (ask : Ask) (c : Opt
 remembers q most p now ask c is = record { kept = is.kept; base = is.base }
 
 -- a hub that has done what was ready stands for what has happened with it
-pub stands_on : (old new : State) (ready : Prepared) (p : Past) (ask : Ask) (kept : Option Entry) → IsFor old ready ask → StandsFor old p → registry.StandsFor new.registry (commit.appended (history p) ready.change)
+pub stands_on : (old new : State) (ready : Prepared) (p : Past) (ask : Ask) (kept : Option Entry) → new.run ≡ old.run → IsFor old ready ask → StandsFor old p → registry.StandsFor new.registry (commit.appended (history p) ready.change)
     → Remembers new.queue (with_change old.queue.max p ready.moment kept) → kept ≡ ready.change → AreLeased new.registry.held new.leases
     → Moves ready.change ready.key ready.renewal ready.moment old.leases new.leases → StandsFor new (with_done old.queue.max p ready.moment ask ready.change)
-stands_on old new ready p ask kept is stands held recent kept_is leased moves =
+stands_on old new ready p ask kept run_is is stands held recent kept_is leased moves =
     let most = old.queue.max in
     let now = ready.moment in
     let c = ready.change in
     let held_now : registry.StandsFor new.registry (history (with_done most p now ask c)) = subst (registry.StandsFor new.registry) (longer most p now ask c) held in
     record {
+      run = run_is ∙ stands.run ∙ sym (run_done most p now ask c);
       registry = held_now;
       queue = remembers new.queue most p now ask c (subst (λ (x : Option Entry). Remembers new.queue (with_change most p now x)) kept_is recent);
       leases = leases_on old.registry old.leases new.leases p now c ready.renewal stands.registry stands.leases most ask ready.key new.registry held_now leased is.accepted is.key is.renewal moves;
     }
 
 -- where nothing has happened there are no leases
-pub no_leases_of : (v : Leases) → v ≡ no_leases → AreLeasesOf v nothing
-no_leases_of v is = record {
+pub no_leases_of : (run : ℕ) (v : Leases) → v ≡ no_leases → AreLeasesOf v (nothing run)
+no_leases_of run v is = record {
   durations = λ k. ap (λ (x : Leases). lasts (lease_at x k)) is ∙ ap (λ o. lasts (option_flatten o)) (get-empty key_cmp k) ∙ sym (ap rows_last (get-reg [] k));
   marks = λ k. ap (λ (x : Leases). mark_of (lease_at x k)) is ∙ ap (λ o. mark_of (option_flatten o)) (get-empty key_cmp k) ∙ sym (get-empty key_cmp k);
   renewals = ap (λ (x : Leases). x.renewals) is;

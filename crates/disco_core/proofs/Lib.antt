@@ -3,5 +3,6 @@ mod Asks
 mod Ids
 mod Loads
 mod Marks
+pub mod Runs
 mod Staying
 mod Ties

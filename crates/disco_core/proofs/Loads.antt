@@ -8,12 +8,12 @@ use Rattle.disco_cache.specs.Payloads.{IsTrue}
 use Rattle.disco_query.specs.declared.key.DocKey.{DocKey}
 use Rattle.disco_cache.specs.declared.payload.Payload.{Payload}
 
-abbrev pub made : DocKey → ℕ → ℕ → List ℕ → Payload
-made k base version text = record { key = k; base = base; version = version; text = text }
+abbrev pub made : DocKey → ℕ → ℕ → ℕ → List ℕ → Payload
+made k run base version text = record { key = k; run = run; base = base; version = version; text = text }
 
 -- a document of held records, written now
-pub held_true : (k : DocKey) (v : ℕ) (text : List ℕ) (p : Payload) (h : List Entry) → is_delta k.query ≡ false → v ≡ length h → IsWritten k.form k.query h (length h) (Some text) → p ≡ made k v v text → IsTrue p h
-held_true k v text p h held now written is = subst (λ q. IsTrue q h) (sym is) (record {
+pub held_true : (k : DocKey) (run v : ℕ) (text : List ℕ) (p : Payload) (h : List Entry) → is_delta k.query ≡ false → v ≡ length h → IsWritten k.form k.query h (length h) (Some text) → p ≡ made k run v v text → IsTrue run p h
+held_true k run v text p h held now written is = subst (λ q. IsTrue run q h) (sym is) (refl, record {
   written = written.1 ∙ (λ i. text_for k.query k.form h (sym now i) (sym now i));
   means = record {
     meaning = written.2 ∙ (λ i. Ok (meaning_for k.query k.form h (sym now i) (sym now i)));
@@ -27,8 +27,8 @@ held_true k v text p h held now written is = subst (λ q. IsTrue q h) (sym is) (
 })
 
 -- a delta, written now
-pub delta_true : (k : DocKey) (base v : ℕ) (text : List ℕ) (p : Payload) (h : List Entry) → is_delta k.query ≡ true → base ≤ v → v ≡ length h → IsWritten k.form k.query h base (Some text) → p ≡ made k base v text → IsTrue p h
-delta_true k base v text p h delta start now written is = subst (λ q. IsTrue q h) (sym is) (record {
+pub delta_true : (k : DocKey) (run base v : ℕ) (text : List ℕ) (p : Payload) (h : List Entry) → is_delta k.query ≡ true → base ≤ v → v ≡ length h → IsWritten k.form k.query h base (Some text) → p ≡ made k run base v text → IsTrue run p h
+delta_true k run base v text p h delta start now written is = subst (λ q. IsTrue run q h) (sym is) (refl, record {
   written = written.1 ∙ (λ i. text_for k.query k.form h base (sym now i));
   means = record {
     meaning = written.2 ∙ (λ i. Ok (meaning_for k.query k.form h base (sym now i)));

@@ -14,17 +14,18 @@ use Rattle.disco_queue.specs.Base.{base_after_change, base_after_cleaning}
 use Rattle.disco_queue.specs.Timed.{Timed, changes}
 use Rattle.disco_registry.specs.Op.{Ask, register, cancel, renew, set_status, drop_status, add_metadata}
 
--- the accepted changes with their moments, how many leading ones the queue dropped, the mark of each lease, how many renewals were accepted since the last closing of a minute, and what that closing kept
+-- the number of the run, the accepted changes with their moments, how many leading ones the queue dropped, the mark of each lease, how many renewals were accepted since the last closing of a minute, and what that closing kept
 pub record Past : Type 0 where
+  pub run : ℕ
   pub timed : List Timed
   pub base : ℕ
   pub marks : FinMap key_cmp ℕ
   pub renewals : ℕ
   pub closed : Minute
 
--- nothing has happened so far
-abbrev pub nothing : Past
-nothing = record { timed = []; base = 0; marks = empty; renewals = 0; closed = no_minute }
+-- nothing has happened so far in a run
+abbrev pub nothing : ℕ → Past
+nothing run = record { run = run; timed = []; base = 0; marks = empty; renewals = 0; closed = no_minute }
 
 -- the changes without their moments
 abbrev pub history : Past → List Entry

@@ -21,8 +21,9 @@ use Rattle.disco_settings.specs.declared.settings.Settings.{Settings}
 abbrev pub limits : Settings → Limits
 limits s = record { versions = s.versions; instances = s.instances }
 
--- the registry, beside it the vips and the leases with their places, the recent changes, how long these are kept, and whether deltas are served
+-- the number of the run, the registry, beside it the vips and the leases with their places, the recent changes, how long these are kept, and whether deltas are served
 pub record State : Type 0 where
+  pub run : ℕ
   pub registry : registry.State
   pub vips : VipKeys
   pub leases : Leases
@@ -55,14 +56,16 @@ pub record AreLeasesOf (v : Leases) (p : Past) : Type 0 where
   pub renewals : v.renewals ≡ p.renewals
   pub closed : v.closed ≡ p.closed
 
--- it holds what is left of what happened, keeps what is recent, and has the leases
+-- it is of the run, holds what is left of what happened, keeps what is recent, and has the leases
 pub record StandsFor (s : State) (p : Past) : Type 0 where
+  pub run : s.run ≡ p.run
   pub registry : registry.StandsFor s.registry (history p)
   pub queue : Remembers s.queue p
   pub leases : AreLeasesOf s.leases p
 
 -- the same but for places and room, which no answer shows
 pub record IsSameCore (old new : State) : Type 0 where
+  pub run : new.run ≡ old.run
   pub registry : registry.IsSameRegistry old.registry new.registry
   pub vips : vips.IsSameVips old.vips new.vips
   pub leases : leases.IsSameLeases old.leases new.leases

@@ -48,6 +48,8 @@ use std::sync::Arc;
 #[derive(Drop)]
 pub struct Core {
     alloc: Global,
+    /// The number of this run of the server.
+    run: u64,
     registry: Registry,
     counts: Counts,
     vips: VipIndex,
@@ -69,7 +71,7 @@ impl Model for Core {
 
     ghost coded = { Prim.hlevel (codes, code) };
 
-    ghost view = { λ h. record { registry = h.registry; vips = h.vips; leases = h.leases; queue = h.queue; retention = h.retention; delta = h.delta } };
+    ghost view = { λ h. record { run = h.run; registry = h.registry; vips = h.vips; leases = h.leases; queue = h.queue; retention = h.retention; delta = h.delta } };
 
     ghost invariant = { λ h. IsTied h.registry h.counts h.vips h.leases h.queue };
 }
@@ -242,13 +244,14 @@ fn follow(
 }
 
 impl Core {
-    /// An empty registry within the limits of the settings.
+    /// An empty registry within the limits of the settings, in their run.
     pub fn new(alloc: Global, settings: &Settings) -> Core
-        ensures empty { StandsFor result nothing }
+        ensures empty { StandsFor result (nothing settings.now.run) }
         ensures rules { rules_of result ≡ rules settings.now }
     {
         Core {
             alloc,
+            run: settings.run,
             registry: Registry::new(alloc, settings.versions, settings.instances),
             counts: Counts::new(),
             vips: VipIndex::new(alloc),
@@ -257,6 +260,14 @@ impl Core {
             retention: settings.retention,
             delta: settings.delta,
         }
+    }
+
+    /// The number of this run of the server.
+    pub fn run(&self) -> u64
+        ensures run { result ≡ self.now.run }
+        ensures past { (p : Past) → StandsFor self.now p → result ≡ p.run }
+    {
+        self.run
     }
 
     /// How many changes were accepted.
@@ -380,11 +391,12 @@ impl Core {
     }
 
     fn payload(&self, key: &DocKey, base: u64, text: Vec<u8>) -> Result<Arc<Payload, Global>, Fault>
-        ensures payload { IfOk result (λ p. p.value ≡ record { key = key.now; base = base; version = self.now.registry.version; text = text.items }) }
+        ensures payload { IfOk result (λ p. p.value ≡ record { key = key.now; run = self.now.run; base = base; version = self.now.registry.version; text = text.items }) }
         ensures memory { IfErr result (λ e. e ≡ OutOfMemory) }
     {
         let payload = Payload {
             key: key.clone()?,
+            run: self.run,
             base,
             version: self.registry.version(),
             text: Bytes::from_vec(text),
@@ -417,7 +429,7 @@ impl Core {
         ensures key { IfOk result (λ o. IfSome o (λ d. d.value.key ≡ key.now)) }
         ensures version { IfOk result (λ o. IfSome o (λ d. d.value.version ≡ self.now.registry.version)) }
         ensures base { IfOk result (λ o. IfSome o (λ d. is_delta key.now.query ≡ true → d.value.base ≡ self.now.queue.base)) }
-        ensures true_now { IfOk result (λ o. IfSome o (λ d. (p : Past) → StandsFor self.now p → IsTrue d.value (history p))) }
+        ensures true_now { IfOk result (λ o. IfSome o (λ d. (p : Past) → StandsFor self.now p → IsTrue p.run d.value (history p))) }
         ensures absent { IfOk result (λ o. IfNone o ((p : Past) → StandsFor self.now p → is_absent (reg (history p)) (asked_by key.now.query) ≡ true)) }
         ensures memory { IfErr result (λ e. e ≡ OutOfMemory) }
     {
@@ -433,7 +445,7 @@ impl Core {
         ensures key { IfOk result (λ o. IfSome o (λ d. d.value.key ≡ key.now)) }
         ensures version { IfOk result (λ o. IfSome o (λ d. d.value.version ≡ self.now.registry.version)) }
         ensures base { IfOk result (λ o. IfSome o (λ d. d.value.base ≡ self.now.queue.base)) }
-        ensures true_now { IfOk result (λ o. IfSome o (λ d. (p : Past) → StandsFor self.now p → IsTrue d.value (history p))) }
+        ensures true_now { IfOk result (λ o. IfSome o (λ d. (p : Past) → StandsFor self.now p → IsTrue p.run d.value (history p))) }
         ensures absent { IfOk result (λ o. IfNone o ((p : Past) → StandsFor self.now p → is_absent (reg (history p)) (asked_by key.now.query) ≡ true)) }
         ensures memory { IfErr result (λ e. e ≡ OutOfMemory) }
     {
@@ -447,7 +459,7 @@ impl Core {
         requires { is_delta key.now.query ≡ false }
         ensures key { IfOk result (λ o. IfSome o (λ d. d.value.key ≡ key.now)) }
         ensures version { IfOk result (λ o. IfSome o (λ d. d.value.version ≡ self.now.registry.version)) }
-        ensures true_now { IfOk result (λ o. IfSome o (λ d. (h : List Entry) → registry.StandsFor self.now.registry h → IsTrue d.value h)) }
+        ensures true_now { IfOk result (λ o. IfSome o (λ d. (h : List Entry) → registry.StandsFor self.now.registry h → IsTrue self.now.run d.value h)) }
         ensures absent { IfOk result (λ o. IfNone o ((h : List Entry) → registry.StandsFor self.now.registry h → is_absent (reg h) (asked_by key.now.query) ≡ true)) }
         ensures memory { IfErr result (λ e. e ≡ OutOfMemory) }
     {
@@ -462,7 +474,7 @@ impl Core {
     pub fn instance(&self, key: &Key, form: Form) -> Result<Arc<Payload, Global>, Fault>
         ensures key { IfOk result (λ p. p.value.key ≡ doc_of_key key.now form) }
         ensures version { IfOk result (λ p. p.value.version ≡ self.now.registry.version) }
-        ensures true_now { IfOk result (λ p. (h : List Entry) → registry.StandsFor self.now.registry h → IsTrue p.value h) }
+        ensures true_now { IfOk result (λ p. (h : List Entry) → registry.StandsFor self.now.registry h → IsTrue self.now.run p.value h) }
         ensures allowed { IfOk result (λ _. (h : List Entry) → registry.StandsFor self.now.registry h → refusal_of true (doc_of_key key.now form).query h ≡ None) }
         ensures refused { IfErr result (λ e. e ≢ OutOfMemory → (h : List Entry) → registry.StandsFor self.now.registry h → refusal_of true (doc_of_key key.now form).query h ≡ Some e) }
     {
@@ -481,7 +493,7 @@ impl Core {
     pub fn by_id(&self, id: &str, form: Form) -> Result<Arc<Payload, Global>, Fault>
         ensures key { IfOk result (λ p. (h : List Entry) → registry.StandsFor self.now.registry h → doc_of_id id.now form h ≡ Some p.value.key) }
         ensures version { IfOk result (λ p. p.value.version ≡ self.now.registry.version) }
-        ensures true_now { IfOk result (λ p. (h : List Entry) → registry.StandsFor self.now.registry h → IsTrue p.value h) }
+        ensures true_now { IfOk result (λ p. (h : List Entry) → registry.StandsFor self.now.registry h → IsTrue self.now.run p.value h) }
         ensures allowed { IfOk result (λ _. (h : List Entry) → registry.StandsFor self.now.registry h → refusal_of_id id.now h ≡ None) }
         ensures refused { IfErr result (λ e. e ≢ OutOfMemory → (h : List Entry) → registry.StandsFor self.now.registry h → refusal_of_id id.now h ≡ Some e) }
     {

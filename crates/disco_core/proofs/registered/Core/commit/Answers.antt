@@ -1,4 +1,4 @@
-use Rattle.std.proofs.Common.{sym, subst, ap, option_map, ◌∙◌, Option}
+use Rattle.std.proofs.Common.{refl, sym, subst, ap, option_map, ◌∙◌, Option}
 use Rattle.disco_history.specs.Change.{Entry, seen}
 use Rattle.disco_queue.specs.Queue.{version}
 use Rattle.disco_registry.specs.Commit.{Takes, appended, version_after}
@@ -26,6 +26,7 @@ returns-clause-history c = λ p ask is stands.
     let r = c.args.ready in
     let old = the_view c.self.inside in
     let new : State = record {
+      run = c.self.inside.run;
       registry = c.commit.new.self;
       vips = c.follow.new.index;
       leases = c.follow.new.book;
@@ -40,5 +41,5 @@ returns-clause-history c = λ p ask is stands.
     let held = subst (λ (x : Option Entry). registry.StandsFor c.commit.new.self (appended (history p) x)) change (c.commit.ensures.history (history p) was.registry) in
     let kept = subst (λ (x : Prepared). Remembers c.remember.new.queue (with_change old.queue.max p x.moment (option_map seen c.ready.inside.kept))) c.ready.view_is (c.remember.ensures.past p was.queue) in
     let on : StandsFor new (with_done old.queue.max p r.moment ask r.change) =
-    stands_on old new r p ask (option_map seen c.ready.inside.kept) (subst (λ (s : State). IsFor s r ask) (sym c.self.view_is) is) was held kept (c.ready.invariant.0 ∙ change) leased c.follow.ensures.leases in
+    stands_on old new r p ask (option_map seen c.ready.inside.kept) refl (subst (λ (s : State). IsFor s r ask) (sym c.self.view_is) is) was held kept (c.ready.invariant.0 ∙ change) leased c.follow.ensures.leases in
     subst (StandsFor new) (λ i. with_done (c.self.view_is i).queue.max p r.moment ask ((sym change ∙ sym c.commit.ensures.change) i)) on

@@ -1,3 +1,4 @@
+use Rattle.std.proofs.Common.{refl}
 use Rattle.disco_core.proofs.Asks.{no_leases_of}
 use Rattle.disco_core.proofs.Ties.{tied_new}
 use Rattle.disco_core.proofs.registered.Core.new.Goals as goal
@@ -8,7 +9,8 @@ invariant_of-result c =
 
 pub returns-clause-empty : goal.returns-clause-empty
 returns-clause-empty c = record {
+  run = refl;
   registry = c.new.ensures.empty;
   queue = record { kept = c.new-5.ensures.history; base = c.new-5.ensures.base };
-  leases = no_leases_of c.new-4.result c.new-4.ensures;
+  leases = no_leases_of c.args.settings.now.run c.new-4.result c.new-4.ensures;
 }

@@ -18,6 +18,7 @@ invariant_of-self-2 c =
 
 pub returns-in_err-open_places-clause-same : goal.returns-in_err-open_places-clause-same
 returns-in_err-open_places-clause-same c = same_from _ _ _ c.self.view_is (record {
+  run = refl;
   registry = c.accept.ensures.same;
   vips = c.open_places.ensures.vips;
   leases = c.open_places.ensures.leases;
@@ -28,6 +29,7 @@ returns-in_err-open_places-clause-same c = same_from _ _ _ c.self.view_is (recor
 
 pub returns-clause-same : goal.returns-clause-same
 returns-clause-same c = same_from _ _ _ c.self.view_is (record {
+  run = refl;
   registry = c.accept.ensures.same;
   vips = c.open_places.ensures.vips;
   leases = c.open_places.ensures.leases;
