@@ -1,5 +1,5 @@
 -- One note more: what it adds to the changes, to the edition and to what was copied, and when the list stays legal.
-use Rattle.std.proofs.Common.{◌≡◌, List, [], ◌∷◌, ◌++◌, fold, map, append-nil, append_assoc, refl, sym, ap, subst, ◌∙◌}
+use Rattle.std.proofs.Common.{◌≡◌, ℕ, List, [], ◌∷◌, ◌++◌, fold, map, append-nil, append_assoc, refl, sym, ap, subst, ◌∙◌}
 use Rattle.std.proofs.lemmas.List.Sums.{fold-append}
 use Rattle.std.specs.FinMap.{empty, insert, remove}
 use Rattle.disco_history.specs.Change.{Entry}
@@ -50,8 +50,8 @@ copied-gone l k = copied_one l (gone k)
 -- ---- legal lists
 
 -- each note of the list may stand behind these changes and those before it
-abbrev LegalAfter : List Entry → List Note → Type 0
-LegalAfter h l = (before : List Note) (m : Note) (after : List Note) → l ≡ before ++ m ∷ after → Fits (fold noted h before) m
+abbrev LegalAfter : ℕ → List Entry → List Note → Type 0
+LegalAfter run h l = (before : List Note) (m : Note) (after : List Note) → l ≡ before ++ m ∷ after → Fits run (fold noted h before) m
 
 first_is : (n m : Note) (l k : List Note) → n ∷ l ≡ m ∷ k → n ≡ m
 first_is n m l k e = cc
@@ -63,17 +63,17 @@ no_rest : (l k : List Note) (m : Note) → [] ≡ l ++ m ∷ k → ⊥
 no_rest [] k m e = absurd (cc)
 no_rest (n ∷ l) k m e = absurd (cc)
 
-legal_after : (h : List Entry) (l : List Note) (n : Note) → LegalAfter h l → Fits (fold noted h l) n → LegalAfter h (l ++ n ∷ [])
-legal_after h [] n legal fits [] m after e = subst (Fits h) (first_is n m [] after e) fits
-legal_after h [] n legal fits (b ∷ before) m after e = absurd (no_rest before after m (rest_is n b [] (before ++ m ∷ after) e))
-legal_after h (x ∷ l) n legal fits [] m after e = subst (Fits h) (first_is x m (l ++ n ∷ []) after e) (legal [] x l refl)
-legal_after h (x ∷ l) n legal fits (b ∷ before) m after e =
-    subst (λ y. Fits (fold noted (noted h y) before) m) (first_is x b (l ++ n ∷ []) (before ++ m ∷ after) e)
-    (legal_after (noted h x) l n (λ front y back is. legal (x ∷ front) y back (ap (λ t. x ∷ t) is)) fits before m after (rest_is x b (l ++ n ∷ []) (before ++ m ∷ after) e))
+legal_after : (run : ℕ) (h : List Entry) (l : List Note) (n : Note) → LegalAfter run h l → Fits run (fold noted h l) n → LegalAfter run h (l ++ n ∷ [])
+legal_after run h [] n legal fits [] m after e = subst (Fits run h) (first_is n m [] after e) fits
+legal_after run h [] n legal fits (b ∷ before) m after e = absurd (no_rest before after m (rest_is n b [] (before ++ m ∷ after) e))
+legal_after run h (x ∷ l) n legal fits [] m after e = subst (Fits run h) (first_is x m (l ++ n ∷ []) after e) (legal [] x l refl)
+legal_after run h (x ∷ l) n legal fits (b ∷ before) m after e =
+    subst (λ y. Fits run (fold noted (noted h y) before) m) (first_is x b (l ++ n ∷ []) (before ++ m ∷ after) e)
+    (legal_after run (noted h x) l n (λ front y back is. legal (x ∷ front) y back (ap (λ t. x ∷ t) is)) fits before m after (rest_is x b (l ++ n ∷ []) (before ++ m ∷ after) e))
 
-pub legal_more : (l : List Note) (n : Note) → IsLegal l → Fits (changes_in l) n → IsLegal (l ++ n ∷ [])
-legal_more l n legal fits = legal_after [] l n legal fits
+pub legal_more : (run : ℕ) (l : List Note) (n : Note) → IsLegal run l → Fits run (changes_in l) n → IsLegal run (l ++ n ∷ [])
+legal_more run l n legal fits = legal_after run [] l n legal fits
 
-pub legal_changes : (cs : List Entry) (l : List Note) → IsLegal l → IsLegal (l ++ map change cs)
-legal_changes [] l legal = subst IsLegal (sym (append-nil l)) legal
-legal_changes (c ∷ cs) l legal = subst IsLegal (append_assoc l (change c ∷ []) (map change cs)) (legal_changes cs (l ++ change c ∷ []) (legal_more l (change c) legal tt))
+pub legal_changes : (run : ℕ) (cs : List Entry) (l : List Note) → IsLegal run l → IsLegal run (l ++ map change cs)
+legal_changes run [] l legal = subst (IsLegal run) (sym (append-nil l)) legal
+legal_changes run (c ∷ cs) l legal = subst (IsLegal run) (append_assoc l (change c ∷ []) (map change cs)) (legal_changes run cs (l ++ change c ∷ []) (legal_more run l (change c) legal tt))

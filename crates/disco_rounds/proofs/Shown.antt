@@ -1,5 +1,5 @@
 -- A document that readers see stands in the list behind the beginning of the last round, and was true there.
-use Rattle.std.proofs.Common.{◌≡◌, Bool, true, false, cond, List, [], ◌∷◌, fold, Some, None, refl, sym, ap, ◌∙◌}
+use Rattle.std.proofs.Common.{◌≡◌, ℕ, Bool, true, false, cond, List, [], ◌∷◌, fold, Some, None, refl, sym, ap, ◌∙◌}
 use Rattle.std.proofs.lemmas.Option.{same_Some}
 use Rattle.std.specs.List.{list_any}
 use Rattle.std.specs.FinMap.{empty, get, get-empty, get-insert, get-remove}
@@ -61,5 +61,5 @@ copied_stands l k d is = elim (found empty l k d is) [ held there none ↦ absur
 pub shown_stands : (l : List Note) (k : DocKey) (d : Payload) → IsPublishable l → get (edition_of l) k ≡ Some d → StandsIn l k d
 shown_stands l k d publishable is = copied_stands l k d (ap (λ (m : Edition). get m k) (sym publishable) ∙ is)
 
-pub true_there : (l : List Note) (k : DocKey) (d : Payload) → IsLegal l → (s : StandsIn l k d) → IsTrue d (changes_in s.before)
-true_there l k d legal s = legal s.before (doc d) s.after s.there
+pub true_there : (run : ℕ) (l : List Note) (k : DocKey) (d : Payload) → IsLegal run l → (s : StandsIn l k d) → IsTrue run d (changes_in s.before)
+true_there run l k d legal s = legal s.before (doc d) s.after s.there

@@ -1,5 +1,5 @@
 -- Press lists: what a publisher and the writers noted, in order, and what readers see of it (this project's own rule).
-use Rattle.std.specs.Prelude.{◌≡◌, Bool, true, false, List, [], ◌∷◌, ◌++◌, flat_map, fold, map, Option, Some, None, IfSome}
+use Rattle.std.specs.Prelude.{◌≡◌, ℕ, Bool, true, false, List, [], ◌∷◌, ◌++◌, flat_map, fold, map, Option, Some, None, IfSome}
 use Rattle.std.specs.List.{list_any}
 use Rattle.std.specs.FinMap.{FinMap, contains_key, empty, insert, remove}
 use Rattle.disco_history.specs.Change.{Entry}
@@ -49,14 +49,14 @@ noted h _ = h
 abbrev pub changes_in : List Note → List Entry
 changes_in l = fold noted [] l
 
--- a note may stand behind these changes: its document is true of them, or there is none
-abbrev pub Fits : List Entry → Note → Type 0
-Fits h (doc d) = IsTrue d h
-Fits h (gone k) = is_absent (reg h) (asked_by k.query) ≡ true
-Fits h _ = Unit {0}
+-- a note may stand behind these changes of a run: its document is true of them, or there is none
+abbrev pub Fits : ℕ → List Entry → Note → Type 0
+Fits run h (doc d) = IsTrue run d h
+Fits run h (gone k) = is_absent (reg h) (asked_by k.query) ≡ true
+Fits run h _ = Unit {0}
 
-abbrev pub IsLegal : List Note → Type 0
-IsLegal l = (before : List Note) (n : Note) (after : List Note) → l ≡ before ++ n ∷ after → Fits (changes_in before) n
+abbrev pub IsLegal : ℕ → List Note → Type 0
+IsLegal run l = (before : List Note) (n : Note) (after : List Note) → l ≡ before ++ n ∷ after → Fits run (changes_in before) n
 
 -- documents by their keys
 abbrev pub Edition : Type 0
@@ -105,9 +105,9 @@ pub record IsInStep (published pending : List Note) (edition : KeySet) (round : 
   pub steps : flat_map step pending ≡ steps_to round
   pub covers : IfSome round (λ r. (k : DocKey) → contains_key edition k ≡ true → is_in r k ≡ true)
 
--- what was noted is legal and has these changes, what was published may be seen by readers, and all is in step with the keys of an edition and with a round
-pub record IsPressed (published pending : List Note) (h : List Entry) (edition : KeySet) (round : Option Round) : Type 0 where
+-- what was noted in a run is legal and has these changes, what was published may be seen by readers, and all is in step with the keys of an edition and with a round
+pub record IsPressed (run : ℕ) (published pending : List Note) (h : List Entry) (edition : KeySet) (round : Option Round) : Type 0 where
   pub changes : changes_in (published ++ pending) ≡ h
-  pub legal : IsLegal (published ++ pending)
+  pub legal : IsLegal run (published ++ pending)
   pub publishable : IsPublishable published
   pub in_step : IsInStep published pending edition round

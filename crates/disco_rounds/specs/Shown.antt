@@ -18,6 +18,6 @@ pub record StandsIn (l : List Note) (k : DocKey) (d : Payload) : Type 0 where
   pub key : d.key ≡ k
   pub last : list_any is_begin after ≡ false
 
--- and it was true of the changes before it
+-- and it was true of the changes before it, in its run
 abbrev pub WasTrue : List Note → DocKey → Payload → Type 0
-WasTrue l k d = (s : StandsIn l k d) × IsTrue d (changes_in s.before)
+WasTrue l k d = (s : StandsIn l k d) × IsTrue d.run d (changes_in s.before)
