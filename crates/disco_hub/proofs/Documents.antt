@@ -127,10 +127,10 @@ pub none_kept : (on : Bool) (p : Past) → AreKept on empty p
 none_kept on p = record { keys = λ k d is. absurd (none_there k d is); served = λ k d is. absurd (none_there k d is) }
 
 -- nothing but the base moves, and that forward
-pub moved_on : (on : Bool) (docs : FinMap doc_cmp Payload) (p q : Past) → history q ≡ history p → p.base ≤ q.base → AreKept on docs p → AreKept on docs q
-moved_on on docs p q same le kept = record {
+pub moved_on : (on : Bool) (docs : FinMap doc_cmp Payload) (p q : Past) → q.run ≡ p.run → history q ≡ history p → p.base ≤ q.base → AreKept on docs p → AreKept on docs q
+moved_on on docs p q run same le kept = record {
   keys = kept.keys;
-  served = λ k d is. let may = kept.served k d is in record { true_now = subst (λ h. IsTrue d h) (sym same) may.true_now; start = λ of_delta. omega (arith, may.start of_delta, le) };
+  served = λ k d is. let may = kept.served k d is in record { true_now = subst (λ (x : ℕ × List Entry). IsTrue x.0 d x.1) (λ i. (sym run i, sym same i)) may.true_now; start = λ of_delta. omega (arith, may.start of_delta, le) };
 }
 
 -- what is dropped isn't there, and the rest is as it was
@@ -149,7 +149,7 @@ forgets_in s h stands (Some c) old new is = record {
   max = is.max;
 }
 
-module _ (on : Bool) (p q : Past) (c : Entry) (old new : Docs) (forgets : Forgets (get (reg (history p))) (Some c) old new) (same : history q ≡ history p ++ c ∷ []) (le : p.base ≤ q.base) (kept : AreKept on old.docs p) where
+module _ (on : Bool) (p q : Past) (c : Entry) (old new : Docs) (forgets : Forgets (get (reg (history p))) (Some c) old new) (run : q.run ≡ p.run) (same : history q ≡ history p ++ c ∷ []) (le : p.base ≤ q.base) (kept : AreKept on old.docs p) where
   module _ (k : DocKey) (d : Payload) (is : get new.docs k ≡ Some d) where
     before : (is_named (get (reg (history p)) (key_of c)) (Some c.0) (asked_by k.query) ≡ false) × (get old.docs k ≡ Some d)
     before = there_before _ _ d (sym (forgets.docs k) ∙ is)
@@ -161,7 +161,8 @@ module _ (on : Bool) (p q : Past) (c : Entry) (old new : Docs) (forgets : Forget
     served_on =
         let may = kept.served k d before.1 in
         let key = kept.keys k d before.1 in record {
-          true_now = subst (λ h. IsTrue d h) (sym same) (stays_true on d.key.query d.text d.base d.version d.key.form (history p) c unnamed (ap (λ (x : DocKey). is_cached on x.query) key.0 ∙ key.1) may.true_now);
+          true_now = (may.true_now.0 ∙ sym run, subst (λ h. IsTrueFor d.key.query d.text d.base d.version d.key.form h) (sym same)
+              (stays_true on d.key.query d.text d.base d.version d.key.form (history p) c unnamed (ap (λ (x : DocKey). is_cached on x.query) key.0 ∙ key.1) may.true_now.1));
           start = λ of_delta. omega (arith, may.start of_delta, le);
         }
 
@@ -170,9 +171,9 @@ module _ (on : Bool) (p q : Past) (c : Entry) (old new : Docs) (forgets : Forget
 
 -- what is kept after an operation
 pub docs_after : (on : Bool) (p : Past) (most now : ℕ) (ask : Ask) (o : Option Entry) (old new : Docs) → Forgets (get (reg (history p))) o old new → AreKept on old.docs p → AreKept on new.docs (with_done most p now ask o)
-docs_after on p most now ask None old new is kept = moved_on on new.docs p (with_done most p now ask None) refl (omega arith) (subst (λ (v : Docs). AreKept on v.docs p) (sym is) kept)
+docs_after on p most now ask None old new is kept = moved_on on new.docs p (with_done most p now ask None) refl refl (omega arith) (subst (λ (v : Docs). AreKept on v.docs p) (sym is) kept)
 docs_after on p most now ask (Some c) old new forgets kept =
-    changed on p (with_done most p now ask (Some c)) c old new forgets (map-append (λ (t : Timed). t.0) p.timed ((c, now) ∷ [])) (omega arith) kept
+    changed on p (with_done most p now ask (Some c)) c old new forgets refl (map-append (λ (t : Timed). t.0) p.timed ((c, now) ∷ [])) (omega arith) kept
 
 -- ---- what is kept of a load
 
@@ -229,16 +230,16 @@ pub is_not_kept : (s : Docs) (k : DocKey) (d : Payload) → get s.docs k ≡ Non
 is_not_kept s k d none = subst (λ (o : Option Payload). IfSome o (λ e. d ≡ e)) (sym none) tt
 
 -- a kept document isn't refused
-pub allowed : (on : Bool) (q : Query) (h : List Entry) (d : Payload) → d.key.query ≡ q → IsTrue d h → (is_delta q ≡ true → on ≡ true) → refusal_of on q h ≡ None
-allowed on q h d key true_now deltas = one (is_delta q) refl
+pub allowed : (run : ℕ) (on : Bool) (q : Query) (h : List Entry) (d : Payload) → d.key.query ≡ q → IsTrue run d h → (is_delta q ≡ true → on ≡ true) → refusal_of on q h ≡ None
+allowed run on q h d key true_now deltas = one (is_delta q) refl
   where
     there : is_absent (reg h) (asked_by q) ≡ false
-    there = ap (λ x. is_absent (reg h) (asked_by x)) (sym key) ∙ true_now.means.there
+    there = ap (λ x. is_absent (reg h) (asked_by x)) (sym key) ∙ true_now.1.means.there
 
     one : (b : Bool) → is_delta q ≡ b → cond b (cond on None (Some DeltaDisabled)) (cond (is_absent (reg h) (asked_by q)) (Some NotFound) None) ≡ None
     one true e = ap (λ x. cond x None (Some DeltaDisabled)) (deltas e)
     one false e = ap (λ x. cond x (Some NotFound) None) there
 
 -- a document that is written now
-pub written_now : (s : core.State) (p : Past) (d : Payload) → core.StandsFor s p → IsTrue d (history p) → (is_delta d.key.query ≡ true → d.base ≡ s.queue.base) → MayServe d p
+pub written_now : (s : core.State) (p : Past) (d : Payload) → core.StandsFor s p → IsTrue p.run d (history p) → (is_delta d.key.query ≡ true → d.base ≡ s.queue.base) → MayServe d p
 written_now s p d stands true_now base = record { true_now = true_now; start = λ of_delta. omega (arith, base of_delta, stands.queue.base) }

@@ -39,10 +39,10 @@ some_on (Some r) p f = f p
 gone_key : (j k : DocKey) (p : Past) → IsCopied k (copied.Drop j) p → is_absent (reg (history p)) (asked_by j.query) ≡ true
 gone_key j k p it = subst (λ (x : DocKey). is_absent (reg (history p)) (asked_by x.query) ≡ true) (sym it.0) it.1
 
-pub first_levels : (s : State) (next : Edition) → StandsFor s nothing → s.rounds ≡ record { edition = empty; round = None } → AreLevels s next [] [] nothing
-first_levels s next stands rounds = record {
+pub first_levels : (run : ℕ) (s : State) (next : Edition) → StandsFor s (nothing run) → s.rounds ≡ record { edition = empty; round = None } → AreLevels s next [] [] (nothing run)
+first_levels run s next stands rounds = record {
   stands = stands;
-  pressed = subst (λ (r : Rounds). IsPressed [] [] [] r.edition r.round) (sym rounds) first_pressed;
+  pressed = subst (λ (r : Rounds). IsPressed run [] [] [] r.edition r.round) (sym rounds) (first_pressed run);
   copied = subst (λ (r : Rounds). IfSome r.round (λ _. next ≡ copied_in [])) (sym rounds) tt;
 }
 
@@ -51,39 +51,39 @@ module _ (old new : State) (next next' : Edition) (published pending : List Note
   whole = published ++ pending
 
   -- changes, or none
-  pub plain_levels : (q : Past) (cs : List Entry) → history q ≡ history p ++ cs → StandsFor new q → new.rounds ≡ old.rounds → next' ≡ next → AreLevels new next' published (pending ++ map change cs) q
-  plain_levels q cs more stands rounds same =
-      let pressed = plain_pressed published pending (history p) old.rounds.edition old.rounds.round cs levels.pressed in
+  pub plain_levels : (q : Past) (cs : List Entry) → q.run ≡ p.run → history q ≡ history p ++ cs → StandsFor new q → new.rounds ≡ old.rounds → next' ≡ next → AreLevels new next' published (pending ++ map change cs) q
+  plain_levels q cs run more stands rounds same =
+      let pressed = plain_pressed p.run published pending (history p) old.rounds.edition old.rounds.round cs levels.pressed in
       let stays : copied_in (published ++ (pending ++ map change cs)) ≡ copied_in whole = ap copied_in (sym (append_assoc published pending (map change cs))) ∙ copied_changes cs whole in
       let there : IfSome old.rounds.round (λ _. next' ≡ copied_in (published ++ (pending ++ map change cs))) = some_on old.rounds.round levels.copied (λ e. same ∙ e ∙ sym stays) in
       record {
         stands = stands;
-        pressed = subst (λ (t : List Entry × Rounds). IsPressed published (pending ++ map change cs) t.0 t.1.edition t.1.round) (λ i. (sym more i, sym rounds i)) pressed;
+        pressed = subst (λ (t : ℕ × List Entry × Rounds). IsPressed t.0 published (pending ++ map change cs) t.1 t.2.edition t.2.round) (λ i. (sym run i, sym more i, sym rounds i)) pressed;
         copied = subst (λ (r : Rounds). IfSome r.round (λ _. next' ≡ copied_in (published ++ (pending ++ map change cs)))) (sym rounds) there;
       }
 
   pub begun_levels : (n : ℕ) → Begins (round_keys old.rounds.edition old.docs) n old.rounds new.rounds → new ≡ record old { rounds = new.rounds } → next' ≡ empty → AreLevels new next' published (pending ++ begin ∷ []) p
   begun_levels n is rest none =
       let edition = old.rounds.edition in
-      let was : IsPressed published pending (history p) edition None = subst (IsPressed published pending (history p) edition) is.none levels.pressed in
+      let was : IsPressed p.run published pending (history p) edition None = subst (IsPressed p.run published pending (history p) edition) is.none levels.pressed in
       let fresh : copied_in (published ++ (pending ++ begin ∷ [])) ≡ empty = ap copied_in (sym (append_assoc published pending (begin ∷ []))) ∙ copied-begin whole in
       record {
         stands = stands_on old new p rest levels.stands;
-        pressed = subst (λ (r : Rounds). IsPressed published (pending ++ begin ∷ []) (history p) r.edition r.round) (sym is.round) (begun_pressed published pending (history p) edition old.docs was);
+        pressed = subst (λ (r : Rounds). IsPressed p.run published (pending ++ begin ∷ []) (history p) r.edition r.round) (sym is.round) (begun_pressed p.run published pending (history p) edition old.docs was);
         copied = subst (λ (r : Rounds). IfSome r.round (λ _. next' ≡ copied_in (published ++ (pending ++ begin ∷ [])))) (sym is.round) (none ∙ sym fresh);
       }
 
   -- a key is copied
   copied_on : (x : Note) (kept : Bool) (before after : Round) (key : DocKey) → old.rounds.round ≡ Some before → before.left ≡ key ∷ after.left → after.done ≡ before.done ++ (key, kept) ∷ []
-      → new.rounds ≡ record old.rounds { round = Some after } → new ≡ record old { rounds = new.rounds } → IsNoted published pending (history p) old.rounds.edition x key kept → next' ≡ copied_in (whole ++ x ∷ []) → AreLevels new next' published (pending ++ x ∷ []) p
+      → new.rounds ≡ record old.rounds { round = Some after } → new ≡ record old { rounds = new.rounds } → IsNoted p.run published pending (history p) old.rounds.edition x key kept → next' ≡ copied_in (whole ++ x ∷ []) → AreLevels new next' published (pending ++ x ∷ []) p
   copied_on x kept before after key was first done is rest noted put =
       let edition = old.rounds.edition in
       let there : old.rounds.round ≡ Some (record { done = before.done; left = key ∷ after.left }) = was ∙ (λ i. Some (record { done = before.done; left = first i })) in
-      let pressed = copied_pressed published pending (history p) edition x before.done key kept after.left noted (subst (IsPressed published pending (history p) edition) there levels.pressed) in
+      let pressed = copied_pressed p.run published pending (history p) edition x before.done key kept after.left noted (subst (IsPressed p.run published pending (history p) edition) there levels.pressed) in
       let rounds : new.rounds ≡ record { edition = edition; round = Some (record { done = before.done ++ (key, kept) ∷ []; left = after.left }) } = is ∙ (λ i. record { edition = edition; round = Some (record { done = done i; left = after.left }) }) in
       record {
         stands = stands_on old new p rest levels.stands;
-        pressed = subst (λ (r : Rounds). IsPressed published (pending ++ x ∷ []) (history p) r.edition r.round) (sym rounds) pressed;
+        pressed = subst (λ (r : Rounds). IsPressed p.run published (pending ++ x ∷ []) (history p) r.edition r.round) (sym rounds) pressed;
         copied = subst (λ (r : Rounds). IfSome r.round (λ _. next' ≡ copied_in (published ++ (pending ++ x ∷ [])))) (sym rounds) (put ∙ ap copied_in (append_assoc published pending (x ∷ [])));
       }
 
@@ -108,12 +108,12 @@ module _ (old new : State) (next next' : Edition) (published pending : List Note
 
   -- the round ends
   module _ (n : ℕ) (is : Ends n old.rounds new.rounds) where
-    at_end : IsPressed published pending (history p) old.rounds.edition (Some (record { done = is.round.done; left = [] }))
+    at_end : IsPressed p.run published pending (history p) old.rounds.edition (Some (record { done = is.round.done; left = [] }))
     at_end =
         let there : old.rounds.round ≡ Some (record { done = is.round.done; left = [] }) = is.was ∙ (λ i. Some (record { done = is.round.done; left = is.whole i })) in
-        subst (IsPressed published pending (history p) old.rounds.edition) there levels.pressed
+        subst (IsPressed p.run published pending (history p) old.rounds.edition) there levels.pressed
 
-    pub ended_legal : IsLegal whole
+    pub ended_legal : IsLegal p.run whole
     ended_legal = levels.pressed.legal
 
     pub ended_publishable : IsPublishable whole
@@ -129,7 +129,7 @@ module _ (old new : State) (next next' : Edition) (published pending : List Note
     pub ended_levels : new ≡ record old { rounds = new.rounds } → AreLevels new next' whole [] p
     ended_levels rest = record {
       stands = stands_on old new p rest levels.stands;
-      pressed = subst (λ (r : Rounds). IsPressed whole [] (history p) r.edition r.round) (sym is.edition) (published_pressed published pending (history p) old.rounds.edition is.round.done at_end);
+      pressed = subst (λ (r : Rounds). IsPressed p.run whole [] (history p) r.edition r.round) (sym is.edition) (published_pressed p.run published pending (history p) old.rounds.edition is.round.done at_end);
       copied = subst (λ (r : Rounds). IfSome r.round (λ _. next' ≡ copied_in (whole ++ []))) (sym is.edition) tt;
     }
 

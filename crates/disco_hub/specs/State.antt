@@ -35,9 +35,9 @@ version_of s = s.core.registry.version
 abbrev pub open_round : State → Option Round
 open_round s = s.rounds.round
 
--- a document may be served after what has happened: it is true, and a delta starts no later than the queue does
+-- a document may be served after what has happened: it is of the run and true, and a delta starts no later than the queue does
 pub record MayServe (d : Payload) (p : Past) : Type 0 where
-  pub true_now : IsTrue d (history p)
+  pub true_now : IsTrue p.run d (history p)
   pub start : is_delta d.key.query ≡ true → d.base ≤ p.base
 
 -- documents of single instances are cached nowhere, and deltas only where they are served
@@ -56,9 +56,9 @@ pub record StandsFor (s : State) (p : Past) : Type 0 where
   pub core : core.StandsFor s.core p
   pub docs : AreKept s.core.delta s.docs.docs p
 
--- nothing has happened to it, no document is kept and none was published, and no round is open
+-- nothing has happened to it in its run, no document is kept and none was published, and no round is open
 pub record IsEmptyHub (settings : Settings) (s : State) : Type 0 where
-  pub stands : StandsFor s nothing
+  pub stands : StandsFor s (nothing settings.run)
   pub rules : rules_of s ≡ core.rules settings
   pub docs : s.docs ≡ record { docs = empty; max = settings.entries }
   pub rounds : s.rounds ≡ record { edition = empty; round = None }

@@ -57,7 +57,7 @@ impl Model for Hub {
 }
 
 impl Hub {
-    /// An empty registry within the limits of the settings.
+    /// An empty registry within the limits of the settings, in their run.
     pub fn new(alloc: Global, settings: &Settings) -> Hub
         ensures { IsEmptyHub settings.now result }
     {
@@ -67,6 +67,14 @@ impl Hub {
             cache: DocCache::new(alloc, settings.entries),
             rounds: Rounds::new(alloc),
         }
+    }
+
+    /// The number of this run of the server.
+    pub fn run(&self) -> u64
+        ensures run { result ≡ self.now.core.run }
+        ensures past { (p : Past) → StandsFor self.now p → result ≡ p.run }
+    {
+        self.core.run()
     }
 
     /// How many changes were accepted.

@@ -13,7 +13,7 @@ returns c =
       history = λ p stands.
           let was = subst (λ (s : State). StandsFor s p) (sym c.self.view_is) stands in
           let after = cleaned c.self.inside.core.retention p c.args.now in
-          let on : StandsFor new after = record { core = c.clean.ensures.history p was.core; docs = subst (λ b. AreKept b c.self.inside.cache.docs after) (sym (ap (λ (l : Rules). l.delta) c.clean.ensures.rules)) (moved_on c.self.inside.core.delta c.self.inside.cache.docs p after refl (omega arith) was.docs) } in
+          let on : StandsFor new after = record { core = c.clean.ensures.history p was.core; docs = subst (λ b. AreKept b c.self.inside.cache.docs after) (sym (ap (λ (l : Rules). l.delta) c.clean.ensures.rules)) (moved_on c.self.inside.core.delta c.self.inside.cache.docs p after refl refl (omega arith) was.docs) } in
           subst (λ (s : State). StandsFor new (cleaned s.core.retention p c.args.now)) c.self.view_is on;
       registry = c.clean.ensures.registry ∙ ap (λ (s : State). s.core.registry) c.self.view_is;
       docs = ap (λ (s : State). s.docs) c.self.view_is;

@@ -10,7 +10,7 @@ returns c = record {
   kept = λ p stands. c.close_minute.ensures.kept p (subst (λ (s : State). StandsFor s p) (sym c.self.view_is) stands).core;
   history = λ p stands.
       let was = subst (λ (s : State). StandsFor s p) (sym c.self.view_is) stands in
-      record { core = c.close_minute.ensures.history p was.core; docs = subst (λ b. AreKept b c.self.inside.cache.docs (minute_closed p)) (sym (ap (λ (l : Rules). l.delta) c.close_minute.ensures.rules)) (moved_on c.self.inside.core.delta c.self.inside.cache.docs p (minute_closed p) refl (omega arith) was.docs) };
+      record { core = c.close_minute.ensures.history p was.core; docs = subst (λ b. AreKept b c.self.inside.cache.docs (minute_closed p)) (sym (ap (λ (l : Rules). l.delta) c.close_minute.ensures.rules)) (moved_on c.self.inside.core.delta c.self.inside.cache.docs p (minute_closed p) refl refl (omega arith) was.docs) };
   registry = c.close_minute.ensures.registry ∙ ap (λ (s : State). s.core.registry) c.self.view_is;
   docs = ap (λ (s : State). s.docs) c.self.view_is;
   rest = record {

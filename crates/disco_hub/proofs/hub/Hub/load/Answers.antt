@@ -25,7 +25,7 @@ returns-in-Some-clause-served c = record {
         | else-is_delta-via-else-is_delta w ↦ λ e. search (rules, w.if-is_delta, c.is_delta.ensures, e)
       ] in
       subst (λ (s : State). refusal_of s.core.delta c.args.key.now.query (history p) ≡ None) c.self.view_is
-      (allowed c.self.inside.core.delta c.args.key.now.query (history p) c.in-Some.doc.now.value (ap (λ (k : DocKey). k.query) c.in-Some.ensures.same_key) may.true_now deltas);
+      (allowed p.run c.self.inside.core.delta c.args.key.now.query (history p) c.in-Some.doc.now.value (ap (λ (k : DocKey). k.query) c.in-Some.ensures.same_key) may.true_now deltas);
 }
 
 pub returns-in-Some-clause-loads : goal.returns-in-Some-clause-loads
