@@ -4,10 +4,11 @@ use Rattle.disco_rounds.specs.Press.{Edition, IsLegal, IsPublishable, Note, edit
 use Rattle.disco_editions.specs.Rolls.{notes_in, publications}
 use Rattle.disco_editions.specs.declared.shown.Shown.{Shown}
 
--- the documents are the edition of these publications, which are legal and may be seen
+-- the documents are the edition of these publications, which are legal in one run and may be seen
 pub record IsEditionOf (ps : List (List Note)) (docs : Edition) : Type 0 where
   pub docs_are : docs ≡ edition_of (notes_in ps)
-  pub legal : IsLegal (notes_in ps)
+  pub run : ℕ
+  pub legal : IsLegal run (notes_in ps)
   pub publishable : IsPublishable (notes_in ps)
 
 -- they are those of publications of the desk of this name
