@@ -6,6 +6,7 @@ use Rattle.disco_history.specs.Change.{Entry}
 use Rattle.disco_registry.specs.Op.{Ask}
 use Rattle.disco_queue.specs.Timed.{Timed}
 use Rattle.disco_core.specs.Past.{Past, history, nothing, with_done}
+use Rattle.disco_core.proofs.Runs.{run_done}
 use Rattle.disco_hub.specs.Levels.{AreLevels}
 use Rattle.disco_rounds.specs.Press.{put_copy}
 use Rattle.disco_rounds.specs.Press.{Edition, IsLegal, IsPublishable, Note, begin, change, edition_of, note_of}
@@ -40,10 +41,10 @@ version_is s p stands = stands.core.registry.version
 
 module _ (printed : List (List Note)) (roll : Rolled) (hub hub' : State) (next next' : Edition) (n : ℕ) (kept : IsKept printed roll hub next n) where
   -- the changes cs, or none
-  pub plain_kept : (roll' : Rolled) (q : Past) (cs : List Entry) → history q ≡ history kept.past ++ cs → StandsFor hub' q → hub'.rounds ≡ hub.rounds → next' ≡ next
+  pub plain_kept : (roll' : Rolled) (q : Past) (cs : List Entry) → q.run ≡ kept.past.run → history q ≡ history kept.past ++ cs → StandsFor hub' q → hub'.rounds ≡ hub.rounds → next' ≡ next
       → roll' ≡ record roll { pending = roll.pending ++ map change cs } → IsKept printed roll' hub' next' (n + length cs)
-  plain_kept roll' q cs more stands rounds same is =
-      let levels = plain_levels hub hub' next next' (notes_in roll.published) roll.pending kept.past kept.levels q cs more stands rounds same in
+  plain_kept roll' q cs run more stands rounds same is =
+      let levels = plain_levels hub hub' next next' (notes_in roll.published) roll.pending kept.past kept.levels q cs run more stands rounds same in
       record {
         shown = kept.shown ∙ ap (λ (r : Rolled). r.published) (sym is);
         past = q;
@@ -52,22 +53,22 @@ module _ (printed : List (List Note)) (roll : Rolled) (hub hub' : State) (next n
       }
 
   -- nothing that is noted
-  pub quiet_kept : (q : Past) → history q ≡ history kept.past → StandsFor hub' q → hub'.rounds ≡ hub.rounds → next' ≡ next → IsKept printed roll hub' next' n
-  quiet_kept q same stands rounds next_same =
+  pub quiet_kept : (q : Past) → q.run ≡ kept.past.run → history q ≡ history kept.past → StandsFor hub' q → hub'.rounds ≡ hub.rounds → next' ≡ next → IsKept printed roll hub' next' n
+  quiet_kept q run same stands rounds next_same =
       subst (λ m. IsKept printed roll hub' next' m) (omega arith)
-      (plain_kept roll q [] (same ∙ sym (append-nil (history kept.past))) stands rounds next_same (λ i. record { published = roll.published; pending = sym (append-nil roll.pending) i }))
+      (plain_kept roll q [] run (same ∙ sym (append-nil (history kept.past))) stands rounds next_same (λ i. record { published = roll.published; pending = sym (append-nil roll.pending) i }))
 
   -- an accepted operation
   pub written_kept : (roll' : Rolled) (most now : ℕ) (ask : Ask) (o : Option Entry) → ((p : Past) → StandsFor hub p → StandsFor hub' (with_done most p now ask o)) → hub'.rounds ≡ hub.rounds → next' ≡ next
       → roll' ≡ record roll { pending = roll.pending ++ note_done o } → IsKept printed roll' hub' next' (n + length (changes_done o))
   written_kept roll' most now ask o stands rounds same is =
-      plain_kept roll' (with_done most kept.past now ask o) (changes_done o) (history_done most kept.past now ask o) (stands kept.past kept.levels.stands) rounds same
+      plain_kept roll' (with_done most kept.past now ask o) (changes_done o) (run_done most kept.past now ask o) (history_done most kept.past now ask o) (stands kept.past kept.levels.stands) rounds same
       (is ∙ (λ i. record { published = roll.published; pending = roll.pending ++ sym (noted_is o) i }))
 
   -- an accepted operation that makes no change
   pub same_kept : (most now : ℕ) (ask : Ask) → ((p : Past) → StandsFor hub p → StandsFor hub' (with_done most p now ask None)) → hub'.rounds ≡ hub.rounds → next' ≡ next → IsKept printed roll hub' next' n
   same_kept most now ask stands rounds same =
-      quiet_kept (with_done most kept.past now ask None) (history_done most kept.past now ask None ∙ append-nil (history kept.past)) (stands kept.past kept.levels.stands) rounds same
+      quiet_kept (with_done most kept.past now ask None) (run_done most kept.past now ask None) (history_done most kept.past now ask None ∙ append-nil (history kept.past)) (stands kept.past kept.levels.stands) rounds same
 
   -- a round begins
   pub begun_kept : (roll' : Rolled) (many : ℕ) → BeginsRound hub hub' many → next' ≡ empty
@@ -99,7 +100,8 @@ module _ (printed : List (List Note)) (roll : Rolled) (hub hub' : State) (next n
         let same = whole_is ps is in
         record {
           docs_are = ended_edition hub hub' next next' (notes_in roll.published) roll.pending kept.past kept.levels many ends ∙ ap edition_of (sym same);
-          legal = subst IsLegal (sym same) (ended_legal hub hub' next next' (notes_in roll.published) roll.pending kept.past kept.levels many ends);
+          run = kept.past.run;
+          legal = subst (IsLegal kept.past.run) (sym same) (ended_legal hub hub' next next' (notes_in roll.published) roll.pending kept.past kept.levels many ends);
           publishable = subst IsPublishable (sym same) (ended_publishable hub hub' next next' (notes_in roll.published) roll.pending kept.past kept.levels many ends);
         }
 
@@ -117,10 +119,10 @@ module _ (printed : List (List Note)) (roll : Rolled) (hub hub' : State) (next n
         }
 
 -- nothing was noted yet
-pub new_kept : (printed : List (List Note)) (roll : Rolled) (hub : State) (next : Edition) (n : ℕ) → printed ≡ [] → roll.published ≡ [] → roll.pending ≡ [] → StandsFor hub nothing → hub.rounds ≡ record { edition = empty; round = None } → n ≡ 0 → IsKept printed roll hub next n
-new_kept printed roll hub next n none none' none'' stands rounds zero = record {
+pub new_kept : (run : ℕ) (printed : List (List Note)) (roll : Rolled) (hub : State) (next : Edition) (n : ℕ) → printed ≡ [] → roll.published ≡ [] → roll.pending ≡ [] → StandsFor hub (nothing run) → hub.rounds ≡ record { edition = empty; round = None } → n ≡ 0 → IsKept printed roll hub next n
+new_kept run printed roll hub next n none none' none'' stands rounds zero = record {
   shown = none ∙ sym none';
-  past = nothing;
-  levels = subst (λ (t : List (List Note) × List Note). AreLevels hub next (notes_in t.0) t.1 nothing) (λ i. (sym none' i, sym none'' i)) (first_levels hub next stands rounds);
-  version = version_is hub nothing stands ∙ sym zero;
+  past = nothing run;
+  levels = subst (λ (t : List (List Note) × List Note). AreLevels hub next (notes_in t.0) t.1 (nothing run)) (λ i. (sym none' i, sym none'' i)) (first_levels run hub next stands rounds);
+  version = version_is hub (nothing run) stands ∙ sym zero;
 }

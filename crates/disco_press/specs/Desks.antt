@@ -22,7 +22,7 @@ notes_of d = notes_in d.published ++ d.pending
 pub record IsValid (d : DeskState) : Type 0 where
   pub past : Past
   pub stands : StandsFor d.hub past
-  pub pressed : IsPressed (notes_in d.published) d.pending (history past) d.hub.rounds.edition d.hub.rounds.round
+  pub pressed : IsPressed past.run (notes_in d.published) d.pending (history past) d.hub.rounds.edition d.hub.rounds.round
   pub version : version_of d.hub ≡ d.by_seats + d.by_none
 
 -- this is noted, and nothing is published

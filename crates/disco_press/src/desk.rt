@@ -3,7 +3,8 @@ ghost use Rattle.std.specs.Prelude.{◌≡◌, ◌≤◌, [], IfErr, IfOk, OnErr
 ghost use Rattle.std.specs.FinMap as finmap;
 ghost use mathlib.Core.List.{IsPrefix};
 ghost use Rattle.disco_core.specs.Refusals.{doc_of_key};
-ghost use Rattle.disco_hub.specs.State.{IsEmptyHub, rules_of, version_of};
+ghost use Rattle.disco_core.specs.Past.{Past};
+ghost use Rattle.disco_hub.specs.State.{IsEmptyHub, StandsFor, rules_of, version_of};
 ghost use Rattle.disco_hub.specs.Transitions.{Cleans, Closes, IsDocOf, IsDocOfId, Loads, Withholds, WithholdsId};
 ghost use Rattle.disco_press.specs.Desks.{IsValid, NotesNothing, notes_of};
 
@@ -75,6 +76,14 @@ impl<J: Naming> Desk<J> {
             book,
             loose: 0,
         }
+    }
+
+    /// The number of this run of the server. Takes no memory.
+    pub fn run(&self) -> u64
+        ensures run { result ≡ self.now.hub.core.run }
+        ensures past { (p : Past) → StandsFor self.now.hub p → result ≡ p.run }
+    {
+        self.hub.run()
     }
 
     /// What holds of every desk. Does nothing.

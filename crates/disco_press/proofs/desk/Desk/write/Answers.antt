@@ -13,7 +13,7 @@ pub invariant_of-self : goal.invariant_of-self
 invariant_of-self g c =
     let i = c.self.inside in
     let k = c.self.invariant in
-    quiet_kept i.printer i.roll i.hub c.write.new.self i.next i.next _ k k.past refl (c.in_err-applied.ensures.refused.history k.past k.levels.stands) c.write.ensures.rest.rounds refl
+    quiet_kept i.printer i.roll i.hub c.write.new.self i.next i.next _ k k.past refl refl (c.in_err-applied.ensures.refused.history k.past k.levels.stands) c.write.ensures.rest.rounds refl
 
 pub invariant_of-self-in-Changed : goal.invariant_of-self-in-Changed
 invariant_of-self-in-Changed g c =
