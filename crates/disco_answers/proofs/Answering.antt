@@ -56,7 +56,7 @@ module _ (old new : State) (now : ℕ) (y : Answer) where
     told p stands is = (p, inl (row p p (is, refl)), on p stands)
 
     pub served : (r : Result (Arc Payload Global) Fault) → IfOk r (λ d. (p : Past) → StandsFor old p → asked p ≡ Ok d.value.key) → IfOk r (λ d. (p : Past) → StandsFor old p → MayServe d.value p)
-        → IfErr r (λ e. e ≢ OutOfMemory → (p : Past) → StandsFor old p → asked p ≡ Err e) → MatchResult r (λ d. y ≡ with_document d.value.text) (λ e. y ≡ refused e) → IsAnswered old new (Ok want) now y
+        → IfErr r (λ e. e ≢ OutOfMemory → (p : Past) → StandsFor old p → asked p ≡ Err e) → MatchResult r (λ d. y ≡ with_document d.value) (λ e. y ≡ refused e) → IsAnswered old new (Ok want) now y
     served (Ok d) allowed may why is = λ p stands. told p stands (subst (λ r. Shows p r y) (sym (allowed p stands)) (d.value, refl, may p stands, is))
     served (Err e) allowed may why is = λ p stands. elim (memory_or e) [
       | inl memory ↦ (p, inr (is ∙ ap refused memory, refl), on p stands)
@@ -95,7 +95,7 @@ refused_so s asked e now y why is = λ p stands.
 
 -- a load of a key
 pub load_so : (old new : State) (key : DocKey) (now : ℕ) (y : Answer) (r : Result (Arc Payload Global) Fault) → IfOk r (λ d. IsDocOf old (rules_of old).delta key d.value) → IfErr r (Withholds old (rules_of old).delta key)
-    → MatchResult r (λ d. y ≡ with_document d.value.text) (λ e. y ≡ refused e) → ((p : Past) → StandsFor old p → StandsFor new p) → IsAnswered old new (Ok (loads key)) now y
+    → MatchResult r (λ d. y ≡ with_document d.value) (λ e. y ≡ refused e) → ((p : Past) → StandsFor old p → StandsFor new p) → IsAnswered old new (Ok (loads key)) now y
 load_so old new key now y (Ok d) may why shown on =
     served old new now y (loads key) (λ p. document_of (rules_of old).delta key (history p)) (λ p q so. so) on (Ok d) (λ p stands. ap (unless (Some key)) (may.allowed p stands) ∙ ap (λ k. Ok k) (sym may.key)) may.served tt shown
 load_so old new key now y (Err e) may why shown on =
@@ -103,7 +103,7 @@ load_so old new key now y (Err e) may why shown on =
 
 -- the document of an instance
 pub instance_so : (s : State) (key : Key) (form : Form) (now : ℕ) (y : Answer) (r : Result (Arc Payload Global) Fault) → IfOk r (λ d. IsDocOf s true (doc_of_key key form) d.value) → IfErr r (Withholds s true (doc_of_key key form))
-    → MatchResult r (λ d. y ≡ with_document d.value.text) (λ e. y ≡ refused e) → IsAnswered s s (Ok (shows key form)) now y
+    → MatchResult r (λ d. y ≡ with_document d.value) (λ e. y ≡ refused e) → IsAnswered s s (Ok (shows key form)) now y
 instance_so s key form now y (Ok d) may why shown =
     served s s now y (shows key form) (λ p. document_of true (doc_of_key key form) (history p)) (λ p q so. so) (λ p stands. stands) (Ok d) (λ p stands. ap (unless (Some (doc_of_key key form))) (may.allowed p stands) ∙ ap (λ k. Ok k) (sym may.key)) may.served tt shown
 instance_so s key form now y (Err e) may why shown =
@@ -111,7 +111,7 @@ instance_so s key form now y (Err e) may why shown =
 
 -- the document of the instance of an id
 pub by_id_so : (s : State) (id : List ℕ) (form : Form) (now : ℕ) (y : Answer) (r : Result (Arc Payload Global) Fault) → IfOk r (λ d. IsDocOfId s id form d.value) → IfErr r (WithholdsId s id)
-    → MatchResult r (λ d. y ≡ with_document d.value.text) (λ e. y ≡ refused e) → IsAnswered s s (Ok (shows_id id form)) now y
+    → MatchResult r (λ d. y ≡ with_document d.value) (λ e. y ≡ refused e) → IsAnswered s s (Ok (shows_id id form)) now y
 by_id_so s id form now y (Ok d) may why shown =
     served s s now y (shows_id id form) (λ p. document_of_id id form (history p)) (λ p q so. so) (λ p stands. stands) (Ok d) (λ p stands. ap (unless (doc_of_id id form (history p))) (may.allowed p stands) ∙ ap (λ k. unless k None) (may.key p stands)) may.served tt shown
 by_id_so s id form now y (Err e) may why shown =

@@ -49,7 +49,7 @@ pub record IsLooked (before after : SeatState) (asked : Result Asks Fault) (y : 
   pub doc : Arc Payload Global
   pub asks : asked ≡ Ok (loads key)
   pub found : Shows (notes_in after.known) key (Doc doc)
-  pub replied : y ≡ with_document doc.value.text
+  pub replied : y ≡ with_document doc.value
   pub counted : after.changes ≡ before.changes
   pub heard : after.heard ≡ before.heard
 

@@ -8,6 +8,7 @@ use Rattle.disco_history.specs.Change.{Entry}
 use Rattle.disco_registry.specs.Accept.{accept_after}
 use Rattle.disco_registry.specs.Op.{Ask, register}
 use Rattle.disco_query.specs.declared.key.DocKey.{DocKey}
+use Rattle.disco_cache.specs.Payloads.{cert_of}
 use Rattle.disco_cache.specs.declared.payload.Payload.{Payload}
 use Rattle.disco_core.specs.Past.{Past, history, with_done}
 use Rattle.disco_core.specs.Refusals.{doc_of_id, doc_of_key, refusal_of, refusal_of_id}
@@ -27,18 +28,18 @@ text_in s = (arc_value s.payload).text
 
 -- a status alone
 abbrev pub plain : StatusLine → Answer
-plain status = record { status = status; allow = None; document = None }
+plain status = record { status = status; allow = None; document = None; cert = None }
 
 abbrev pub refused : Fault → Answer
 refused fault = plain (refusal fault)
 
 -- the path has these methods
 abbrev pub lacking : Allow → Answer
-lacking allow = record { status = MethodNotAllowed; allow = Some allow; document = None }
+lacking allow = record { status = MethodNotAllowed; allow = Some allow; document = None; cert = None }
 
--- a document
-abbrev pub with_document : List ℕ → Answer
-with_document text = record { status = Success; allow = None; document = Some text }
+-- a document, with its certificate
+abbrev pub with_document : Payload → Answer
+with_document d = record { status = Success; allow = None; document = Some d.text; cert = Some (cert_of d) }
 
 -- a registration has no content, each other operation that is accepted is a success
 abbrev pub success_of : Ask → StatusLine
@@ -61,7 +62,7 @@ document_of on key h = unless (Some key) (refusal_of on key.query h)
 -- the document may be served, or the cause against it is told
 abbrev pub Shows : Past → Result DocKey Fault → Answer → Type 0
 Shows p (Err fault) y = y ≡ refused fault
-Shows p (Ok key) y = (d : Payload) × (d.key ≡ key) × MayServe d p × (y ≡ with_document d.text)
+Shows p (Ok key) y = (d : Payload) × (d.key ≡ key) × MayServe d p × (y ≡ with_document d)
 
 -- an operation that is accepted has happened afterwards, one that isn't is refused
 abbrev pub Does : Rules → Past → Ask → ℕ → Result (Option Entry) Fault → Answer → Past → Type 0

@@ -20,6 +20,7 @@ fn plain(status: StatusLine) -> Reply<Shared>
         status,
         allow: None,
         document: None,
+        cert: None,
     }
 }
 
@@ -38,17 +39,19 @@ pub(crate) fn lacking(allow: Allow) -> Reply<Shared>
         status: StatusLine::MethodNotAllowed,
         allow: Some(allow),
         document: None,
+        cert: None,
     }
 }
 
-/// The reply to the load of a document.
+/// The reply to the load of a document, with the certificate of that.
 pub(crate) fn showing(loaded: Result<Arc<Payload, Global>, Fault>) -> Reply<Shared>
-    ensures { MatchResult loaded (λ d. answer_of text_in result ≡ with_document d.value.text) (λ e. answer_of text_in result ≡ refused e) }
+    ensures { MatchResult loaded (λ d. answer_of text_in result ≡ with_document d.value) (λ e. answer_of text_in result ≡ refused e) }
 {
     match loaded {
         Ok(payload) => Reply {
             status: StatusLine::Success,
             allow: None,
+            cert: Some(payload.cert()),
             document: Some(Shared { payload }),
         },
         Err(fault) => refused(fault),
