@@ -20,6 +20,7 @@ fn document(alloc: Global, key: DocKey) -> Result<Arc<Payload, Global>, Fault> {
         alloc,
         Payload {
             key,
+            run: 0,
             base: 1,
             version: 1,
             text: Bytes::from_vec(Vec::new(alloc)),

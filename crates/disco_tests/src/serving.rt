@@ -114,6 +114,7 @@ impl Service for Clerk {
             status: StatusLine::Success,
             allow: None,
             document: Some(Page),
+            cert: None,
         }
     }
 }
