@@ -15,12 +15,16 @@ Counts before now r = MatchResult r (λ _. now ≡ before) (λ _. Raises before 
 abbrev pub Cause : {A : Type 0} → Fault → ℕ → ℕ → Result A Fault → Type 0
 Cause fault before now r = IsErrOf r fault → Raises before now
 
--- the faults with which a message, or the reading of it, is refused
-abbrev pub is_of_reading : Fault → Bool
-is_of_reading OutOfMemory = true
-is_of_reading HeadTooLarge = true
-is_of_reading BodyTooLarge = true
-is_of_reading BadRequest = true
-is_of_reading UnsupportedCoding = true
-is_of_reading ReadFailed = true
-is_of_reading other = false
+-- the faults with which a reply, or a body, or the reading of them, is refused
+abbrev pub is_of_reply : Fault → Bool
+is_of_reply OutOfMemory = true
+is_of_reply HeadTooLarge = true
+is_of_reply BodyTooLarge = true
+is_of_reply BadRequest = true
+is_of_reply ReadFailed = true
+is_of_reply other = false
+
+-- those of a request: it may have a coding that isn't supported too
+abbrev pub is_of_request : Fault → Bool
+is_of_request UnsupportedCoding = true
+is_of_request other = is_of_reply other

@@ -4,7 +4,7 @@ ghost use Rattle.std.specs.Io.KnownBytes.{Consumes};
 ghost use Rattle.httparse.specs.Ascii.{crlf_bytes};
 ghost use Rattle.disco_values.specs.declared.fault.Fault.TheVariants.{ReadFailed};
 ghost use Rattle.disco_message.specs.declared.framing.Framing.TheVariants.{Chunked};
-ghost use Rattle.disco_reader.specs.Causes.{Cause, is_of_reading};
+ghost use Rattle.disco_reader.specs.Causes.{Cause, is_of_reply};
 
 use crate::looking::{Found, Part};
 use crate::reader::Reader;
@@ -34,7 +34,7 @@ impl<R: Source> Reader<R> {
         ensures refused { IfErr result (λ fault. IfSome (ahead R.remaining self.old) (SizeRefused self.old.limits fault)) }
         ensures broken { IsErrOf result ReadFailed → IfSome (ahead R.remaining self.old) (λ input. Came (HasNo SizeLine) input (R.remaining self.new.source)) }
         ensures limits { self.new.limits ≡ self.old.limits }
-        ensures fault { IfErr result (λ fault. IsTrue (is_of_reading fault)) }
+        ensures fault { IfErr result (λ fault. IsTrue (is_of_reply fault)) }
         ensures cause { Cause ReadFailed (R.failed self.old.source) (R.failed self.new.source) result }
         ensures none_failed { OnOk result (R.failed self.new.source ≡ R.failed self.old.source) }
     {
@@ -55,7 +55,7 @@ impl<R: Source> Reader<R> {
         ensures refused { IfErr result (λ fault. IfSome (ahead R.remaining self.old) (TrailerRefused self.old.limits fault)) }
         ensures broken { IsErrOf result ReadFailed → IfSome (ahead R.remaining self.old) (λ input. Came (HasNo Trailer) input (R.remaining self.new.source)) }
         ensures limits { self.new.limits ≡ self.old.limits }
-        ensures fault { IfErr result (λ fault. IsTrue (is_of_reading fault)) }
+        ensures fault { IfErr result (λ fault. IsTrue (is_of_reply fault)) }
         ensures cause { Cause ReadFailed (R.failed self.old.source) (R.failed self.new.source) result }
         ensures none_failed { OnOk result (R.failed self.new.source ≡ R.failed self.old.source) }
     {
@@ -76,7 +76,7 @@ impl<R: Source> Reader<R> {
         ensures refused { IfErr result (λ fault. IfSome (ahead R.remaining self.old) (DataRefused size fault)) }
         ensures broken { IsErrOf result ReadFailed → IfSome (ahead R.remaining self.old) (λ input. Came (λ given. length given < size + 2) input (R.remaining self.new.source)) }
         ensures limits { self.new.limits ≡ self.old.limits }
-        ensures fault { IfErr result (λ fault. IsTrue (is_of_reading fault)) }
+        ensures fault { IfErr result (λ fault. IsTrue (is_of_reply fault)) }
         ensures cause { Cause ReadFailed (R.failed self.old.source) (R.failed self.new.source) result }
         ensures none_failed { OnOk result (R.failed self.new.source ≡ R.failed self.old.source) }
     {
@@ -98,7 +98,7 @@ impl<R: Source> Reader<R> {
         ensures refused { IfErr result (λ fault. IfSome (ahead R.remaining self.old) (NextRefused self.old.limits (length body.old.items) fault)) }
         ensures broken { IsErrOf result ReadFailed → IfSome (ahead R.remaining self.old) (λ input. Came (HasNoChunks self.old.limits) input (R.remaining self.new.source)) }
         ensures limits { self.new.limits ≡ self.old.limits }
-        ensures fault { IfErr result (λ fault. IsTrue (is_of_reading fault)) }
+        ensures fault { IfErr result (λ fault. IsTrue (is_of_reply fault)) }
         ensures cause { Cause ReadFailed (R.failed self.old.source) (R.failed self.new.source) result }
         ensures none_failed { OnOk result (R.failed self.new.source ≡ R.failed self.old.source) }
     {
@@ -121,7 +121,7 @@ impl<R: Source> Reader<R> {
         ensures refused { IfErr result (λ fault. IfSome (ahead R.remaining self.old) (ChunksRefused self.old.limits fault)) }
         ensures broken { IsErrOf result ReadFailed → IfSome (ahead R.remaining self.old) (λ after. Came (HasNoChunks self.old.limits) after (R.remaining self.new.source)) }
         ensures limits { self.new.limits ≡ self.old.limits }
-        ensures fault { IfErr result (λ fault. IsTrue (is_of_reading fault)) }
+        ensures fault { IfErr result (λ fault. IsTrue (is_of_reply fault)) }
         ensures cause { Cause ReadFailed (R.failed self.old.source) (R.failed self.new.source) result }
         ensures none_failed { OnOk result (R.failed self.new.source ≡ R.failed self.old.source) }
     {

@@ -1,6 +1,6 @@
 //! What stands at the front of bytes: a head, a chunk's line, or the fields behind the last chunk.
 ghost use Rattle.std.specs.Prelude.{◌≡◌, ◌==◌, ◌&&◌, ◌||◌, ◌≤◌, ◌<◌, IfErr, IsFalse, IsTrue, false, length, take};
-ghost use Rattle.disco_reader.specs.Causes.{is_of_reading};
+ghost use Rattle.disco_reader.specs.Causes.{is_of_reply};
 ghost use Rattle.disco_reader.specs.Found.{Looked, has_empty_line, has_end};
 ghost use Rattle.disco_reader.specs.Parts.{HasNo};
 ghost use Rattle.disco_reader.specs.declared.looking.Part.TheVariants.{RequestHead, ReplyHead, SizeLine, Trailer};
@@ -95,7 +95,7 @@ pub(crate) fn look_at(
 ) -> Result<Option<Found>, Fault>
     ensures looked { Looked (length spans.old) part bytes.now spans.new result }
     ensures length { length spans.new ≡ length spans.old }
-    ensures fault { IfErr result (λ fault. IsTrue (is_of_reading fault)) }
+    ensures fault { IfErr result (λ fault. IsTrue (is_of_reply fault)) }
 {
     match part {
         Part::RequestHead => look_at_head(bytes, spans),
@@ -108,7 +108,7 @@ pub(crate) fn look_at(
 fn look_at_head(bytes: &[u8], spans: &mut [HeaderSpan]) -> Result<Option<Found>, Fault>
     ensures looked { Looked (length spans.old) RequestHead bytes.now spans.new result }
     ensures length { length spans.new ≡ length spans.old }
-    ensures fault { IfErr result (λ fault. IsTrue (is_of_reading fault)) }
+    ensures fault { IfErr result (λ fault. IsTrue (is_of_reply fault)) }
 {
     match parse_request(bytes, spans) {
         Ok(Status::Complete(head)) => Ok(Some(Found::RequestHead(head))),
@@ -121,7 +121,7 @@ fn look_at_head(bytes: &[u8], spans: &mut [HeaderSpan]) -> Result<Option<Found>,
 fn look_at_reply(bytes: &[u8], spans: &mut [HeaderSpan]) -> Result<Option<Found>, Fault>
     ensures looked { Looked (length spans.old) ReplyHead bytes.now spans.new result }
     ensures length { length spans.new ≡ length spans.old }
-    ensures fault { IfErr result (λ fault. IsTrue (is_of_reading fault)) }
+    ensures fault { IfErr result (λ fault. IsTrue (is_of_reply fault)) }
 {
     match parse_response(bytes, spans) {
         Ok(Status::Complete(head)) => Ok(Some(Found::ReplyHead(head))),
@@ -134,7 +134,7 @@ fn look_at_reply(bytes: &[u8], spans: &mut [HeaderSpan]) -> Result<Option<Found>
 fn look_at_line(bytes: &[u8], spans: &mut [HeaderSpan]) -> Result<Option<Found>, Fault>
     ensures looked { Looked (length spans.old) SizeLine bytes.now spans.new result }
     ensures length { length spans.new ≡ length spans.old }
-    ensures fault { IfErr result (λ fault. IsTrue (is_of_reading fault)) }
+    ensures fault { IfErr result (λ fault. IsTrue (is_of_reply fault)) }
 {
     match parse_chunk_size(bytes) {
         Ok(Status::Complete((len, size))) => Ok(Some(Found::SizeLine(len, size))),
@@ -146,7 +146,7 @@ fn look_at_line(bytes: &[u8], spans: &mut [HeaderSpan]) -> Result<Option<Found>,
 fn look_at_trailer(bytes: &[u8], spans: &mut [HeaderSpan]) -> Result<Option<Found>, Fault>
     ensures looked { Looked (length spans.old) Trailer bytes.now spans.new result }
     ensures length { length spans.new ≡ length spans.old }
-    ensures fault { IfErr result (λ fault. IsTrue (is_of_reading fault)) }
+    ensures fault { IfErr result (λ fault. IsTrue (is_of_reply fault)) }
 {
     match parse_headers(bytes, spans) {
         Ok(Status::Complete((len, _))) => Ok(Some(Found::Trailer(len))),

@@ -4,7 +4,7 @@ ghost use Rattle.std.specs.Io.KnownBytes.{prepend_known};
 ghost use Rattle.httparse.specs.Spans.{IsRequestOf, IsRequestWithin};
 ghost use Rattle.disco_values.specs.declared.fault.Fault.TheVariants.{BadRequest, UnsupportedCoding, OutOfMemory, ReadFailed};
 ghost use Rattle.disco_message.specs.declared.framing.Framing.TheVariants.{Sized};
-ghost use Rattle.disco_reader.specs.Causes.{Cause, is_of_reading};
+ghost use Rattle.disco_reader.specs.Causes.{Cause, is_of_reply, is_of_request};
 
 use crate::looking::{Found, Part};
 use crate::reader::Reader;
@@ -40,7 +40,7 @@ impl<R: Source> Reader<R> {
         ensures refused { IfErr result (λ fault. IfSome (ahead R.remaining self.old) (HeadRefused self.old.limits fault)) }
         ensures broken { IsErrOf result ReadFailed → IfSome (ahead R.remaining self.old) (λ stream. Came (HasNo part.RequestHead) stream (R.remaining self.new.source)) }
         ensures limits { self.new.limits ≡ self.old.limits }
-        ensures fault { IfErr result (λ fault. IsTrue (is_of_reading fault)) }
+        ensures fault { IfErr result (λ fault. IsTrue (is_of_request fault)) }
         ensures cause { Cause ReadFailed (R.failed self.old.source) (R.failed self.new.source) result }
         ensures none_failed { OnOk result (R.failed self.new.source ≡ R.failed self.old.source) }
     {
@@ -63,7 +63,7 @@ impl<R: Source> Reader<R> {
         ensures refused { IfErr result (λ fault. IfSome (ahead R.remaining self.old) (BodyRefused self.old.limits framing fault)) }
         ensures broken { IsErrOf result ReadFailed → IfSome (ahead R.remaining self.old) (λ after. Came (HasNoBody self.old.limits framing) after (R.remaining self.new.source)) }
         ensures limits { self.new.limits ≡ self.old.limits }
-        ensures fault { IfErr result (λ fault. IsTrue (is_of_reading fault)) }
+        ensures fault { IfErr result (λ fault. IsTrue (is_of_reply fault)) }
         ensures cause { Cause ReadFailed (R.failed self.old.source) (R.failed self.new.source) result }
         ensures none_failed { OnOk result (R.failed self.new.source ≡ R.failed self.old.source) }
     {
@@ -81,7 +81,7 @@ impl<R: Source> Reader<R> {
         ensures refused { IfErr result (λ fault. IfSome (ahead R.remaining self.old) (BodyRefused self.old.limits (Sized size) fault)) }
         ensures broken { IsErrOf result ReadFailed → IfSome (ahead R.remaining self.old) (λ after. Came (HasNoBody self.old.limits (Sized size)) after (R.remaining self.new.source)) }
         ensures limits { self.new.limits ≡ self.old.limits }
-        ensures fault { IfErr result (λ fault. IsTrue (is_of_reading fault)) }
+        ensures fault { IfErr result (λ fault. IsTrue (is_of_reply fault)) }
         ensures cause { Cause ReadFailed (R.failed self.old.source) (R.failed self.new.source) result }
         ensures none_failed { OnOk result (R.failed self.new.source ≡ R.failed self.old.source) }
     {
@@ -106,7 +106,7 @@ impl<R: Source> Reader<R> {
         ensures refused { IfErr result (λ fault. IfSome (ahead R.remaining self.old) (Refused self.old.limits fault)) }
         ensures broken { IsErrOf result ReadFailed → IfSome (ahead R.remaining self.old) (λ stream. Came (HasNone self.old.limits) stream (R.remaining self.new.source)) }
         ensures limits { self.new.limits ≡ self.old.limits }
-        ensures fault { IfErr result (λ fault. IsTrue (is_of_reading fault)) }
+        ensures fault { IfErr result (λ fault. IsTrue (is_of_request fault)) }
         ensures cause { Cause ReadFailed (R.failed self.old.source) (R.failed self.new.source) result }
         ensures none_failed { OnOk result (R.failed self.new.source ≡ R.failed self.old.source) }
     {
@@ -135,7 +135,7 @@ impl<R: Source> Reader<R> {
         ensures broken { IsErrOf result ReadFailed → IfSome (ahead R.remaining self.old) (λ stream. Came (HasNone (limits_of self.old)) stream (R.remaining (source_of self.new))) }
         ensures limits { limits_of self.new ≡ limits_of self.old }
         // A failed read has raised the count of failures.
-        ensures fault { IfErr result (λ fault. IsTrue (is_of_reading fault)) }
+        ensures fault { IfErr result (λ fault. IsTrue (is_of_request fault)) }
         ensures cause { Cause ReadFailed (R.failed (source_of self.old)) (R.failed (source_of self.new)) result }
         ensures none_failed { OnOk result (R.failed (source_of self.new) ≡ R.failed (source_of self.old)) }
         ensures spent { is_spent self.new ≡ is_err result }

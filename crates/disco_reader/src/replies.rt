@@ -4,7 +4,7 @@ ghost use Rattle.std.specs.Io.KnownBytes.{Consumes, prepend_known};
 ghost use Rattle.httparse.specs.Spans.{IsResponseOf, IsResponseWithin};
 ghost use Rattle.disco_values.specs.declared.fault.Fault.TheVariants.{BadRequest, BodyTooLarge, ReadFailed, OutOfMemory};
 ghost use Rattle.disco_message.specs.declared.received.Extent.TheVariants.{UntilEnd};
-ghost use Rattle.disco_reader.specs.Causes.{Cause, is_of_reading};
+ghost use Rattle.disco_reader.specs.Causes.{Cause, is_of_reply};
 
 use crate::looking::{Found, Part};
 use crate::reader::Reader;
@@ -45,7 +45,7 @@ impl<R: Source> Reader<R> {
         ensures refused { IfErr result (λ fault. IfSome (ahead R.remaining self.old) (ReplyHeadRefused self.old.limits fault)) }
         ensures broken { IsErrOf result ReadFailed → IfSome (ahead R.remaining self.old) (λ stream. Came (HasNo part.ReplyHead) stream (R.remaining self.new.source)) }
         ensures limits { self.new.limits ≡ self.old.limits }
-        ensures fault { IfErr result (λ fault. IsTrue (is_of_reading fault)) }
+        ensures fault { IfErr result (λ fault. IsTrue (is_of_reply fault)) }
         ensures cause { Cause ReadFailed (R.failed self.old.source) (R.failed self.new.source) result }
         ensures none_failed { OnOk result (R.failed self.new.source ≡ R.failed self.old.source) }
     {
@@ -87,7 +87,7 @@ impl<R: Source> Reader<R> {
         ensures refused { IfErr result (λ fault. IfSome (ahead R.remaining self.old) (ExtentRefused self.old.limits UntilEnd fault)) }
         ensures broken { IsErrOf result ReadFailed → IfSome (ahead R.remaining self.old) (λ after. Came (HasNoExtent self.old.limits UntilEnd) after (R.remaining self.new.source)) }
         ensures limits { self.new.limits ≡ self.old.limits }
-        ensures fault { IfErr result (λ fault. IsTrue (is_of_reading fault)) }
+        ensures fault { IfErr result (λ fault. IsTrue (is_of_reply fault)) }
         ensures cause { Cause ReadFailed (R.failed self.old.source) (R.failed self.new.source) result }
         ensures none_failed { OnOk result (R.failed self.new.source ≡ R.failed self.old.source) }
     {
@@ -106,7 +106,7 @@ impl<R: Source> Reader<R> {
         ensures refused { IfErr result (λ fault. IfSome (ahead R.remaining self.old) (ExtentRefused self.old.limits extent fault)) }
         ensures broken { IsErrOf result ReadFailed → IfSome (ahead R.remaining self.old) (λ after. Came (HasNoExtent self.old.limits extent) after (R.remaining self.new.source)) }
         ensures limits { self.new.limits ≡ self.old.limits }
-        ensures fault { IfErr result (λ fault. IsTrue (is_of_reading fault)) }
+        ensures fault { IfErr result (λ fault. IsTrue (is_of_reply fault)) }
         ensures cause { Cause ReadFailed (R.failed self.old.source) (R.failed self.new.source) result }
         ensures none_failed { OnOk result (R.failed self.new.source ≡ R.failed self.old.source) }
     {
@@ -128,7 +128,7 @@ impl<R: Source> Reader<R> {
         ensures refused { IfErr result (λ fault. IfSome (ahead R.remaining self.old) (ReplyRefused self.old.limits fault)) }
         ensures broken { IsErrOf result ReadFailed → IfSome (ahead R.remaining self.old) (λ stream. Came (HasNoReply self.old.limits) stream (R.remaining self.new.source)) }
         ensures limits { self.new.limits ≡ self.old.limits }
-        ensures fault { IfErr result (λ fault. IsTrue (is_of_reading fault)) }
+        ensures fault { IfErr result (λ fault. IsTrue (is_of_reply fault)) }
         ensures cause { Cause ReadFailed (R.failed self.old.source) (R.failed self.new.source) result }
         ensures none_failed { OnOk result (R.failed self.new.source ≡ R.failed self.old.source) }
     {
@@ -150,7 +150,7 @@ impl<R: Source> Reader<R> {
         // After a failed read what had come holds no whole reply, but for one without an end of its own.
         ensures broken { IsErrOf result ReadFailed → IfSome (ahead R.remaining self.old) (λ stream. Came (HasNoReply (limits_of self.old)) stream (R.remaining (source_of self.new))) }
         ensures limits { limits_of self.new ≡ limits_of self.old }
-        ensures fault { IfErr result (λ fault. IsTrue (is_of_reading fault)) }
+        ensures fault { IfErr result (λ fault. IsTrue (is_of_reply fault)) }
         // A failed read has raised the count of failures.
         ensures cause { Cause ReadFailed (R.failed (source_of self.old)) (R.failed (source_of self.new)) result }
         ensures none_failed { OnOk result (R.failed (source_of self.new) ≡ R.failed (source_of self.old)) }

@@ -3,7 +3,7 @@ ghost use Rattle.std.specs.Prelude.{◌≡◌, ◌⊎◌, IsTrue, IsFalse, IsErr
 ghost use Rattle.std.specs.Io.KnownBytes.{Keeps, Consumes, IsAtEnd};
 ghost use Rattle.disco_values.specs.declared.fault.Fault.TheVariants.{HeadTooLarge, ReadFailed};
 ghost use Rattle.disco_reader.specs.Bodies.{EndsBefore};
-ghost use Rattle.disco_reader.specs.Causes.{Cause, is_of_reading};
+ghost use Rattle.disco_reader.specs.Causes.{Cause, is_of_reply};
 ghost use Rattle.disco_reader.specs.Streams.{Came};
 
 use crate::fill::fill_from;
@@ -20,7 +20,7 @@ impl<R: Source> Reader<R> {
 
     /// The part at the front of what is unread, if it is whole.
     fn look(&mut self, part: Part) -> Result<Option<Found>, Fault>
-        ensures fault { IfErr result (λ fault. IsTrue (is_of_reading fault)) }
+        ensures fault { IfErr result (λ fault. IsTrue (is_of_reply fault)) }
         ensures looked { Looked self.old.limits.fields part (unread self.old) self.new.spans.items result }
         ensures ahead { Keeps (ahead R.remaining self.old) (ahead R.remaining self.new) }
         ensures unread { unread self.new ≡ unread self.old }
@@ -69,7 +69,7 @@ impl<R: Source> Reader<R> {
         ensures none { IfOk result (λ found. IfNone found (IfSome (ahead R.remaining self.old) (λ stream. (stream ≡ []) × HasNo part stream))) }
         ensures refused { IfErr result (λ fault. IfSome (ahead R.remaining self.old) (PartRefused self.old.limits part fault)) }
         ensures broken { IsErrOf result ReadFailed → HasNo part (unread self.new) }
-        ensures fault { IfErr result (λ fault. IsTrue (is_of_reading fault)) }
+        ensures fault { IfErr result (λ fault. IsTrue (is_of_reply fault)) }
         ensures cause { Cause ReadFailed (R.failed self.old.source) (R.failed self.new.source) result }
         ensures none_failed { OnOk result (R.failed self.new.source ≡ R.failed self.old.source) }
     {
@@ -124,7 +124,7 @@ fn fill_behind<R: Source>(source: &mut R, body: &mut Vec<u8>, from: usize) -> Re
     ensures taken { OnOk result (Consumes (R.remaining source.old) (R.remaining source.new) (drop from body.new.items)) }
     ensures refused { IfErr result (λ fault. IfSome (R.remaining source.old) (EndsBefore (vec_len body.old - from) fault)) }
     ensures broken { IsErrOf result ReadFailed → IfSome (R.remaining source.old) (λ input. Came (λ given. length given < vec_len body.old - from) input (R.remaining source.new)) }
-    ensures fault { IfErr result (λ fault. IsTrue (is_of_reading fault)) }
+    ensures fault { IfErr result (λ fault. IsTrue (is_of_reply fault)) }
     ensures cause { Cause ReadFailed (R.failed source.old) (R.failed source.new) result }
     ensures none_failed { OnOk result (R.failed source.new ≡ R.failed source.old) }
 {
@@ -164,7 +164,7 @@ impl<R: Source> Reader<R> {
         ensures refused { IfErr result (λ fault. IfSome (ahead R.remaining self.old) (EndsBefore size fault)) }
         ensures broken { IsErrOf result ReadFailed → IfSome (ahead R.remaining self.old) (λ input. Came (λ given. length given < size) input (R.remaining self.new.source)) }
         ensures limits { self.new.limits ≡ self.old.limits }
-        ensures fault { IfErr result (λ fault. IsTrue (is_of_reading fault)) }
+        ensures fault { IfErr result (λ fault. IsTrue (is_of_reply fault)) }
         ensures cause { Cause ReadFailed (R.failed self.old.source) (R.failed self.new.source) result }
         ensures none_failed { OnOk result (R.failed self.new.source ≡ R.failed self.old.source) }
     {
@@ -186,7 +186,7 @@ impl<R: Source> Reader<R> {
         ensures refused { IfErr result (λ fault. IfSome (ahead R.remaining self.old) (EndsBefore size fault)) }
         ensures broken { IsErrOf result ReadFailed → IfSome (ahead R.remaining self.old) (λ input. Came (λ given. length given < size) input (R.remaining self.new.source)) }
         ensures limits { self.new.limits ≡ self.old.limits }
-        ensures fault { IfErr result (λ fault. IsTrue (is_of_reading fault)) }
+        ensures fault { IfErr result (λ fault. IsTrue (is_of_reply fault)) }
         ensures cause { Cause ReadFailed (R.failed self.old.source) (R.failed self.new.source) result }
         ensures none_failed { OnOk result (R.failed self.new.source ≡ R.failed self.old.source) }
     {
