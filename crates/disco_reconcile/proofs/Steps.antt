@@ -1,22 +1,22 @@
 -- One fetch, and what is made of it.
-use Rattle.std.proofs.Common.{◌≡◌, ◌≢◌, ◌⊎◌, Bool, true, false, cond, [], ◌∷◌, Option, Some, None, Result, Ok, Err, refl, sym, ap, subst, ◌∙◌, inl, inr}
+use Rattle.std.proofs.Common.{◌≡◌, Bool, true, false, cond, [], ◌∷◌, Option, Some, None, Result, Ok, Err, refl, sym, ap, subst, ◌∙◌, inl, inr}
 use Rattle.std.specs.Result.{IsErr, IsErrAnd}
+use Rattle.disco_values.specs.declared.cert.Cert.{Cert}
 use Rattle.disco_values.specs.declared.fault.Fault.{Fault}
-use Rattle.disco_values.specs.declared.fault.Fault.TheVariants.{OutOfMemory, BadDocument, NotFetched}
+use Rattle.disco_values.specs.declared.fault.Fault.TheVariants.{OutOfMemory, NotFetched}
 use Rattle.disco_values.specs.declared.form.Form.{Form}
 use Rattle.disco_wire.specs.Documents.{document_of}
 use Rattle.disco_wire.specs.Meaning.{Meaning}
-use Rattle.disco_wire.specs.Wire.{wire_meaning}
 use Rattle.disco_wire.specs.declared.wire.Shape.{Shape}
 use Rattle.disco_wire.specs.declared.wire.Shape.TheVariants.{Many, App, One}
-use Rattle.disco_wire.specs.declared.wire.Wire.{Wire}
 use Rattle.disco_query.specs.Query.{is_delta}
 use Rattle.disco_query.specs.declared.query.Query.{Query}
 use Rattle.disco_query.specs.declared.query.Query.TheVariants as query
 use Rattle.disco_query.specs.declared.key.DocKey.{DocKey}
 use Rattle.disco_reconcile.specs.Courses.{Exchange, Follows, IsFull, IsRest, OfDelta, OfFull, exchange, outcome}
-use Rattle.disco_reconcile.specs.Steps.{Goes, IsAsked, IsStep, StepTo, TakesFull, following}
-use Rattle.disco_reconcile.specs.Told.{Answer, of_shape, told_by, told_of}
+use Rattle.disco_reconcile.specs.Steps.{Goes, IsAsked, IsPut, IsStep, StepTo, TakesFull, following, told_document}
+use Rattle.disco_reconcile.specs.Told.{Answer, Told, agreed, of_shape, told_by, told_of}
+use Rattle.disco_reconcile.specs.declared.asking.Document.{Document}
 use Rattle.disco_reconcile.specs.declared.fetch.Fetched.{Fetched}
 use Rattle.disco_reconcile.specs.declared.refreshed.Refreshed.{Refreshed}
 use Rattle.disco_reconcile.specs.declared.refreshed.Refreshed.TheVariants.{Full, Delta, DeltaThenFull}
@@ -24,43 +24,38 @@ use Rattle.disco_reconcile.specs.declared.refreshed.Refreshed.TheVariants.{Full,
 -- ---- what is told is the meaning of a body of many apps
 
 -- a document that is told is what its body means
-pub record IsTold (x : Fetched) (m : Meaning) : Type 0 where
-  pub means : document_of x.body ≡ Ok m
-  pub many : m.shape ≡ Many
+pub record IsTold (x : Fetched) (m : Told) : Type 0 where
+  pub means : document_of x.body ≡ Ok m.meaning
+  pub many : m.meaning.shape ≡ Many
 
-shaped : (s : Shape) (m n : Meaning) → of_shape s m ≡ Ok (Some n) → (m ≡ n) × (s ≡ Many)
-shaped Many m n e = (cc, refl)
-shaped App m n e = absurd (cc)
-shaped One m n e = absurd (cc)
+shaped : (s : Shape) (m : Meaning) (cert : Option Cert) (n : Told) → of_shape s m cert ≡ Ok (Some n) → (m ≡ n.meaning) × (s ≡ Many)
+shaped Many m cert n e = let i : record { meaning = m; cert = agreed m.version cert } ≡ n = cc in (ap (λ t. t.meaning) i, refl)
+shaped App m cert n e = absurd (cc)
+shaped One m cert n e = absurd (cc)
 
-of_document : (x : Fetched) (n : Meaning) (r : Result Meaning Fault) → document_of x.body ≡ r → told_of r ≡ Ok (Some n) → IsTold x n
+of_document : (x : Fetched) (n : Told) (r : Result Meaning Fault) → document_of x.body ≡ r → told_of x.cert r ≡ Ok (Some n) → IsTold x n
 of_document x n (Err e) is t = absurd (cc)
 of_document x n (Ok m) is t =
-    let s = shaped m.shape m n t in
+    let s = shaped m.shape m x.cert n t in
     record { means = is ∙ ap (λ m. Ok m) s.0; many = subst (λ n. n.shape ≡ Many) s.0 s.1 }
 
-of_status : (x : Fetched) (m : Meaning) (ok none : Bool) → cond ok (told_of (document_of x.body)) (cond none (Ok None) (Err NotFetched)) ≡ Ok (Some m) → IsTold x m
+of_status : (x : Fetched) (m : Told) (ok none : Bool) → cond ok (told_of x.cert (document_of x.body)) (cond none (Ok None) (Err NotFetched)) ≡ Ok (Some m) → IsTold x m
 of_status x m true none t = of_document x m (document_of x.body) refl t
 of_status x m false true t = absurd (cc)
 of_status x m false false t = absurd (cc)
 
-pub told_is : (delta : Bool) (x : Fetched) (m : Meaning) → told_by delta (Ok x) ≡ Ok (Some m) → IsTold x m
+pub told_is : (delta : Bool) (x : Fetched) (m : Told) → told_by delta (Ok x) ≡ Ok (Some m) → IsTold x m
 told_is delta x m t = of_status x m _ _ t
 
-told_many : (delta : Bool) (a : Result Fetched Fault) (m : Meaning) → told_by delta a ≡ Ok (Some m) → m.shape ≡ Many
+told_many : (delta : Bool) (a : Result Fetched Fault) (m : Told) → told_by delta a ≡ Ok (Some m) → m.meaning.shape ≡ Many
 told_many delta (Err e) m t = absurd (cc)
 told_many delta (Ok x) m t = (told_is delta x m t).many
-
--- a document of many apps is refused for want of memory alone
-pub only_memory : (s : Shape) (e : Fault) → s ≡ Many → (e ≡ BadDocument → s ≢ Many) → (e ≡ BadDocument) ⊎ (e ≡ OutOfMemory) → e ≡ OutOfMemory
-only_memory s e many bad (inl is) = absurd (bad is many)
-only_memory s e many bad (inr memory) = memory
 
 -- ---- the exchange of a fetch
 
 module _ {S : Type 0} (gives : S → DocKey → Result Fetched Fault → S → Type 0) (f : Form) (old new : S) where
-  pub asked_many : (q : Query) (w : Wire) → IsAsked gives q f old (Ok (Some w)) new → w.shape ≡ Many
-  asked_many q w a = told_many (is_delta q) a.answer (wire_meaning w) a.told
+  pub asked_many : (q : Query) (d : Document) → IsAsked gives q f old (Ok (Some d)) new → d.wire.shape ≡ Many
+  asked_many q d a = told_many (is_delta q) a.answer (told_document d) a.told
 
   module _ {K : Type 0} (full : OfFull K) (done : Refreshed) (held : Option K) where
     pub full_refused : (e : Fault) (result : Result Refreshed Fault) → IsAsked gives query.Apps f old (Err e) new → IsErr result × IsErrAnd result (λ x. x ≡ e) → TakesFull gives full f done old held result new held
@@ -72,20 +67,29 @@ module _ {S : Type 0} (gives : S → DocKey → Result Fetched Fault → S → T
       comes = ap (λ y. outcome (Err y) held) h.1;
     }
 
-    pub full_unfound : (w : Option Wire) → IsAsked gives query.Apps f old (Ok w) new → (e : Fault) → e ≡ OutOfMemory → (result : Result Refreshed Fault) → IsErr result × IsErrAnd result (λ x. x ≡ e) → TakesFull gives full f done old held result new held
-    full_unfound w a e memory (Ok v) h = let no = h.0 in absurd (cc)
-    full_unfound w a e memory (Err x) h = record {
+    pub full_unfound : (d : Option Document) → IsAsked gives query.Apps f old (Ok d) new → (e : Fault) → e ≡ OutOfMemory → (result : Result Refreshed Fault) → IsErr result × IsErrAnd result (λ x. x ≡ e) → TakesFull gives full f done old held result new held
+    full_unfound d a e memory (Ok v) h = let no = h.0 in absurd (cc)
+    full_unfound d a e memory (Err x) h = record {
       answer = a.answer;
       told = Err OutOfMemory;
       fetched = record { given = a.given; told = λ n. absurd (n refl) };
       comes = ap (λ y. outcome (Err y) held) (h.1 ∙ memory);
     }
 
-    pub full_taken : (w : Wire) → IsAsked gives query.Apps f old (Ok (Some w)) new → (result : Result Refreshed Fault) (kept : Option K) → outcome result kept ≡ full done held (wire_meaning w) → TakesFull gives full f done old held result new kept
-    full_taken w a result kept is = record {
+    pub full_taken : (d : Document) → IsAsked gives query.Apps f old (Ok (Some d)) new → (result : Result Refreshed Fault) (kept : Option K) → outcome result kept ≡ full done held (told_document d) → TakesFull gives full f done old held result new kept
+    full_taken d a result kept is = record {
       answer = a.answer;
-      told = Ok (Some (wire_meaning w));
+      told = Ok (Some (told_document d));
       fetched = record { given = a.given; told = a.told };
+      comes = is;
+    }
+
+    pub full_put : (d : Document) → IsAsked gives query.Apps f old (Ok (Some d)) new → (result : Result Refreshed Fault) (kept : Option K) → IsPut full done held (told_document d) result kept → TakesFull gives full f done old held result new kept
+    full_put d a result kept (inl is) = full_taken d a result kept is
+    full_put d a result kept (inr is) = record {
+      answer = a.answer;
+      told = Err OutOfMemory;
+      fetched = record { given = a.given; told = λ n. absurd (n refl) };
       comes = is;
     }
 
@@ -99,9 +103,9 @@ module _ {S : Type 0} (gives : S → DocKey → Result Fetched Fault → S → T
       comes = (ap (λ y. Err y) h.1, refl);
     }
 
-    pub step_unfound : (w : Option Wire) → IsAsked gives query.Delta f old (Ok w) new → (e : Fault) → e ≡ OutOfMemory → (result : Result (Option Refreshed) Fault) → IsErr result × IsErrAnd result (λ x. x ≡ e) → (kept : K) → kept ≡ held → IsStep gives delta f old held result new kept
-    step_unfound w a e memory (Ok v) h kept same = let no = h.0 in absurd (cc)
-    step_unfound w a e memory (Err x) h kept same = record {
+    pub step_unfound : (d : Option Document) → IsAsked gives query.Delta f old (Ok d) new → (e : Fault) → e ≡ OutOfMemory → (result : Result (Option Refreshed) Fault) → IsErr result × IsErrAnd result (λ x. x ≡ e) → (kept : K) → kept ≡ held → IsStep gives delta f old held result new kept
+    step_unfound d a e memory (Ok v) h kept same = let no = h.0 in absurd (cc)
+    step_unfound d a e memory (Err x) h kept same = record {
       answer = a.answer;
       told = Err OutOfMemory;
       fetched = record { given = a.given; told = λ n. absurd (n refl) };
@@ -116,11 +120,11 @@ module _ {S : Type 0} (gives : S → DocKey → Result Fetched Fault → S → T
       comes = (refl, refl);
     }
 
-    pub step_taken : (w : Wire) → IsAsked gives query.Delta f old (Ok (Some w)) new → (result : Result (Option Refreshed) Fault) (kept : K)
-        → (result ≡ Ok (following ((delta held (wire_meaning w)).0))) × (kept ≡ (delta held (wire_meaning w)).1) → IsStep gives delta f old held result new kept
-    step_taken w a result kept is = record {
+    pub step_taken : (d : Document) → IsAsked gives query.Delta f old (Ok (Some d)) new → (result : Result (Option Refreshed) Fault) (kept : K)
+        → (result ≡ Ok (following ((delta held (told_document d)).0))) × (kept ≡ (delta held (told_document d)).1) → IsStep gives delta f old held result new kept
+    step_taken d a result kept is = record {
       answer = a.answer;
-      told = Ok (Some (wire_meaning w));
+      told = Ok (Some (told_document d));
       fetched = record { given = a.given; told = a.told };
       comes = is;
     }

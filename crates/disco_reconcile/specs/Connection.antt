@@ -5,6 +5,7 @@ use Rattle.disco_values.specs.declared.fault.Fault.{Fault}
 use Rattle.disco_values.specs.declared.fault.Fault.TheVariants.{ReadFailed}
 use Rattle.disco_values.specs.declared.form.Form.{Form}
 use Rattle.disco_values.specs.declared.form.Form.TheVariants.{Full, Compact}
+use Rattle.disco_message.specs.Certificate.{certificate_of}
 use Rattle.disco_message.specs.Received.{Received}
 use Rattle.disco_message.specs.declared.limits.Limits.{Limits}
 use Rattle.disco_query.specs.Query.{is_delta}
@@ -51,6 +52,7 @@ pub record IsReply (limits : Limits) (x : Fetched) (stream : List ℕ) (left : O
   pub rest : List ℕ
   pub takes : TakesReply limits stream says x.body rest
   pub status : x.status ≡ says.status
+  pub cert : x.cert ≡ certificate_of says.fields
   pub ahead : left ≡ Some rest
   pub closes : spent ≡ says.closes
 

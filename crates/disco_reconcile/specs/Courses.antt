@@ -1,21 +1,23 @@
 -- Which fetches a refresh makes, and what it does with what they tell.
-use Rattle.std.specs.Prelude.{◌≡◌, Bool, true, false, List, [], ◌∷◌, Option, Some, None, Result, Ok, Err}
+use Rattle.std.specs.Prelude.{◌≡◌, Bool, true, false, List, [], ◌∷◌, if◌then◌else◌, Option, Some, None, Result, Ok, Err}
 use Rattle.disco_instance.specs.Instance.{Gives}
+use Rattle.disco_values.specs.declared.cert.Cert.{Cert}
 use Rattle.disco_values.specs.declared.fault.Fault.{Fault}
-use Rattle.disco_values.specs.declared.fault.Fault.TheVariants.{NotFetched}
+use Rattle.disco_values.specs.declared.fault.Fault.TheVariants.{BadDocument, NotFetched}
 use Rattle.disco_values.specs.declared.form.Form.{Form}
 use Rattle.disco_history.specs.Mentions.{copied, overlay}
-use Rattle.disco_wire.specs.Meaning.{Meaning}
 use Rattle.disco_query.specs.Query.{is_delta}
 use Rattle.disco_query.specs.declared.query.Query.{Query}
 use Rattle.disco_query.specs.declared.query.Query.TheVariants as query
 use Rattle.disco_query.specs.declared.key.DocKey.{DocKey}
 use Rattle.disco_client.specs.Copies.{hash_equal}
+use Rattle.disco_client.specs.Tracks.{gives_way, known_at, reaches}
+use Rattle.disco_client.specs.declared.certified.CertifiedCopy.{CertifiedCopy}
 use Rattle.disco_reconcile.specs.State.{Rows}
-use Rattle.disco_reconcile.specs.Told.{Answer, told_by}
+use Rattle.disco_reconcile.specs.Told.{Answer, Told, told_by}
 use Rattle.disco_reconcile.specs.declared.fetch.Fetched.{Fetched}
 use Rattle.disco_reconcile.specs.declared.refreshed.Refreshed.{Refreshed}
-use Rattle.disco_reconcile.specs.declared.refreshed.Refreshed.TheVariants.{Full, Delta, DeltaThenFull}
+use Rattle.disco_reconcile.specs.declared.refreshed.Refreshed.TheVariants.{Full, Delta, DeltaThenFull, Kept}
 
 -- ---- fetches
 
@@ -45,7 +47,7 @@ AreFetched {S} gives f old (x ∷ xs) new = (mid : S) × IsFetched gives f old x
 
 -- after a delta: whether that is all, and what is kept
 abbrev pub OfDelta : Type 0 → Type 0
-OfDelta K = K → Meaning → Bool × K
+OfDelta K = K → Told → Bool × K
 
 -- what a refresh comes to
 pub record Outcome (K : Type 0) : Type 0 where
@@ -57,7 +59,7 @@ outcome answer kept = record { answer = answer; kept = kept }
 
 -- after a full document
 abbrev pub OfFull : Type 0 → Type 0
-OfFull K = Refreshed → Option K → Meaning → Outcome K
+OfFull K = Refreshed → Option K → Told → Outcome K
 
 -- ---- the order of the fetches
 
@@ -101,8 +103,39 @@ IsCourse delta full (Some k) log o = IsDeltaFirst delta full k log o
 
 -- a delta is overlaid, and is all where the hash codes are equal
 abbrev pub plain_delta : OfDelta Rows
-plain_delta s m = let rows = overlay s m.mentions in (hash_equal m.hash rows, rows)
+plain_delta s m = let rows = overlay s m.meaning.mentions in (hash_equal m.meaning.hash rows, rows)
 
 -- a full document is the copy
 abbrev pub plain_full : OfFull Rows
-plain_full done held m = outcome (Ok done) (Some (copied m.mentions))
+plain_full done held m = outcome (Ok done) (Some (copied m.meaning.mentions))
+
+-- ---- certified clients, which ask for documents of a form (this project's own rule)
+
+-- the copy after a delta
+abbrev pub overlaid : Form → CertifiedCopy → Told → Cert → CertifiedCopy
+overlaid f k m c = record { copy = overlay k.copy m.meaning.mentions; known = known_at f c }
+
+-- the copy that a document of all apps makes
+abbrev pub renewed : Form → Told → Cert → CertifiedCopy
+renewed f m c = record { copy = copied m.meaning.mentions; known = known_at f c }
+
+abbrev pub delta_by : Form → CertifiedCopy → Told → Option Cert → Bool × CertifiedCopy
+delta_by f k m None = (false, k)
+delta_by f k m (Some c) = if reaches c k.known then (true, overlaid f k m c) else (false, k)
+
+-- a delta that is certified and reaches the copy is overlaid, and is all; every other one is left
+abbrev pub certified_delta : Form → OfDelta CertifiedCopy
+certified_delta f k m = delta_by f k m m.cert
+
+-- where there is no copy every document is taken
+abbrev pub is_taken : Option CertifiedCopy → Cert → Bool
+is_taken None c = true
+is_taken (Some k) c = gives_way c k.known
+
+abbrev pub renewed_by : Form → Refreshed → Option CertifiedCopy → Told → Option Cert → Outcome CertifiedCopy
+renewed_by f done held m None = outcome (Err BadDocument) held
+renewed_by f done held m (Some c) = if is_taken held c then outcome (Ok done) (Some (renewed f m c)) else outcome (Ok Kept) held
+
+-- a full document that is certified is the copy, unless the copy doesn't give way to it; one that isn't is refused
+abbrev pub certified_full : Form → OfFull CertifiedCopy
+certified_full f done held m = renewed_by f done held m m.cert

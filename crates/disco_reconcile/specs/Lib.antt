@@ -1,6 +1,7 @@
 pub mod Connection
 pub mod Courses
 pub mod Failures
+pub mod Laws
 pub mod Refreshes
 pub mod State
 pub mod Steps

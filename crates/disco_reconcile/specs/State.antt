@@ -1,25 +1,38 @@
 -- A client as plain data.
-use Rattle.std.specs.Prelude.{Option, refl}
-use Rattle.std.specs.Coded.{Coded, code_by, coded×, coded_option}
+use Rattle.std.specs.Prelude.{Option, None, option_map, refl}
+use Rattle.std.specs.Coded.{Coded, code_by, coded×}
 use Rattle.std.specs.FinMap.{FinMap}
 use Rattle.disco_values.specs.Key.{key_cmp}
 use Rattle.disco_instance.specs.Row.{Row}
 use Rattle.disco_values.specs.contracts.form.Form as form
 use Rattle.disco_values.specs.declared.form.Form.{Form}
-use Rattle.disco_client.specs.contracts.copy.Copy as copy
+use Rattle.disco_client.specs.declared.known.Known.{Known}
+use Rattle.disco_reconcile.specs.contracts.kept.Kept as kept
+use Rattle.disco_reconcile.specs.declared.kept.Kept.{Kept}
+use Rattle.disco_reconcile.specs.declared.kept.Kept.TheVariants.{Plain, Certified}
 
 -- the records of a copy
 abbrev pub Rows : Type 0
 Rows = FinMap key_cmp Row
 
--- its fetcher, the form that it asks for, and the copy, if there is one
+-- its fetcher, the form that it asks for, and what it keeps, by its kind
 pub record State (S : Type 0) : Type 0 where
   pub fetcher : S
   pub form : Form
-  pub copy : Option Rows
+  pub kept : Kept
+
+-- the records that a client has, if it has a copy
+abbrev pub copy_of : Kept → Option Rows
+copy_of (Plain held) = held
+copy_of (Certified held) = option_map (λ k. k.copy) held
+
+-- where a certified client's copy is known; of a plain client's nothing is shown
+abbrev pub known_in : Kept → Option Known
+known_in (Plain held) = None
+known_in (Certified held) = option_map (λ k. k.known) held
 
 -- only what the checker asks for: nothing here is to be believed
 abbrev pub coded_state : {S : Type 0} → Coded S → Coded (State S)
 coded_state {S} s =
-    code_by (S × (Form × Option Rows)) (coded× s (coded× form.the_row.coded (coded_option copy.the_row.coded)))
-    (λ c. (c.fetcher, (c.form, c.copy))) (λ p. record { fetcher = p.0; form = p.1.0; copy = p.1.1 }) (λ _. refl)
+    code_by (S × (Form × Kept)) (coded× s (coded× form.the_row.coded kept.the_row.coded))
+    (λ c. (c.fetcher, (c.form, c.kept))) (λ p. record { fetcher = p.0; form = p.1.0; kept = p.1.1 }) (λ _. refl)

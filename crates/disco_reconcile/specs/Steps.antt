@@ -1,25 +1,30 @@
 -- Only what code keeps: nothing here is to be believed.
-use Rattle.std.specs.Prelude.{◌≡◌, Bool, true, false, List, Option, Some, None, option_map, Result, Ok, Err}
+use Rattle.std.specs.Prelude.{◌≡◌, ◌⊎◌, Bool, true, false, List, Option, Some, None, option_map, Result, Ok, Err}
 use Rattle.disco_instance.specs.Instance.{Gives}
 use Rattle.disco_values.specs.declared.fault.Fault.{Fault}
+use Rattle.disco_values.specs.declared.fault.Fault.TheVariants.{OutOfMemory}
 use Rattle.disco_values.specs.declared.form.Form.{Form}
 use Rattle.disco_wire.specs.Wire.{wire_meaning}
-use Rattle.disco_wire.specs.declared.wire.Wire.{Wire}
 use Rattle.disco_query.specs.Query.{is_delta}
 use Rattle.disco_query.specs.declared.query.Query.{Query}
 use Rattle.disco_query.specs.declared.query.Query.TheVariants as query
 use Rattle.disco_query.specs.declared.key.DocKey.{DocKey}
 use Rattle.disco_reconcile.specs.Courses.{AreFetched, Exchange, IsCourse, IsFetched, OfDelta, OfFull, exchange, full_by, key_of, outcome}
-use Rattle.disco_reconcile.specs.Told.{Answer, told_by}
+use Rattle.disco_reconcile.specs.Told.{Answer, Told, told_by}
+use Rattle.disco_reconcile.specs.declared.asking.Document.{Document}
 use Rattle.disco_reconcile.specs.declared.fetch.Fetched.{Fetched}
 use Rattle.disco_reconcile.specs.declared.refreshed.Refreshed.{Refreshed}
 use Rattle.disco_reconcile.specs.declared.refreshed.Refreshed.TheVariants.{Full, DeltaThenFull}
 
+-- what was read of a document, as plain data
+abbrev pub told_document : Document → Told
+told_document d = record { meaning = wire_meaning d.wire; cert = d.cert }
+
 -- a document was asked for, and this is what the answer tells
-pub record IsAsked {S : Type 0} (gives : S → DocKey → Result Fetched Fault → S → Type 0) (q : Query) (f : Form) (old : S) (result : Result (Option Wire) Fault) (new : S) : Type 0 where
+pub record IsAsked {S : Type 0} (gives : S → DocKey → Result Fetched Fault → S → Type 0) (q : Query) (f : Form) (old : S) (result : Result (Option Document) Fault) (new : S) : Type 0 where
   pub answer : Result Fetched Fault
   pub given : gives old (key_of q f) answer new
-  pub told : Gives (option_map wire_meaning) result (told_by (is_delta q) answer)
+  pub told : Gives (option_map told_document) result (told_by (is_delta q) answer)
 
 -- the fetches were made, and came to this
 pub record Goes {S K : Type 0} (gives : S → DocKey → Result Fetched Fault → S → Type 0) (delta : OfDelta K) (full : OfFull K) (f : Form) (before : S) (held : Option K) (result : Result Refreshed Fault) (after : S) (kept : Option K) : Type 0 where
@@ -51,3 +56,12 @@ pub record IsStep {S K : Type 0} (gives : S → DocKey → Result Fetched Fault 
   pub told : Answer
   pub fetched : IsFetched gives f before (exchange query.Delta answer told) after
   pub comes : StepTo delta held told result kept
+
+-- a full document was taken as it is, or no memory was found for it
+abbrev pub IsPut : {K : Type 0} → OfFull K → Refreshed → Option K → Told → Result Refreshed Fault → Option K → Type 0
+IsPut full done held m result kept = (outcome result kept ≡ full done held m) ⊎ (outcome result kept ≡ outcome (Err OutOfMemory) held)
+
+-- a delta was taken as it is, or no memory was found for it
+abbrev pub IsOverlaid : {K : Type 0} → OfDelta K → K → Told → Result Bool Fault → K → Type 0
+IsOverlaid delta held m (Ok is) kept = (is ≡ (delta held m).0) × (kept ≡ (delta held m).1)
+IsOverlaid delta held m (Err e) kept = (e ≡ OutOfMemory) × (kept ≡ held)

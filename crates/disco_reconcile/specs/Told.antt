@@ -1,5 +1,6 @@
 -- What the answer to a fetch tells a client.
 use Rattle.std.specs.Prelude.{◌==◌, ◌&&◌, ◌||◌, ℕ, Bool, if◌then◌else◌, Option, Some, None, Result, Ok, Err}
+use Rattle.disco_values.specs.declared.cert.Cert.{Cert}
 use Rattle.disco_values.specs.declared.fault.Fault.{Fault}
 use Rattle.disco_values.specs.declared.fault.Fault.TheVariants.{OutOfMemory, BadDocument, NotFetched}
 use Rattle.disco_wire.specs.Documents.{document_of}
@@ -8,19 +9,30 @@ use Rattle.disco_wire.specs.declared.wire.Shape.{Shape}
 use Rattle.disco_wire.specs.declared.wire.Shape.TheVariants.{Many, App, One}
 use Rattle.disco_reconcile.specs.declared.fetch.Fetched.{Fetched}
 
+-- a document of many apps, and its certificate, if it has one
+pub record Told : Type 0 where
+  pub meaning : Meaning
+  pub cert : Option Cert
+
 -- a document, that there is none, or why nothing is told
 abbrev pub Answer : Type 0
-Answer = Result (Option Meaning) Fault
+Answer = Result (Option Told) Fault
 
-abbrev pub of_shape : Shape → Meaning → Answer
-of_shape Many m = Ok (Some m)
-of_shape App m = Err BadDocument
-of_shape One m = Err BadDocument
+-- a certificate of another version than the document's own is none (this project's own rule)
+abbrev pub agreed : Option ℕ → Option Cert → Option Cert
+agreed version None = None
+agreed None (Some c) = Some c
+agreed (Some v) (Some c) = if c.version == v then Some c else None
 
--- a document of many apps, or that the bytes are none
-abbrev pub told_of : Result Meaning Fault → Answer
-told_of (Err e) = Err BadDocument
-told_of (Ok m) = of_shape m.shape m
+abbrev pub of_shape : Shape → Meaning → Option Cert → Answer
+of_shape Many m cert = Ok (Some (record { meaning = m; cert = agreed m.version cert }))
+of_shape App m cert = Err BadDocument
+of_shape One m cert = Err BadDocument
+
+-- a document of many apps with its certificate, or that the bytes are none
+abbrev pub told_of : Option Cert → Result Meaning Fault → Answer
+told_of cert (Err e) = Err BadDocument
+told_of cert (Ok m) = of_shape m.shape m cert
 
 -- the statuses that say that there is no delta
 abbrev pub is_none : Bool → ℕ → Bool
@@ -34,4 +46,4 @@ failed_as _ = NotFetched
 -- what an answer tells of the delta, or of all apps
 abbrev pub told_by : Bool → Result Fetched Fault → Answer
 told_by delta (Err e) = Err (failed_as e)
-told_by delta (Ok x) = if x.status == 200 then told_of (document_of x.body) else if is_none delta x.status then Ok None else Err NotFetched
+told_by delta (Ok x) = if x.status == 200 then told_of x.cert (document_of x.body) else if is_none delta x.status then Ok None else Err NotFetched

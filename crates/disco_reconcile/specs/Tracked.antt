@@ -1,57 +1,77 @@
 -- Where a copy is known after a refresh, if the documents that were fetched mean what they have to.
 use Rattle.std.specs.Prelude.{◌≡◌, ◌≤◌, ℕ, Bool, true, false, List, [], ◌∷◌, length, Option, Some, None, Ok, Err}
+use Rattle.disco_values.specs.declared.cert.Cert.{Cert}
 use Rattle.disco_values.specs.declared.form.Form.{Form}
-use Rattle.disco_history.specs.Change.{Entry, front}
-use Rattle.disco_wire.specs.Meaning.{Meaning}
+use Rattle.disco_history.specs.Change.{front}
 use Rattle.disco_documents.specs.Documents.{MeansFor}
 use Rattle.disco_query.specs.Query.{is_delta}
 use Rattle.disco_query.specs.declared.query.Query.{Query}
-use Rattle.disco_client.specs.Tracks.{IsAt, moved}
+use Rattle.disco_client.specs.Tracks.{Histories, IsAt, known_at, moved}
+use Rattle.disco_client.specs.declared.certified.CertifiedCopy.{CertifiedCopy}
 use Rattle.disco_client.specs.declared.known.Known.{Known}
 use Rattle.disco_reconcile.specs.Courses.{Exchange}
 use Rattle.disco_reconcile.specs.State.{Rows}
-use Rattle.disco_reconcile.specs.Told.{Answer}
+use Rattle.disco_reconcile.specs.Told.{Answer, Told}
 use Rattle.disco_reconcile.specs.declared.fetch.Fetched.{Fetched}
 
--- of a document: the version that it starts from, and that at which it was built
-pub record Span : Type 0 where
-  pub base : ℕ
-  pub version : ℕ
-
--- the body means what was asked for at that version of a history, however it is written
-abbrev pub MeansAt : List Entry → Query → Form → Span → List ℕ → Type 0
-MeansAt h q f at body = (at.version ≤ length h) × MeansFor q body at.base at.version f (front h at.version)
+-- the body means what was asked for at that version of the history of its run, however it is written
+abbrev pub MeansAt : Histories → Query → Form → Cert → List ℕ → Type 0
+MeansAt hs q f c body = (c.version ≤ length (hs c.run)) × MeansFor q body c.base c.version f (front (hs c.run) c.version)
 
 -- the body of a fetch means that
-abbrev pub IsGood : List Entry → Form → Span → Exchange → Type 0
-IsGood h f at x = (y : Fetched) → x.answer ≡ Ok y → MeansAt h x.query f at y.body
+abbrev pub IsGood : Histories → Form → Cert → Exchange → Type 0
+IsGood hs f c x = (y : Fetched) → x.answer ≡ Ok y → MeansAt hs x.query f c y.body
+
+-- ---- plain clients
 
 -- each document that was fetched means what it has to where these say, which a client doesn't see
-abbrev pub AreGood : List Entry → Form → (Query → Span) → List Exchange → Type 0
-AreGood h f spans [] = Unit {0}
-AreGood h f spans (x ∷ xs) = ((m : Meaning) → x.told ≡ Ok (Some m) → IsGood h f (spans x.query) x) × AreGood h f spans xs
+abbrev pub AreGood : Histories → Form → (Query → Cert) → List Exchange → Type 0
+AreGood hs f names [] = Unit {0}
+AreGood hs f names (x ∷ xs) = ((m : Told) → x.told ≡ Ok (Some m) → IsGood hs f (names x.query) x) × AreGood hs f names xs
 
-abbrev pub known_by : Bool → Option Known → Form → Span → Option Known
-known_by true at f s = moved at f s.base s.version
-known_by false at f s = Some (record { form = f; version = s.version })
+abbrev pub known_by : Bool → Option Known → Form → Cert → Option Known
+known_by true at f c = moved at f c
+known_by false at f c = Some (known_at f c)
 
 -- where a copy is known after what was told
-abbrev pub known_after : Query → Option Known → Form → Span → Answer → Option Known
-known_after q at f s (Err e) = at
-known_after q at f s (Ok None) = at
-known_after q at f s (Ok (Some m)) = known_by (is_delta q) at f s
+abbrev pub known_after : Query → Option Known → Form → Cert → Answer → Option Known
+known_after q at f c (Err e) = at
+known_after q at f c (Ok None) = at
+known_after q at f c (Ok (Some m)) = known_by (is_delta q) at f c
 
 -- where it is known after all that was told
-abbrev pub tracked : Form → (Query → Span) → Option Known → List Exchange → Option Known
-tracked f spans at [] = at
-tracked f spans at (x ∷ xs) = tracked f spans (known_after x.query at f (spans x.query) x.told) xs
+abbrev pub tracked : Form → (Query → Cert) → Option Known → List Exchange → Option Known
+tracked f names at [] = at
+tracked f names at (x ∷ xs) = tracked f names (known_after x.query at f (names x.query) x.told) xs
 
--- a copy that is known at a version is that version; of one that is known nowhere nothing is said
-abbrev pub Means : List Entry → Option Known → Option Rows → Type 0
-Means h None held = Unit {0}
-Means h (Some at) None = ⊥
-Means h (Some at) (Some s) = IsAt h at s
+-- a copy that is known at a version is that version of the history of its run; of one that is known nowhere nothing is said
+abbrev pub Means : Histories → Option Known → Option Rows → Type 0
+Means hs None held = Unit {0}
+Means hs (Some k) None = ⊥
+Means hs (Some k) (Some s) = IsAt (hs k.run) k s
 
 -- wherever the copy was known before, it is what it is known as after, where the documents mean what they have to
 abbrev pub FollowsTracks : Form → Option Rows → List Exchange → Option Rows → Type 0
-FollowsTracks f held log kept = (h : List Entry) (at : Option Known) (spans : Query → Span) → AreGood h f spans log → Means h at held → Means h (tracked f spans at log) kept
+FollowsTracks f held log kept = (hs : Histories) (at : Option Known) (names : Query → Cert) → AreGood hs f names log → Means hs at held → Means hs (tracked f names at log) kept
+
+-- ---- certified clients (this project's own rule)
+
+-- each document that was fetched with a certificate means what it has to where that says
+abbrev pub AreCertified : Histories → Form → List Exchange → Type 0
+AreCertified hs f [] = Unit {0}
+AreCertified hs f (x ∷ xs) = ((m : Told) (c : Cert) → x.told ≡ Ok (Some m) → m.cert ≡ Some c → IsGood hs f c x) × AreCertified hs f xs
+
+-- a certified copy, where there is one, is exactly the version at which it is known of the history of its run, in the form that is asked for
+abbrev pub IsExact : Histories → Form → Option CertifiedCopy → Type 0
+IsExact hs f None = Unit {0}
+IsExact hs f (Some k) = (k.known.form ≡ f) × IsAt (hs k.known.run) k.known k.copy
+
+-- a copy that was exact is exact afterwards, where the documents mean what their certificates say
+abbrev pub StaysExact : Form → Option CertifiedCopy → List Exchange → Option CertifiedCopy → Type 0
+StaysExact f held log kept = (hs : Histories) → AreCertified hs f log → IsExact hs f held → IsExact hs f kept
+
+-- a copy doesn't go, and while its run stays, its version doesn't fall
+abbrev pub NeverFalls : Option CertifiedCopy → Option CertifiedCopy → Type 0
+NeverFalls None kept = Unit {0}
+NeverFalls (Some k) None = ⊥
+NeverFalls (Some k) (Some l) = l.known.run ≡ k.known.run → k.known.version ≤ l.known.version

@@ -8,7 +8,7 @@ ghost use Rattle.disco_reconcile.specs.Failures.{IsFailure};
 ghost use Rattle.disco_reconcile.specs.declared.fetch.Fetched.{Fetched};
 
 use disco_query::DocKey;
-use disco_values::{Bytes, Fault};
+use disco_values::{Bytes, Cert, Fault};
 
 /// The answer to a request for a document.
 #[derive(Debug, Drop)]
@@ -16,6 +16,8 @@ pub struct Fetched {
     /// The status code (RFC 9110).
     pub status: u16,
     pub body: Bytes,
+    /// The certificate of the document, where there is one.
+    pub cert: Option<Cert>,
 }
 
 /// Fetches documents from a registry server.

@@ -112,6 +112,7 @@ impl<R: Source, W: Sink> Fetch for HttpFetch<R, W> {
                 self.spent = reply.head.closes();
                 Ok(Fetched {
                     status: reply.head.status(),
+                    cert: reply.head.certificate(),
                     body: Bytes::from_vec(reply.body),
                 })
             }

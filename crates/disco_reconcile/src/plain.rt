@@ -22,9 +22,9 @@ fn take_full<F: Fetch>(
     ensures { TakesFull (Gave F.gives F.failed) plain_full form done fetcher.old held.old result fetcher.new held.new }
 {
     match ask(alloc, fetcher, Query::Apps, form)? {
-        Some(wire) => {
+        Some(document) => {
             let mut copy = Copy::new(alloc);
-            copy.full(wire)?;
+            copy.full(document.wire)?;
             *held = Some(copy);
             Ok(done)
         }
@@ -43,8 +43,8 @@ fn take_delta<F: Fetch>(
     ensures { IsStep (Gave F.gives F.failed) plain_delta form fetcher.old copy.old result fetcher.new copy.new }
 {
     match ask(alloc, fetcher, Query::Delta, form)? {
-        Some(wire) => {
-            if copy.overlay(wire)?.hash_equal {
+        Some(document) => {
+            if copy.overlay(document.wire)?.hash_equal {
                 Ok(None)
             } else {
                 Ok(Some(Refreshed::DeltaThenFull))

@@ -7,6 +7,9 @@ pub enum Refreshed {
     Full,
     /// A delta was overlaid.
     Delta,
-    /// A delta was overlaid, and then a full document took the place of the copy.
+    /// A delta was fetched, which a plain client overlaid, and then a full document took the place
+    /// of the copy.
     DeltaThenFull,
+    /// A certified client's copy is as it was: the full document is older, and of its run.
+    Kept,
 }

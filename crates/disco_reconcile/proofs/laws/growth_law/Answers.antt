@@ -1,0 +1,5 @@
+use Rattle.disco_reconcile.proofs.Growing.{growth}
+use Rattle.disco_reconcile.proofs.laws.growth_law.Goals as goal
+
+pub returns : goal.returns
+returns c = growth

@@ -1,0 +1,5 @@
+use Rattle.disco_reconcile.proofs.Growing.{served}
+use Rattle.disco_reconcile.proofs.laws.served_law.Goals as goal
+
+pub returns : goal.returns
+returns c = served

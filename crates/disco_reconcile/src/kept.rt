@@ -1,0 +1,9 @@
+//! What a client keeps.
+use disco_client::{CertifiedCopy, Copy};
+
+/// What a client keeps: a copy by Eureka's rule, or a certified one.
+#[derive(Drop)]
+pub(crate) enum Kept {
+    Plain(Option<Copy>),
+    Certified(Option<CertifiedCopy>),
+}
