@@ -287,7 +287,7 @@ def main():
     )
     rows = [Row(root, shim, name) for name in (QUICK if quick else names)]
     rows = [row for row in rows if row.is_tried()]
-    trials = [Trial(root, shim, "disco_refusals"), Trial(root, shim, "disco_refreshes", ("script",), 1)]
+    trials = [Trial(root, shim, "disco_refusals"), Trial(root, shim, "disco_refreshes", ("script",), 2)]
     all_counts = Counter()
     with ThreadPoolExecutor(AT_ONCE) as pool:
         for kind in rows + trials:

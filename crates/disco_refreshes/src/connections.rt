@@ -7,7 +7,7 @@ use disco_message::Limits;
 use disco_query::{DocKey, Query};
 use disco_reader::{Counted, Reader};
 use disco_reconcile::{Fetch, Fetched, HttpFetch};
-use disco_values::{Fault, Form};
+use disco_values::{Cert, Fault, Form};
 use std::alloc::Global;
 use std::io::Write;
 
@@ -92,4 +92,60 @@ pub(crate) fn one_request_each(alloc: Global) -> Result<bool, Fault> {
     written.reserve(WRITTEN.len())?;
     let both = fetch_both(alloc, CONNECTIONS[0].0, &mut written)?;
     Ok(both == CONNECTIONS[0].2 && written.as_slice() == WRITTEN.as_bytes())
+}
+
+/// Lines of a head, and the certificate that is read of them: its run, its base and its version.
+const CERTIFICATES: &[(&str, Option<(u64, u64, u64)>)] = &[
+    ("", None),
+    ("X-Discovery-Certificate: 7 0 1\r\n", Some((7, 0, 1))),
+    ("x-discovery-CERTIFICATE: 0 0 0\r\n", Some((0, 0, 0))),
+    (
+        "X-Discovery-Certificate: 18446744073709551615 18446744073709551615 18446744073709551615\r\n",
+        Some((u64::MAX, u64::MAX, u64::MAX)),
+    ),
+    (
+        "X-Discovery-Certificate: 7 0 1\r\nX-Discovery-Certificate: 7 0 1\r\n",
+        None,
+    ),
+    ("X-Discovery-Certificate: 0 1\r\n", None),
+    ("X-Discovery-Certificate: 7 0 1 2\r\n", None),
+    ("X-Discovery-Certificate: 7  0 1\r\n", None),
+    ("X-Discovery-Certificate: 7 +0 1\r\n", None),
+    (
+        "X-Discovery-Certificate: 18446744073709551616 0 0\r\n",
+        None,
+    ),
+];
+
+fn numbers(cert: Option<Cert>) -> Option<(u64, u64, u64)> {
+    match cert {
+        Some(cert) => Some((cert.run, cert.base, cert.version)),
+        None => None,
+    }
+}
+
+/// The certificate of a document that is fetched, where these lines stand in its head.
+fn cert_fetched(alloc: Global, lines: &str) -> Result<Option<(u64, u64, u64)>, Fault> {
+    let bytes = format!(in alloc; "HTTP/1.1 200 OK\r\nContent-Length: 2\r\n{lines}\r\n{{}}")?;
+    let given = Given {
+        rest: bytes.as_bytes(),
+        piece: 1000,
+        reads: 1000,
+    };
+    let reader = Reader::new(alloc, Counted::new(given), Limits::of_client())?;
+    let writer = Writer::new(alloc, Counted::new(Taking { writes: 1 }))?;
+    let mut fetcher = HttpFetch::new(alloc, reader, writer);
+    let fetched = fetcher.fetch(&key(Query::Apps))?;
+    Ok(numbers(fetched.cert))
+}
+
+/// A reply has a certificate where its head spells one in one line, and none else; it is never refused
+/// for it.
+pub(crate) fn are_certificates(alloc: Global) -> Result<bool, Fault> {
+    for (lines, cert) in CERTIFICATES {
+        if cert_fetched(alloc, lines)? != *cert {
+            return Ok(false);
+        }
+    }
+    Ok(true)
 }

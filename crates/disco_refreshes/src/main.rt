@@ -7,6 +7,7 @@
 //! `script` there is no other trial.
 #![tactic(auto)]
 
+mod certifying;
 mod connections;
 mod copies;
 mod failing;
@@ -32,7 +33,9 @@ fn told<R: Print>(rt: &R, name: &str, came: Result<bool, Fault>) -> io::Result<b
 }
 
 fn try_script<R: Print>(rt: &R, alloc: Global) -> io::Result<bool> {
-    told(rt, "refreshes", refreshing::refreshes(alloc))
+    let plain = told(rt, "refreshes", refreshing::refreshes(alloc))?;
+    let certified = told(rt, "certified refreshes", certifying::refreshes(alloc))?;
+    Ok(plain && certified)
 }
 
 fn try_all<R: Print>(rt: &R, alloc: Global) -> io::Result<bool> {
@@ -44,6 +47,7 @@ fn try_all<R: Print>(rt: &R, alloc: Global) -> io::Result<bool> {
             "a request for each",
             connections::one_request_each(alloc),
         )?,
+        told(rt, "certificates", connections::are_certificates(alloc))?,
         told(rt, "reads that fail", failing::reads_in_turn(alloc))?,
         told(rt, "writes that fail", failing::writes_in_turn(alloc))?,
     ];

@@ -5,7 +5,7 @@ ghost use Rattle.disco_reader.specs.Causes.{Raises};
 
 use disco_query::DocKey;
 use disco_reconcile::{Fetch, Fetched};
-use disco_values::{Bytes, Fault};
+use disco_values::{Bytes, Cert, Fault};
 use std::alloc::Global;
 use std::cell::Cell;
 
@@ -14,6 +14,8 @@ use std::cell::Cell;
 pub(crate) enum Reply {
     /// A status and a body.
     Is(u16, &'static str),
+    /// A document with its certificate: its run, its base and its version.
+    Certified(&'static str, u64, u64, u64),
     Fails,
 }
 
@@ -43,12 +45,13 @@ impl Script<'_> {
     }
 }
 
-fn answer(alloc: Global, status: u16, body: &str) -> Result<Fetched, Fault>
+fn answer(alloc: Global, status: u16, body: &str, cert: Option<Cert>) -> Result<Fetched, Fault>
     ensures { IfErr result (λ e. e ≡ OutOfMemory) }
 {
     Ok(Fetched {
         status,
         body: Bytes::from_vec(body.as_bytes().to_vec(alloc)?),
+        cert,
     })
 }
 
@@ -65,7 +68,11 @@ impl Fetch for Script<'_> {
             turn.apps
         };
         match reply {
-            Reply::Is(status, body) => answer(self.alloc, status, body),
+            Reply::Is(status, body) => answer(self.alloc, status, body, None),
+            Reply::Certified(body, run, base, version) => {
+                let cert = Cert { run, base, version };
+                answer(self.alloc, 200, body, Some(cert))
+            }
             Reply::Fails => Err(self.fail()),
         }
     }
