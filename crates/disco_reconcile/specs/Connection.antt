@@ -1,8 +1,8 @@
 -- Fetches over one connection.
-use Rattle.std.specs.Prelude.{◌≡◌, ◌⊎◌, ℕ, Bool, true, false, List, [], ◌++◌, Option, Some, Result, Ok, Err, IfSome, codes}
+use Rattle.std.specs.Prelude.{◌≡◌, ◌⊎◌, ℕ, Bool, IsTrue, true, false, List, [], ◌++◌, Option, Some, Result, Ok, Err, IfSome, codes}
 use Rattle.std.specs.Io.KnownBytes.{Appends}
 use Rattle.disco_values.specs.declared.fault.Fault.{Fault}
-use Rattle.disco_values.specs.declared.fault.Fault.TheVariants.{ReadFailed}
+use Rattle.disco_values.specs.declared.fault.Fault.TheVariants.{NotFetched, ReadFailed, WriteFailed}
 use Rattle.disco_values.specs.declared.form.Form.{Form}
 use Rattle.disco_values.specs.declared.form.Form.TheVariants.{Full, Compact}
 use Rattle.disco_message.specs.Certificate.{certificate_of}
@@ -10,7 +10,7 @@ use Rattle.disco_message.specs.Received.{Received}
 use Rattle.disco_message.specs.declared.limits.Limits.{Limits}
 use Rattle.disco_query.specs.Query.{is_delta}
 use Rattle.disco_query.specs.declared.key.DocKey.{DocKey}
-use Rattle.disco_reader.specs.Causes.{Raises}
+use Rattle.disco_reader.specs.Causes.{Raises, is_of_reply}
 use Rattle.disco_reader.specs.Replies.{HasNoReply, ReplyRefused, TakesReply}
 use Rattle.disco_reader.specs.Streams as stream
 use Rattle.disco_reader.specs.declared.reader.Reader.{Reader}
@@ -56,14 +56,14 @@ pub record IsReply (limits : Limits) (x : Fetched) (stream : List ℕ) (left : O
   pub ahead : left ≡ Some rest
   pub closes : spent ≡ says.closes
 
--- why a fetch fails: nothing more was to be fetched, read or written, a write failed, or no reply stands ahead
+-- why a fetch fails, and as what: nothing more was to be fetched, read or written, a write failed, or no reply stands ahead
 abbrev pub Fails : {R W : Type 0} → (R → Option (List ℕ)) → (W → ℕ) → HttpFetch R W → Fault → HttpFetch R W → Type 0
 Fails remaining failed old fault new =
-    (is_spent old ≡ true)
-    ⊎ ((stream.is_spent (reader_of old) ≡ true)
-    ⊎ ((sinks.is_spent (writer_of old) ≡ true)
-    ⊎ (Raises (failed (sink_of (writer_of old))) (failed (sink_of (writer_of new)))
-    ⊎ IfSome (stream.ahead remaining (reader_of old)) (ReplyRefused (stream.limits_of (reader_of old)) fault))))
+    ((is_spent old ≡ true) × (fault ≡ NotFetched))
+    ⊎ (((stream.is_spent (reader_of old) ≡ true) × (fault ≡ NotFetched))
+    ⊎ (((sinks.is_spent (writer_of old) ≡ true) × (fault ≡ NotFetched))
+    ⊎ (((fault ≡ WriteFailed) × Raises (failed (sink_of (writer_of old))) (failed (sink_of (writer_of new))))
+    ⊎ (IsTrue (is_of_reply fault) × IfSome (stream.ahead remaining (reader_of old)) (ReplyRefused (stream.limits_of (reader_of old)) fault)))))
 
 -- a failed read raised the count of the source, or found it at its end, and what had come holds no whole reply, but for one that goes on to the end of the input
 abbrev pub BreaksOff : {R W : Type 0} → (R → Option (List ℕ)) → (R → ℕ) → HttpFetch R W → Fault → HttpFetch R W → Type 0
