@@ -54,13 +54,16 @@ first_piece name m n x y p q e = by (m == 0) (n == 0) refl refl e
     by false true f g e = absurd (q _ (sym e))
     by false false f g e = cut_number m n x y (same_tail _ _ _ _ (same_rest name _ _ e))
 
--- a piece of another name
-apart_piece : (name other : List ℕ) (n : ℕ) (x : List ℕ) → ((u t : List ℕ) → other ++ u ≡ name ++ t → ⊥) → Apart name x → Apart name (then_piece other n x)
-apart_piece name other n x names p t e = by (n == 0) e
+differ : (x y : ℕ) → (x == y) ≡ false → x ≡ y → ⊥
+differ x y d e = grind (arith, nat_tests, d, e)
+
+-- a piece of another name, which differs at a place
+apart_piece : (i : ℕ) (name other : List ℕ) (n : ℕ) (x : List ℕ) → ((u t : List ℕ) → (get_or (other ++ u) i 0 == get_or (name ++ t) i 0) ≡ false) → Apart name x → Apart name (then_piece other n x)
+apart_piece i name other n x differs p t e = by (n == 0) e
   where
     by : (b : Bool) → cond b x (other ++ 95 ∷ (digits n ++ 95 ∷ x)) ≡ name ++ t → ⊥
     by true e = p t e
-    by false e = names _ t e
+    by false e = differ _ _ (differs _ t) (ap (λ (l : List ℕ). get_or l i 0) e)
 
 apart_end : (c : ℕ) (name : List ℕ) → Apart (c ∷ name) []
 apart_end c name t e = cc
@@ -77,51 +80,18 @@ from_starting k = then_piece (codes "STARTING") (k Starting) (from_unknown k)
 abbrev from_out : (Status → ℕ) → List ℕ
 from_out k = then_piece (codes "OUT_OF_SERVICE") (k OutOfService) (from_starting k)
 
-differ : (x y : ℕ) → (x == y) ≡ false → x ≡ y → ⊥
-differ x y d e = grind (arith, nat_tests, d, e)
-
-out_down : (u t : List ℕ) → codes "OUT_OF_SERVICE" ++ u ≡ codes "DOWN" ++ t → ⊥
-out_down u t e = differ 79 68 refl (ap (λ (l : List ℕ). get_or l 0 0) e)
-
-starting_down : (u t : List ℕ) → codes "STARTING" ++ u ≡ codes "DOWN" ++ t → ⊥
-starting_down u t e = differ 83 68 refl (ap (λ (l : List ℕ). get_or l 0 0) e)
-
-unknown_down : (u t : List ℕ) → codes "UNKNOWN" ++ u ≡ codes "DOWN" ++ t → ⊥
-unknown_down u t e = differ 85 68 refl (ap (λ (l : List ℕ). get_or l 0 0) e)
-
-up_down : (u t : List ℕ) → codes "UP" ++ u ≡ codes "DOWN" ++ t → ⊥
-up_down u t e = differ 85 68 refl (ap (λ (l : List ℕ). get_or l 0 0) e)
-
-starting_out : (u t : List ℕ) → codes "STARTING" ++ u ≡ codes "OUT_OF_SERVICE" ++ t → ⊥
-starting_out u t e = differ 83 79 refl (ap (λ (l : List ℕ). get_or l 0 0) e)
-
-unknown_out : (u t : List ℕ) → codes "UNKNOWN" ++ u ≡ codes "OUT_OF_SERVICE" ++ t → ⊥
-unknown_out u t e = differ 85 79 refl (ap (λ (l : List ℕ). get_or l 0 0) e)
-
-up_out : (u t : List ℕ) → codes "UP" ++ u ≡ codes "OUT_OF_SERVICE" ++ t → ⊥
-up_out u t e = differ 85 79 refl (ap (λ (l : List ℕ). get_or l 0 0) e)
-
-unknown_starting : (u t : List ℕ) → codes "UNKNOWN" ++ u ≡ codes "STARTING" ++ t → ⊥
-unknown_starting u t e = differ 85 83 refl (ap (λ (l : List ℕ). get_or l 0 0) e)
-
-up_starting : (u t : List ℕ) → codes "UP" ++ u ≡ codes "STARTING" ++ t → ⊥
-up_starting u t e = differ 85 83 refl (ap (λ (l : List ℕ). get_or l 0 0) e)
-
-up_unknown : (u t : List ℕ) → codes "UP" ++ u ≡ codes "UNKNOWN" ++ t → ⊥
-up_unknown u t e = differ 80 78 refl (ap (λ (l : List ℕ). get_or l 1 0) e)
-
 module _ (k : Status → ℕ) where
   down_apart : Apart (codes "DOWN") (from_out k)
-  down_apart = apart_piece (codes "DOWN") (codes "OUT_OF_SERVICE") (k OutOfService) (from_starting k) out_down (apart_piece (codes "DOWN") (codes "STARTING") (k Starting) (from_unknown k) starting_down (apart_piece (codes "DOWN") (codes "UNKNOWN") (k Unknown) (from_up k) unknown_down (apart_piece (codes "DOWN") (codes "UP") (k Up) [] up_down (apart_end 68 (codes "OWN")))))
+  down_apart = apart_piece 0 (codes "DOWN") (codes "OUT_OF_SERVICE") (k OutOfService) (from_starting k) (λ u t. refl) (apart_piece 0 (codes "DOWN") (codes "STARTING") (k Starting) (from_unknown k) (λ u t. refl) (apart_piece 0 (codes "DOWN") (codes "UNKNOWN") (k Unknown) (from_up k) (λ u t. refl) (apart_piece 0 (codes "DOWN") (codes "UP") (k Up) [] (λ u t. refl) (apart_end 68 (codes "OWN")))))
 
   out_apart : Apart (codes "OUT_OF_SERVICE") (from_starting k)
-  out_apart = apart_piece (codes "OUT_OF_SERVICE") (codes "STARTING") (k Starting) (from_unknown k) starting_out (apart_piece (codes "OUT_OF_SERVICE") (codes "UNKNOWN") (k Unknown) (from_up k) unknown_out (apart_piece (codes "OUT_OF_SERVICE") (codes "UP") (k Up) [] up_out (apart_end 79 (codes "UT_OF_SERVICE"))))
+  out_apart = apart_piece 0 (codes "OUT_OF_SERVICE") (codes "STARTING") (k Starting) (from_unknown k) (λ u t. refl) (apart_piece 0 (codes "OUT_OF_SERVICE") (codes "UNKNOWN") (k Unknown) (from_up k) (λ u t. refl) (apart_piece 0 (codes "OUT_OF_SERVICE") (codes "UP") (k Up) [] (λ u t. refl) (apart_end 79 (codes "UT_OF_SERVICE"))))
 
   starting_apart : Apart (codes "STARTING") (from_unknown k)
-  starting_apart = apart_piece (codes "STARTING") (codes "UNKNOWN") (k Unknown) (from_up k) unknown_starting (apart_piece (codes "STARTING") (codes "UP") (k Up) [] up_starting (apart_end 83 (codes "TARTING")))
+  starting_apart = apart_piece 0 (codes "STARTING") (codes "UNKNOWN") (k Unknown) (from_up k) (λ u t. refl) (apart_piece 0 (codes "STARTING") (codes "UP") (k Up) [] (λ u t. refl) (apart_end 83 (codes "TARTING")))
 
   unknown_apart : Apart (codes "UNKNOWN") (from_up k)
-  unknown_apart = apart_piece (codes "UNKNOWN") (codes "UP") (k Up) [] up_unknown (apart_end 85 (codes "NKNOWN"))
+  unknown_apart = apart_piece 1 (codes "UNKNOWN") (codes "UP") (k Up) [] (λ u t. refl) (apart_end 85 (codes "NKNOWN"))
 
 pub same_counts : (m n : Status → ℕ) → hash_by m ≡ hash_by n → (s : Status) → m s ≡ n s
 same_counts m n e s =

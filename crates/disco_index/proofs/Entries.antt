@@ -1,5 +1,5 @@
 -- How many of the entries in the order of their keys have a status.
-use Rattle.std.proofs.Common.{◌≡◌, ℕ, ◌+◌, Bool, true, false, ◌&&◌, cond, T, List, [], ◌∷◌, map, Some, None, refl, sym, ap, subst, ◌∙◌, arith}
+use Rattle.std.proofs.Common.{◌≡◌, ℕ, ◌+◌, cond, T, List, [], ◌∷◌, map, Some, None, refl, sym, ap, subst, ◌∙◌, arith}
 use Rattle.std.specs.declared.cmp.Ordering.{Ordering}
 use Rattle.std.specs.declared.cmp.Ordering.TheVariants.{Less, Equal, Greater}
 use Rattle.std.specs.Ordering.{is_eq, is_lt}
@@ -13,6 +13,7 @@ use Rattle.disco_values.specs.declared.status.Status.{Status}
 use Rattle.disco_history.specs.Change.{Entry}
 use Rattle.disco_history.specs.Hash.{count_of}
 use Rattle.disco_history.proofs.Keys.{keys_total}
+use Rattle.disco_history.proofs.Sorted.{both, both_first, both_second, is_less, none_below}
 use Rattle.disco_index.proofs.Numbers.{one_if, part}
 
 abbrev pub Entries : Type 0
@@ -25,30 +26,9 @@ counted es status = count_of (map (λ (e : Entry). e.0) (map (λ (p : Key × Ent
 counted-cons : (p : Key × Entry) (es : Entries) (status : Status) → counted (p ∷ es) status ≡ one_if p.1.0.status status + counted es status
 counted-cons p es status = sum_by-cons (λ (r : Row). cond (is_same r.status status) 1 0) p.1.0 (map (λ (e : Entry). e.0) (map (λ (p : Key × Entry). p.1) es))
 
-pub first : (a b : Bool) → T (a && b) → T a
-first true b h = tt
-first false b h = h
-
-pub second : (a b : Bool) → T (a && b) → T b
-second true b h = h
-second false b h = absurd h
-
-pub both : (a b : Bool) → T a → T b → T (a && b)
-both true b p q = q
-both false b p q = p
-
-pub is_less : (o : Ordering) → T (is_lt o) → o ≡ Less
-is_less Less h = refl
-is_less Equal h = absurd h
-is_less Greater h = absurd h
-
 below_less : (k x : Key) (es : Entries) → key_cmp k x ≡ Less → T (below_all key_cmp x es) → T (below_all key_cmp k es)
 below_less k x [] p h = tt
-below_less k x (e ∷ es) p h = both _ _ (subst (λ o. T (is_lt o)) (sym (keys_total.trans k x e.0 p (is_less _ (first _ _ h)))) tt) (below_less k x es p (second _ _ h))
-
-none_below : (k : Key) (es : Entries) → T (below_all key_cmp k es) → find key_cmp k es ≡ None
-none_below k [] h = refl
-none_below k (e ∷ es) h = ap (λ o. cond (is_eq o) (Some e.1) (find key_cmp k es)) (is_less (key_cmp k e.0) (first _ _ h)) ∙ none_below k es (second _ _ h)
+below_less k x (e ∷ es) p h = both _ _ (subst (λ o. T (is_lt o)) (sym (keys_total.trans k x e.0 p (is_less _ (both_first _ _ h)))) tt) (below_less k x es p (both_second _ _ h))
 
 module _ (k : Key) (v : Entry) (status : Status) where
   put_before : (e : Key × Entry) (es : Entries) (o : Ordering) → key_cmp k e.0 ≡ o → T (below_all key_cmp e.0 es)
@@ -63,4 +43,4 @@ module _ (k : Key) (v : Entry) (status : Status) where
   -- the entry of a key goes in, in place of the one that was there
   pub counted-put : (es : Entries) → T (is_sorted key_cmp es) → counted (put key_cmp k v es) status + part (find key_cmp k es) status ≡ counted es status + one_if v.0.status status
   counted-put [] sorted = omega (arith, counted-cons (k, v) [] status)
-  counted-put (e ∷ es) sorted = put_before e es (key_cmp k e.0) refl (first _ _ sorted) (counted-put es (second _ _ sorted))
+  counted-put (e ∷ es) sorted = put_before e es (key_cmp k e.0) refl (both_first _ _ sorted) (counted-put es (both_second _ _ sorted))

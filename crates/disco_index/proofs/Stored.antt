@@ -4,30 +4,19 @@ use Rattle.std.specs.declared.cmp.Ordering.TheVariants.{Less}
 use Rattle.std.specs.FinMap.{FinMap, entries, entries_sorted, from_entries, from_sorted, entries-from_sorted, get, get-entries, get-from_entries, get-from_sorted, same_map}
 use Rattle.std.specs.FinMap.Entries.{below_all, find, is_sorted, put, by_order, same_entries}
 use Rattle.std.specs.List.{AllByRecursion}
-use Rattle.std.specs.List.Sorted.{IsStrictlySortedBy}
-use Rattle.std.specs.Map.{keys_of}
 use Rattle.std.specs.Option.{unwrap_or, is_some}
 use Rattle.std.specs.Ordering.{is_eq, is_lt}
 use Rattle.std.specs.Cmp.{tied_itself}
-use Rattle.std.proofs.lemmas.Map.Keys.{sorted_head, sorted_tail}
 use Rattle.disco_values.specs.Key.{key_cmp, same_key}
 use Rattle.disco_values.specs.declared.key.Key.{Key}
 use Rattle.disco_history.proofs.Keys.{keys_total, exact_keys, same_key-sym}
-use Rattle.disco_index.proofs.Entries.{first, second, both, is_less}
+use Rattle.disco_history.proofs.Sorted.{both_first, both_second, is_less}
 
 -- ---- entries in order are those of their map
 
-all_below : {X : Type 0} (k : Key) (es : List (Key × X)) → AllByRecursion (λ y. key_cmp k y ≡ Less) (keys_of es) → T (below_all key_cmp k es)
-all_below k [] h = tt
-all_below k (e ∷ es) h = both _ _ (subst (λ o. T (is_lt o)) (sym h.0) tt) (all_below k es h.1)
-
-pub in_order : {X : Type 0} (es : List (Key × X)) → IsStrictlySortedBy key_cmp (keys_of es) → T (is_sorted key_cmp es)
-in_order [] h = tt
-in_order (e ∷ es) h = both _ _ (all_below e.0 es (sorted_head key_cmp e.0 (keys_of es) h)) (in_order es (sorted_tail key_cmp e.0 (keys_of es) h))
-
 put_first : {X : Type 0} (e : Key × X) (es : List (Key × X)) → T (below_all key_cmp e.0 es) → put key_cmp e.0 e.1 es ≡ e ∷ es
 put_first e [] h = refl
-put_first e (f ∷ es) h = ap (λ o. by_order o (e ∷ f ∷ es) ((f.0, e.1) ∷ es) (f ∷ put key_cmp e.0 e.1 es)) (is_less (key_cmp e.0 f.0) (first _ _ h))
+put_first e (f ∷ es) h = ap (λ o. by_order o (e ∷ f ∷ es) ((f.0, e.1) ∷ es) (f ∷ put key_cmp e.0 e.1 es)) (is_less (key_cmp e.0 f.0) (both_first _ _ h))
 
 pub entries_stored : {X : Type 0} (es : List (Key × X)) → T (is_sorted key_cmp es) → entries (from_entries {R = key_cmp} es) ≡ es
 entries_stored es h =
@@ -85,12 +74,12 @@ Agrees test es = AllByRecursion (λ (e : Key × Bool). test e.0 ≡ e.1) es
 apart : (k : Key) (v : Bool) (es rest : List (Key × Bool)) → T (below_all key_cmp k rest) → Agrees (there_in es) rest → Agrees (there_in ((k, v) ∷ es)) rest
 apart k v es [] below h = tt
 apart k v es (e ∷ rest) below h =
-    let other : same_key e.0 k ≡ false = same_key-sym e.0 k ∙ ap is_eq (is_less (key_cmp k e.0) (first _ _ below)) in
-    (ap (λ b. unwrap_or (cond b (Some v) (find key_cmp e.0 es)) false) other ∙ h.0, apart k v es rest (second _ _ below) h.1)
+    let other : same_key e.0 k ≡ false = same_key-sym e.0 k ∙ ap is_eq (is_less (key_cmp k e.0) (both_first _ _ below)) in
+    (ap (λ b. unwrap_or (cond b (Some v) (find key_cmp e.0 es)) false) other ∙ h.0, apart k v es rest (both_second _ _ below) h.1)
 
 agrees : (es : List (Key × Bool)) → T (is_sorted key_cmp es) → Agrees (there_in es) es
 agrees [] h = tt
-agrees (e ∷ es) h = (ap (λ b. unwrap_or (cond b (Some e.1) (find key_cmp e.0 es)) false) (itself e.0), apart e.0 e.1 es es (first _ _ h) (agrees es (second _ _ h)))
+agrees (e ∷ es) h = (ap (λ b. unwrap_or (cond b (Some e.1) (find key_cmp e.0 es)) false) (itself e.0), apart e.0 e.1 es es (both_first _ _ h) (agrees es (both_second _ _ h)))
 
 chosen_alike : (test : Key → Bool) (e : Key × Bool) (a b : Bool) (es : List (Key × Bool)) (ks : List Key) → a ≡ b → map (λ (e : Key × Bool). e.0) es ≡ ks → map (λ (e : Key × Bool). e.0) (cond b (e ∷ es) es) ≡ cond a (e.0 ∷ ks) ks
 chosen_alike test e true true es ks same rest = ap (λ l. e.0 ∷ l) rest

@@ -7,28 +7,19 @@ use Rattle.std.specs.List.{AllByRecursion, cons_option, filter_map}
 use Rattle.std.specs.List.Sorted.{IsStrictlySortedBy}
 use Rattle.std.specs.Map.{keys_of}
 use Rattle.std.specs.Ordering.{is_eq, is_lt}
-use Rattle.std.proofs.lemmas.Map.Keys.{sorted_head, sorted_tail}
 use Rattle.disco_values.specs.Key.{key_cmp, same_key}
 use Rattle.disco_values.specs.declared.key.Key.{Key}
 use Rattle.disco_history.specs.Change.{Entry, last}
 use Rattle.disco_history.specs.Mentions.{delta}
 use Rattle.disco_history.proofs.Keys.{keys_total, exact_keys, same_is}
 use Rattle.disco_history.proofs.Sets.{get-delta}
-use Rattle.disco_history.proofs.Sorted.{both, both_first, both_second, is_less}
+use Rattle.disco_history.proofs.Sorted.{both, both_first, both_second, in_order, none_below}
 use Rattle.disco_queue.specs.Numbers.{AreNumbered, numbered}
 use Rattle.disco_queue.proofs.Numbering.{last_numbered}
 use Rattle.disco_history.proofs.Slots.{get_found}
 
 abbrev Stored : Type 0
 Stored = List (Key × ℕ)
-
-all_below : (k : Key) (es : Stored) → AllByRecursion (λ y. key_cmp k y ≡ Less) (keys_of es) → T (below_all key_cmp k es)
-all_below k [] h = tt
-all_below k (e ∷ es) h = both _ _ (subst (λ o. T (is_lt o)) (sym h.0) tt) (all_below k es h.1)
-
-in_order : (es : Stored) → IsStrictlySortedBy key_cmp (keys_of es) → T (is_sorted key_cmp es)
-in_order [] h = tt
-in_order (e ∷ es) h = both _ _ (all_below e.0 es (sorted_head key_cmp e.0 (keys_of es) h)) (in_order es (sorted_tail key_cmp e.0 (keys_of es) h))
 
 module _ (f : ℕ → Option Entry) where
   -- each place's key with what f makes of its number, if anything
@@ -49,10 +40,6 @@ module _ (f : ℕ → Option Entry) where
   sorted_shown (e ∷ es) h =
       let rest = sorted_shown es (both_second _ _ h) in
       elim (f e.1) as (λ o. T (is_sorted key_cmp (cons_option (option_map (λ x. (e.0, x)) o) (shown es)))) [ Some x ↦ both _ _ (below_shown e.0 es (both_first _ _ h)) rest | None ↦ rest ]
-
-  none_below : (k : Key) (es : Stored) → T (below_all key_cmp k es) → find key_cmp k es ≡ None
-  none_below k [] h = refl
-  none_below k (e ∷ es) h = ap (λ o. cond (is_eq o) (Some e.1) (find key_cmp k es)) (is_less (key_cmp k e.0) (both_first _ _ h)) ∙ none_below k es (both_second _ _ h)
 
   step : (q : Key) (e : Key × ℕ) (es : Stored) (b : Bool) (o : Option Entry) → same_key q e.0 ≡ b → f e.1 ≡ o → (b ≡ true → find key_cmp q es ≡ None) → find key_cmp q (shown es) ≡ option_and_then f (find key_cmp q es)
       → find key_cmp q (cons_option (option_map (λ x. (e.0, x)) o) (shown es)) ≡ option_and_then f (cond b (Some e.1) (find key_cmp q es))

@@ -1,4 +1,5 @@
-use Rattle.disco_index.proofs.Stored.{entries_stored, in_order}
+use Rattle.disco_history.proofs.Sorted.{in_order}
+use Rattle.disco_index.proofs.Stored.{entries_stored}
 use Rattle.disco_index.proofs.places.Places.there.Goals as goal
 
 pub returns : goal.returns
