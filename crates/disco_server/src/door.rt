@@ -1,5 +1,5 @@
 //! The door through which workers take connections, one at a time.
-ghost use Rattle.std.specs.Prelude.{◌≡◌, ◌+◌, ◌-◌, ◌^◌, ◌↔◌, ◌⊎◌, IfErr, IsSome, IsTrue, MatchResult, None, Some, min};
+ghost use Rattle.std.specs.Prelude.{◌≡◌, ◌+◌, ◌-◌, ◌^◌, ◌↔◌, ◌⊎◌, IfErr, IsTrue, MatchResult, None, Some, min, option_map};
 ghost use Rattle.disco_values.specs.declared.fault.Fault.TheVariants.{OutOfMemory, ReadFailed};
 
 use disco_values::Fault;
@@ -24,7 +24,7 @@ pub(crate) struct Door {
 }
 
 impl Door {
-    ghost use Rattle.disco_server.specs.Doors.{IsOpen};
+    ghost use Rattle.disco_server.specs.Doors.{IsOpen, fault_of};
 
     /// A door for so many connections, and for any number where that is 0.
     pub(crate) fn new(most: u64) -> Door
@@ -65,7 +65,7 @@ impl Door {
 
     /// Why connections were refused, if they were: `OutOfMemory` or `ReadFailed`.
     pub(crate) fn outcome(&self) -> Result<(), Fault>
-        ensures refused { MatchResult result (λ _. self.now.refused ≡ None) (λ _. IsSome self.now.refused) }
+        ensures refused { MatchResult result (λ _. self.now.refused ≡ None) (λ e. option_map fault_of self.now.refused ≡ Some e) }
         ensures fault { IfErr result (λ fault. (fault ≡ OutOfMemory) ⊎ (fault ≡ ReadFailed)) }
     {
         match self.refused {

@@ -1,6 +1,7 @@
 //! How a worker takes its next connection.
-ghost use Rattle.std.specs.Prelude.{◌≡◌, ◌+◌, ◌-◌, ◌^◌, IfSome, IsNone, min};
+ghost use Rattle.std.specs.Prelude.{◌≡◌, ◌⊎◌, ◌+◌, ◌-◌, ◌^◌, IfSome, IsNone, Some, min};
 ghost use Rattle.disco_server.specs.Doors.{IsOpen};
+ghost use Rattle.disco_server.specs.declared.door.Refusal.TheVariants.{ByHost};
 
 use crate::door::{Door, Refusal};
 use disco_reader::Failed;
@@ -31,7 +32,7 @@ fn accept<L: OpenListener>(listener: &L) -> Result<L::Stream, Failed> {
 fn admit<L: OpenListener>(listener: &L, door: &mut Door) -> Option<(L::Stream, u64)>
     ensures open { IfSome result (λ _. IsOpen door.old) }
     ensures number { IfSome result (λ r. (r.1 ≡ min (door.old.taken + 1) (2 ^ 64 - 1)) × (door.new ≡ record door.old { taken = r.1 })) }
-    ensures shut { IsNone result → IsOpen door.new → ⊥ }
+    ensures shut { IsNone result → ((IsOpen door.old → ⊥) × (door.new ≡ door.old)) ⊎ (IsOpen door.old × (door.new ≡ record door.old { refused = Some ByHost })) }
 {
     if !door.is_open() {
         return None;
