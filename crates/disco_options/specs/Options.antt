@@ -32,16 +32,21 @@ flag_rule name = record (new_rule name) { long = Some name; action = Some SetTru
 abbrev pub needed : Rule → Rule
 needed rule = record rule { required = true }
 
+-- any number, as that of a run
+abbrev pub any_number : Text → Rule
+any_number name = number_rule name 0 18446744073709551615
+
 -- the options that settings have
 abbrev pub with_settings : App → App
 with_settings app =
-    with_rule (with_rule (with_rule (with_rule (with_rule (with_rule app
+    with_rule (with_rule (with_rule (with_rule (with_rule (with_rule (with_rule app
     (number_rule (codes "versions") 1 most_versions))
     (number_rule (codes "instances") 1 most_instances))
     (number_rule (codes "queue") 1 most_queue))
     (number_rule (codes "entries") 1 most_entries))
-    (number_rule (codes "retention") 0 18446744073709551615))
-    (flag_rule (codes "no-delta"))
+    (any_number (codes "retention")))
+    (flag_rule (codes "no-delta")))
+    (any_number (codes "run"))
 
 abbrev pub replay_app : App
 replay_app = with_settings (new_app (codes "replay"))
@@ -51,14 +56,17 @@ serve_app =
     with_rule (with_rule (with_rule (with_settings (new_app (codes "serve")))
     (needed (number_rule (codes "port") 1 65535)))
     (number_rule (codes "workers") 1 64))
-    (number_rule (codes "connections") 0 18446744073709551615)
+    (any_number (codes "connections"))
 
 abbrev pub fleet_app : App
 fleet_app =
-    with_rule (with_rule (with_rule (new_app (codes "fleet"))
+    with_rule (with_rule (with_rule (with_rule (with_rule (with_rule (new_app (codes "fleet"))
     (needed (number_rule (codes "writers") 1 64)))
     (needed (number_rule (codes "clients") 1 64)))
-    (needed (number_rule (codes "instances") 1 most_instances))
+    (needed (number_rule (codes "instances") 1 most_instances)))
+    (any_number (codes "run")))
+    (flag_rule (codes "certified")))
+    (flag_rule (codes "restart"))
 
 abbrev pub app_for : Verb → App
 app_for Replay = replay_app
@@ -119,8 +127,9 @@ within most otherwise (Some given) = if nat_lt 0 given && nat_le given most then
 abbrev pub flag_given : Text → List Row → Bool
 flag_given name rows = option_map_or (λ text. bytes_eq text (codes "true")) (one_of name rows) false
 
--- the settings are those given, with defaults for the others
-pub record AreGiven (rows : List Row) (s : Settings) : Type 0 where
+-- the settings are those given, with defaults for the others, of which that of the run is handed in
+pub record AreGiven (otherwise : ℕ) (rows : List Row) (s : Settings) : Type 0 where
+  pub run : s.run ≡ unwrap_or (number_given (codes "run") rows) otherwise
   pub versions : s.versions ≡ within most_versions most_versions (number_given (codes "versions") rows)
   pub instances : s.instances ≡ within most_instances most_instances (number_given (codes "instances") rows)
   pub queue : s.queue ≡ within most_queue most_queue (number_given (codes "queue") rows)
@@ -132,6 +141,6 @@ pub record AreGiven (rows : List Row) (s : Settings) : Type 0 where
 abbrev pub AreMatches : Verb → List Text → List Row → Type 0
 AreMatches verb words rows = (options : List Text) × (options_of verb words ≡ Some options) × (rows ≡ matches_for verb options)
 
--- the words are a command's word and options that name the settings
-abbrev pub NamedBy : Verb → List Text → Settings → Type 0
-NamedBy verb words s = (rows : List Row) × AreMatches verb words rows × AreGiven rows s
+-- the words are a command's word and options that name the settings, with this run where they name none
+abbrev pub NamedBy : Verb → List Text → ℕ → Settings → Type 0
+NamedBy verb words run s = (rows : List Row) × AreMatches verb words rows × AreGiven run rows s

@@ -3,7 +3,7 @@ ghost use Rattle.std.specs.Prelude.{◌≡◌, IfOk, map, string_bytes};
 ghost use Rattle.clap.specs.Words.{FailsBy, HasKind, app_of, found_of, rows_of};
 ghost use Rattle.disco_options.specs.Options.{AreMatches, app_for, faults_of, faults_of_options, faults_of_others, matches_for, program_app, fleet_app, replay_app, serve_app};
 
-use crate::options::{needed, number, with_settings};
+use crate::options::{flag, needed, number, with_settings};
 use crate::verb::Verb;
 use clap::error::ErrorKind;
 use clap::{ArgMatches, Command, Error};
@@ -16,7 +16,11 @@ fn replay_command<'a>(alloc: Global) -> Result<Command<'a>, AllocError>
     let command = Command::new(alloc, "replay").about(
         "Answers the events of standard input, one a line",
     );
-    with_settings(alloc, command)
+    with_settings(
+        alloc,
+        command,
+        "The number of the server's run [default: 0]",
+    )
 }
 
 fn serve_command<'a>(alloc: Global) -> Result<Command<'a>, AllocError>
@@ -26,10 +30,12 @@ fn serve_command<'a>(alloc: Global) -> Result<Command<'a>, AllocError>
     let workers =
         "How many connections are served at once, 1 to 64; a silent one is closed after 30 seconds [default: 4]";
     let connections = "After how many connections the server ends; 0 is no end [default: 0]";
+    let run =
+        "The number of the server's run, greater than that of each earlier one [default: the moment of the start, in milliseconds]";
     let command = Command::new(alloc, "serve").about(
         "Serves Eureka's REST operations at /eureka/v2",
     );
-    with_settings(alloc, command)?
+    with_settings(alloc, command, run)?
         .arg(needed(number(alloc, "port", "P", 1, 65_535, port)))?
         .arg(number(alloc, "workers", "N", 1, 64, workers))?
         .arg(number(alloc, "connections", "N", 0, u64::MAX, connections))
@@ -41,11 +47,17 @@ fn fleet_command<'a>(alloc: Global) -> Result<Command<'a>, AllocError>
     let writers = "How many threads register, 1 to 64";
     let clients = "How many clients keep a copy, 1 to 64";
     let instances = most_instances!(up_to, "How many instances are registered");
+    let run = "The number of the server's run [default: 0]";
+    let certified = "Lets the clients go by the certificates of documents";
+    let restart = "Starts the server again in the next run, and shows all once more";
     Command::new(alloc, "fleet")
         .about("Shows writers, a server and clients at work in one process")
         .arg(needed(number(alloc, "writers", "W", 1, 64, writers)))?
         .arg(needed(number(alloc, "clients", "C", 1, 64, clients)))?
-        .arg(needed(number(alloc, "instances", "N", 1, MOST_INSTANCES, instances)))
+        .arg(needed(number(alloc, "instances", "N", 1, MOST_INSTANCES, instances)))?
+        .arg(number(alloc, "run", "N", 0, u64::MAX, run))?
+        .arg(flag(alloc, "certified", certified))?
+        .arg(flag(alloc, "restart", restart))
 }
 
 fn command_of<'a>(alloc: Global, verb: Verb) -> Result<Command<'a>, AllocError>

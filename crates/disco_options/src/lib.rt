@@ -10,6 +10,6 @@ mod verb;
 
 pub use commands::read_words;
 pub use faults::{refused, report, without_words};
-pub use options::{count, number_given};
+pub use options::{count, flag_given, number_given};
 pub use settings::{read_settings, settings_from, settings_of};
 pub use verb::Verb;

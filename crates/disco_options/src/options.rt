@@ -39,20 +39,22 @@ pub(crate) fn needed<'a>(arg: Arg<'a>) -> Arg<'a>
     arg.required(true)
 }
 
-fn no_delta<'a>(alloc: Global) -> Arg<'a>
-    ensures rule { rule_of result ≡ flag_rule (codes "no-delta") }
+/// An option that is given or not.
+pub(crate) fn flag<'a>(alloc: Global, name: &'a str, help: &'a str) -> Arg<'a>
+    ensures rule { rule_of result ≡ flag_rule name.entry.now }
     ensures local { result.global ≡ false }
 {
-    Arg::new(alloc, "no-delta")
-        .long("no-delta")
+    Arg::new(alloc, name)
+        .long(name)
         .action(ArgAction::SetTrue)
-        .help("Serves no deltas")
+        .help(help)
 }
 
-/// A command with the options that settings have.
+/// A command with the options that settings have; `run` is the help for that of the run.
 pub(crate) fn with_settings<'a>(
     alloc: Global,
     command: Command<'a>,
+    run: &'a str,
 ) -> Result<Command<'a>, AllocError>
     ensures { IfOk result (λ c. app_of c ≡ with_settings (app_of command.entry)) }
 {
@@ -73,7 +75,8 @@ pub(crate) fn with_settings<'a>(
         .arg(number(alloc, "queue", "N", 1, MOST_QUEUE, queue))?
         .arg(number(alloc, "entries", "N", 1, MOST_ENTRIES, entries))?
         .arg(number(alloc, "retention", "MS", 0, u64::MAX, retention))?
-        .arg(no_delta(alloc))
+        .arg(flag(alloc, "no-delta", "Serves no deltas"))?
+        .arg(number(alloc, "run", "N", 0, u64::MAX, run))
 }
 
 /// The number given for a name.
@@ -84,7 +87,7 @@ pub fn number_given(matches: &ArgMatches<'_>, name: &str) -> Option<u64>
 }
 
 /// Whether a flag is given.
-pub(crate) fn flag_given(matches: &ArgMatches<'_>, name: &str) -> bool
+pub fn flag_given(matches: &ArgMatches<'_>, name: &str) -> bool
     ensures { result ≡ flag_given name.now (rows_of (found_of matches.now)) }
 {
     matches.get_one::<bool>(name).unwrap_or(false)

@@ -14,12 +14,12 @@ use disco_settings::{
 };
 use std::alloc::Global;
 
-/// The settings that are given, with the default of each that isn't.
-pub fn settings_from(matches: &ArgMatches<'_>) -> Settings
-    ensures { AreGiven (rows_of (found_of matches.now)) result }
+/// The settings that are given, with the default of each that isn't, which of the run is `run`.
+pub fn settings_from(matches: &ArgMatches<'_>, run: u64) -> Settings
+    ensures { AreGiven run (rows_of (found_of matches.now)) result }
 {
     Settings {
-        run: 0,
+        run: number_given(matches, "run").unwrap_or(run),
         versions: count(matches, "versions", MOST_VERSIONS, MOST_VERSIONS),
         instances: count(matches, "instances", MOST_INSTANCES, MOST_INSTANCES),
         queue: count(matches, "queue", MOST_QUEUE, MOST_QUEUE),
@@ -29,29 +29,36 @@ pub fn settings_from(matches: &ArgMatches<'_>) -> Settings
     }
 }
 
-/// The settings that words which begin with a command's word are for.
-pub fn read_settings<'a>(alloc: Global, verb: Verb, words: &'a [String]) -> Result<Settings, Error>
-    ensures settings { IfOk result (NamedBy verb (map string_bytes words.entry.now)) }
+/// The settings that words which begin with a command's word are for; the run is `run` where they
+/// name none.
+pub fn read_settings<'a>(
+    alloc: Global,
+    verb: Verb,
+    words: &'a [String],
+    run: u64,
+) -> Result<Settings, Error>
+    ensures settings { IfOk result (NamedBy verb (map string_bytes words.entry.now) run) }
     ensures faults { FailsBy (faults_of verb (map string_bytes words.entry.now)) result }
 {
     let matches = read_words(alloc, verb, words)?;
-    Ok(settings_from(&matches))
+    Ok(settings_from(&matches, run))
 }
 
 /// The settings that the words behind the program's name are for: `replay` or `serve`, and then
-/// `--versions N`, `--instances N`, `--queue N`, `--entries N`, `--retention MS`, `--no-delta`, or
-/// `fleet` and its `--instances N`. An option that isn't given has its default.
+/// `--versions N`, `--instances N`, `--queue N`, `--entries N`, `--retention MS`, `--no-delta`,
+/// `--run N`, or `fleet` and its `--instances N` and `--run N`. An option that isn't given has its
+/// default, and that of the run is `run`.
 ///
 /// An error is the program's exit status: 0 where help was asked for, 1 for want of memory, 2 for
 /// words that are refused.
-pub fn settings_of<'a>(alloc: Global, words: &'a [String]) -> Result<Settings, u8>
-    ensures settings { IfOk result (NamedBy (verb_of (map string_bytes words.entry.now)) (map string_bytes words.entry.now)) }
+pub fn settings_of<'a>(alloc: Global, words: &'a [String], run: u64) -> Result<Settings, u8>
+    ensures settings { IfOk result (NamedBy (verb_of (map string_bytes words.entry.now)) (map string_bytes words.entry.now) run) }
     ensures ok_only_without_fault { OnOk result (faults_of (verb_of (map string_bytes words.entry.now))
         (map string_bytes words.entry.now) ≡ []) }
     ensures status { IfErr result (λ status. status ≤ 2) }
     ensures kind { IfErr result (IsStatusAmong (faults_of (verb_of (map string_bytes words.entry.now)) (map string_bytes words.entry.now))) }
 {
-    match read_settings(alloc, Verb::of(words), words) {
+    match read_settings(alloc, Verb::of(words), words, run) {
         Ok(settings) => Ok(settings),
         Err(error) => Err(status_of(&error)),
     }

@@ -2,7 +2,7 @@ use Rattle.std.proofs.Common.{rules, ap, ap₂, codes, ◌≡◌, ◌∙◌}
 use Rattle.std.proofs.lemmas.Result.{IfOk-weaker}
 use Rattle.clap.specs.Words.{app_of, new_app, rule_of, with_rule}
 use Rattle.clap.specs.Simple.{app_of_fields}
-use Rattle.disco_options.specs.Options.{needed, number_rule}
+use Rattle.disco_options.specs.Options.{flag_rule, needed, number_rule}
 use Rattle.disco_options.proofs.commands.fleet_command.Goals as goal
 
 pub returns : goal.returns
@@ -13,4 +13,10 @@ returns c =
     let rule2 : rule_of c.number-2.result ≡ number_rule (codes "clients") 1 64 = search rules in
     let app2 = c.in_ok-arg-2.ensures.shape (c.needed-2.ensures.local ∙ c.number-2.ensures.local) ∙ ap₂ with_rule app1 (c.needed-2.ensures.rule ∙ ap needed rule2) in
     let rule3 : rule_of c.number-3.result ≡ number_rule (codes "instances") 1 65536 = search rules in
-    IfOk-weaker c.arg-3.result _ _ (λ r added. added.shape (c.needed-3.ensures.local ∙ c.number-3.ensures.local) ∙ ap₂ with_rule app2 (c.needed-3.ensures.rule ∙ ap needed rule3)) c.arg-3.ensures
+    let app3 = c.in_ok-arg-3.ensures.shape (c.needed-3.ensures.local ∙ c.number-3.ensures.local) ∙ ap₂ with_rule app2 (c.needed-3.ensures.rule ∙ ap needed rule3) in
+    let rule4 : rule_of c.number-4.result ≡ number_rule (codes "run") 0 18446744073709551615 = search rules in
+    let app4 = c.in_ok-arg-4.ensures.shape c.number-4.ensures.local ∙ ap₂ with_rule app3 rule4 in
+    let rule5 : rule_of c.flag.result ≡ flag_rule (codes "certified") = search rules in
+    let app5 = c.in_ok-arg-5.ensures.shape c.flag.ensures.local ∙ ap₂ with_rule app4 rule5 in
+    let rule6 : rule_of c.flag-2.result ≡ flag_rule (codes "restart") = search rules in
+    IfOk-weaker c.arg-6.result _ _ (λ r added. added.shape c.flag-2.ensures.local ∙ ap₂ with_rule app5 rule6) c.arg-6.ensures

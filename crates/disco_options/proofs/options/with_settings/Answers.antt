@@ -1,7 +1,7 @@
 use Rattle.std.proofs.Common.{rules, ap₂, codes, refl, ◌≡◌, ◌∙◌}
 use Rattle.std.proofs.lemmas.Result.{IfOk-weaker}
 use Rattle.clap.specs.Words.{rule_of, with_rule}
-use Rattle.disco_options.specs.Options.{number_rule}
+use Rattle.disco_options.specs.Options.{flag_rule, number_rule}
 use Rattle.disco_options.proofs.options.with_settings.Goals as goal
 
 pub returns : goal.returns
@@ -16,4 +16,7 @@ returns c =
     let app4 = c.in_ok-arg-4.ensures.shape c.number-4.ensures.local ∙ ap₂ with_rule app3 rule4 in
     let rule5 : rule_of c.number-5.result ≡ number_rule (codes "retention") 0 18446744073709551615 = search rules in
     let app5 = c.in_ok-arg-5.ensures.shape c.number-5.ensures.local ∙ ap₂ with_rule app4 rule5 in
-    IfOk-weaker c.arg-6.result _ _ (λ r added. added.shape c.no_delta.ensures.local ∙ ap₂ with_rule app5 c.no_delta.ensures.rule) c.arg-6.ensures
+    let rule6 : rule_of c.flag.result ≡ flag_rule (codes "no-delta") = search rules in
+    let app6 = c.in_ok-arg-6.ensures.shape c.flag.ensures.local ∙ ap₂ with_rule app5 rule6 in
+    let rule7 : rule_of c.number-6.result ≡ number_rule (codes "run") 0 18446744073709551615 = search rules in
+    IfOk-weaker c.arg-7.result _ _ (λ r added. added.shape c.number-6.ensures.local ∙ ap₂ with_rule app6 rule7) c.arg-7.ensures
