@@ -4,6 +4,7 @@ pub mod Few
 pub mod Fields
 pub mod Framing
 pub mod Heading
+pub mod Laws
 pub mod Received
 pub mod ReplyText
 pub mod StatusLine

@@ -8,6 +8,7 @@ mod certificate;
 mod fields;
 mod framing;
 mod head;
+pub mod laws;
 mod limits;
 mod lists;
 mod received;
