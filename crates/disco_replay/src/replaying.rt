@@ -82,7 +82,7 @@ pub fn replay<R: Source, W: Sink, E: Sink>(
         (λ fault. Says fault (E.contents errors.old) (E.contents errors.new) (E.failed errors.old) (E.failed errors.new))
         out.old out.new }
 {
-    match read_settings(alloc, Verb::Replay, words) {
+    match read_settings(alloc, Verb::Replay, words, 0) {
         Ok(settings) => match answer(alloc, &settings, reader, out) {
             Ok(()) => 0,
             Err(fault) => report(&fault, errors),
