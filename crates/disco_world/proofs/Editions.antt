@@ -17,12 +17,12 @@ use Rattle.disco_hub.specs.State.{MayServe}
 use Rattle.disco_rounds.specs.declared.copied.Copied.TheVariants as copied
 use Rattle.disco_rounds.proofs.Notes.{copied-begin, copied-doc, copied-gone}
 use Rattle.disco_world.specs.Answers.{AreAnswers, IsAnswer}
-use Rattle.disco_world.specs.Events.{Deed, World, begins, copies, publishes, after, after_at, changes_since, deed, past_after, press_done, world}
-use Rattle.disco_world.specs.Rounds.{Press, all_of}
+use Rattle.disco_world.specs.Events.{Deed, World, begins, copies, publishes, restarts, after, after_at, changes_since, deed, past_after, press_done, world}
+use Rattle.disco_world.specs.Rounds.{Press, all_of, press_from}
 use Rattle.disco_world.specs.declared.event.Event.{Event}
 use Rattle.disco_hub.proofs.Levels.{copied_changes}
 use Rattle.disco_world.specs.declared.event.Reply.{Reply}
-use Rattle.disco_world.specs.declared.event.Reply.TheVariants.{Begun, Copied, Published}
+use Rattle.disco_world.specs.declared.event.Reply.TheVariants.{Begun, Copied, Published, Restarted}
 
 none_at : (k : DocKey) (d : Payload) → get (empty {X = Payload} {R = doc_cmp}) k ≡ Some d → ⊥
 none_at k d is = absurd (the (sym (get-empty doc_cmp k) ∙ is))
@@ -35,9 +35,9 @@ equal Less e = absurd (cc)
 equal Equal e = refl
 equal Greater e = absurd (cc)
 
-module _ (rules : Rules) (es : List Event) (rs : List Reply) where
+module _ (rules : Rules) (first_run : ℕ) (es : List Event) (rs : List Reply) where
   abbrev here : ℕ → World
-  here i = world rules es rs i
+  here i = world rules first_run es rs i
 
   -- a document of that key could be served after some event from one on
   pub record Was (i from : ℕ) (k : DocKey) (d : Payload) : Type 0 where
@@ -116,6 +116,15 @@ module _ (rules : Rules) (es : List Event) (rs : List Reply) where
       shown = subst (AllWere (i + 1) s.begun) (sym fresh) (on_from s.begun (copied_in (all_of s)) sees.copied);
     }
 
+    -- nothing is seen of a run that has just begun
+    restarted_on : SeesIn (press_from (n + 1)) (i + 1) (n + 1)
+    restarted_on = record {
+      begun = omega arith;
+      floor = omega arith;
+      copied = λ k d is. absurd (none_at k d is);
+      shown = λ k d is. absurd (none_at k d is);
+    }
+
     module _ (cs : List Entry) where
       abbrev s : Press
       s = (here i).press
@@ -128,47 +137,48 @@ module _ (rules : Rules) (es : List Event) (rs : List Reply) where
       sees_on copies (Copied (copied.Doc p)) answer fresh sees = doc_on s p.value answer.2.1 sees
       sees_on copies (Copied (copied.Drop j)) answer fresh sees = gone_on s j sees
       sees_on publishes (Published m) answer fresh sees = published_on s fresh sees
+      sees_on (restarts run) (Restarted r) answer fresh sees = restarted_on
       sees_on what r answer fresh sees = plain sees
 
 -- what readers see may be published
-abbrev pub ShowsFresh : Rules → List Event → List Reply → ℕ → Type 0
-ShowsFresh rules es rs i = IsPublishable (world rules es rs i).press.published
+abbrev pub ShowsFresh : Rules → ℕ → List Event → List Reply → ℕ → Type 0
+ShowsFresh rules first_run es rs i = IsPublishable (world rules first_run es rs i).press.published
 
 -- there are no more replies than events so far, and documents come from where they may
-pub record Sees (rules : Rules) (es : List Event) (rs : List Reply) (i : ℕ) : Type 0 where
-  pub count : length (world rules es rs i).replies ≤ i
-  pub sees : SeesIn rules es rs (world rules es rs i).press i (length (world rules es rs i).replies)
+pub record Sees (rules : Rules) (first_run : ℕ) (es : List Event) (rs : List Reply) (i : ℕ) : Type 0 where
+  pub count : length (world rules first_run es rs i).replies ≤ i
+  pub sees : SeesIn rules first_run es rs (world rules first_run es rs i).press i (length (world rules first_run es rs i).replies)
 
 -- the same of what comes after an event
-record Next (rules : Rules) (es : List Event) (rs : List Reply) (i : ℕ) (w : World) : Type 0 where
+record Next (rules : Rules) (first_run : ℕ) (es : List Event) (rs : List Reply) (i : ℕ) (w : World) : Type 0 where
   count : length w.replies ≤ i
-  sees : SeesIn rules es rs w.press i (length w.replies)
+  sees : SeesIn rules first_run es rs w.press i (length w.replies)
 
-module _ (rules : Rules) (es : List Event) (rs : List Reply) where
-  later : (s : Press) (i n : ℕ) → SeesIn rules es rs s i n → SeesIn rules es rs s (i + 1) n
+module _ (rules : Rules) (first_run : ℕ) (es : List Event) (rs : List Reply) where
+  later : (s : Press) (i n : ℕ) → SeesIn rules first_run es rs s i n → SeesIn rules first_run es rs s (i + 1) n
   later s i n sees = record {
     begun = sees.begun;
     floor = sees.floor;
-    copied = λ k d is. longer rules es rs i s.begun k d (sees.copied k d is);
-    shown = λ k d is. longer rules es rs i s.floor k d (sees.shown k d is);
+    copied = λ k d is. longer rules first_run es rs i s.begun k d (sees.copied k d is);
+    shown = λ k d is. longer rules first_run es rs i s.floor k d (sees.shown k d is);
   }
 
-  one_on : AreAnswers rules es rs → (i : ℕ) → Sees rules es rs i → (e : Option Event) → slice_get es i ≡ e → (r : Option Reply) → slice_get rs i ≡ r
-      → IsPublishable (after_at rules (world rules es rs i) e r).press.published → Next rules es rs (i + 1) (after_at rules (world rules es rs i) e r)
+  one_on : AreAnswers rules first_run es rs → (i : ℕ) → Sees rules first_run es rs i → (e : Option Event) → slice_get es i ≡ e → (r : Option Reply) → slice_get rs i ≡ r
+      → IsPublishable (after_at rules (world rules first_run es rs i) e r).press.published → Next rules first_run es rs (i + 1) (after_at rules (world rules first_run es rs i) e r)
   one_on answers i now (Some e) event (Some r) reply fresh =
-      let w = world rules es rs i in
+      let w = world rules first_run es rs i in
       let n = length w.replies in
       let what = deed rules w e in
       let many : length (w.replies ++ r ∷ []) ≡ n + 1 = length-append w.replies (r ∷ []) in
       record {
         count = omega (arith, many, now.count);
-        sees = subst (SeesIn rules es rs (after rules w what r).press (i + 1)) (sym many)
-            (sees_on rules es rs i n now.count (changes_since w.past (past_after rules w.past what r)) what r (answers i e r event reply) fresh now.sees);
+        sees = subst (SeesIn rules first_run es rs (after rules w what r).press (i + 1)) (sym many)
+            (sees_on rules first_run es rs i n now.count (changes_since w.past (past_after rules w.past what r)) what r (answers i e r event reply) fresh now.sees);
       }
-  one_on answers i now None event r reply fresh = record { count = omega (arith, now.count); sees = later (world rules es rs i).press i (length (world rules es rs i).replies) now.sees }
-  one_on answers i now (Some e) event None reply fresh = record { count = omega (arith, now.count); sees = later (world rules es rs i).press i (length (world rules es rs i).replies) now.sees }
+  one_on answers i now None event r reply fresh = record { count = omega (arith, now.count); sees = later (world rules first_run es rs i).press i (length (world rules first_run es rs i).replies) now.sees }
+  one_on answers i now (Some e) event None reply fresh = record { count = omega (arith, now.count); sees = later (world rules first_run es rs i).press i (length (world rules first_run es rs i).replies) now.sees }
 
-  pub sees_at : AreAnswers rules es rs → (i : ℕ) → ((j : ℕ) → j ≤ i → ShowsFresh rules es rs j) → Sees rules es rs i
+  pub sees_at : AreAnswers rules first_run es rs → (i : ℕ) → ((j : ℕ) → j ≤ i → ShowsFresh rules first_run es rs j) → Sees rules first_run es rs i
   unfolding world
   sees_at answers zero fresh = record {
     count = omega arith;
@@ -176,4 +186,4 @@ module _ (rules : Rules) (es : List Event) (rs : List Reply) where
   }
   sees_at answers (suc i) fresh =
       let next = one_on answers i (sees_at answers i (λ j le. fresh j (omega (arith, le)))) (slice_get es i) refl (slice_get rs i) refl (fresh (suc i) (omega arith)) in
-      record { count = omega (arith, next.count); sees = subst (λ k. SeesIn rules es rs (world rules es rs (suc i)).press k (length (world rules es rs (suc i)).replies)) (add-one i) next.sees }
+      record { count = omega (arith, next.count); sees = subst (λ k. SeesIn rules first_run es rs (world rules first_run es rs (suc i)).press k (length (world rules first_run es rs (suc i)).replies)) (add-one i) next.sees }

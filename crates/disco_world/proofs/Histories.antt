@@ -17,13 +17,13 @@ use Rattle.disco_world.specs.Answers.{AreAnswers, AreServed, IsAnswer, IsFirstBa
 use Rattle.disco_world.specs.Caching.{AreCached, Cache, Caches, new_cache}
 use Rattle.disco_world.specs.Levels.{AreLevelsOf, Goes}
 use Rattle.disco_world.specs.declared.levels.Levels.{Levels}
+use Rattle.disco_world.proofs.Rooms.{room_stays}
 use Rattle.disco_world.proofs.Editions.{Sees, ShowsFresh, sees_at}
 use Rattle.disco_values.specs.declared.fault.Fault.{Fault}
 use Rattle.disco_values.specs.declared.fault.Fault.TheVariants.{BadEvent}
 use Rattle.disco_query.specs.declared.key.DocKey.{DocKey}
-use Rattle.disco_world.specs.Events.{Deed, World, writes, loads, cleans, closes, expires, begins, copies, publishes, looks, takes, shows, bad, after, after_at, deed, new_world, world}
-use Rattle.disco_world.specs.Steps.{AreHeld, cache_of}
-use Rattle.disco_world.specs.declared.clients.Client.{Client}
+use Rattle.disco_world.specs.Events.{Deed, World, writes, loads, cleans, closes, expires, begins, copies, publishes, looks, takes, certifies, shows, shows_certified, restarts, bad, after, after_at, deed, new_world, world}
+use Rattle.disco_world.specs.Steps.{AreHeld, Holders, cache_of}
 use Rattle.disco_world.specs.declared.event.Event.{Event}
 use Rattle.disco_world.specs.declared.event.Reply.{Reply}
 use Rattle.disco_world.specs.declared.event.Reply.TheVariants.{Doc}
@@ -71,74 +71,75 @@ abbrev pub after_event : Rules → World → Event → Reply → World
 after_event rules w e r = after rules w (deed rules w e) r
 
 -- a history does not look past the replies to its events
-world-front : (rules : Rules) (es : List Event) (rs : List Reply) (r : Reply) (i : ℕ) → i ≤ length rs → world rules es (rs ++ r ∷ []) i ≡ world rules es rs i
+world-front : (rules : Rules) (first_run : ℕ) (es : List Event) (rs : List Reply) (r : Reply) (i : ℕ) → i ≤ length rs → world rules first_run es (rs ++ r ∷ []) i ≡ world rules first_run es rs i
 unfolding world
-world-front rules es rs r zero le = refl
-world-front rules es rs r (suc i) le =
+world-front rules first_run es rs r zero le = refl
+world-front rules first_run es rs r (suc i) le =
     let lt : i < length rs = omega (arith, le) in
-    λ k. after_at rules (world-front rules es rs r i (omega (arith, le)) k) (slice_get es i) (get_front rs r i lt k)
+    λ k. after_at rules (world-front rules first_run es rs r i (omega (arith, le)) k) (slice_get es i) (get_front rs r i lt k)
 
-world-suc : (rules : Rules) (es : List Event) (rs : List Reply) (i : ℕ) (e : Event) (r : Reply) → slice_get es i ≡ Some e → slice_get rs i ≡ Some r → world rules es rs (i + 1) ≡ after_event rules (world rules es rs i) e r
+world-suc : (rules : Rules) (first_run : ℕ) (es : List Event) (rs : List Reply) (i : ℕ) (e : Event) (r : Reply) → slice_get es i ≡ Some e → slice_get rs i ≡ Some r → world rules first_run es rs (i + 1) ≡ after_event rules (world rules first_run es rs i) e r
 unfolding world
-world-suc rules es rs i e r event reply = ap (world rules es rs) (add-one i) ∙ (λ k. after_at rules (world rules es rs i) (event k) (reply k))
+world-suc rules first_run es rs i e r event reply = ap (world rules first_run es rs) (add-one i) ∙ (λ k. after_at rules (world rules first_run es rs i) (event k) (reply k))
 
 -- what was noted is as it has to be after the first k events
-abbrev pub IsPressedAt : Rules → List Event → List Reply → ℕ → Type 0
-IsPressedAt rules es rs k = let w = world rules es rs k in (edition : KeySet) × (round : Option Round) × IsPressed w.press (history w.past) edition round
+abbrev pub IsPressedAt : Rules → ℕ → List Event → List Reply → ℕ → Type 0
+IsPressedAt rules first_run es rs k = let w = world rules first_run es rs k in (edition : KeySet) × (round : Option Round) × IsPressed w.past.run w.press (history w.past) edition round
 
 -- and it is so with the rounds of a cache
-abbrev pub IsPressedBy : Rules → List Event → List Reply → ℕ → Cache → Type 0
-IsPressedBy rules es rs k s = let w = world rules es rs k in IsPressed w.press (history w.past) s.rounds.edition s.rounds.round
+abbrev pub IsPressedBy : Rules → ℕ → List Event → List Reply → ℕ → Cache → Type 0
+IsPressedBy rules first_run es rs k s = let w = world rules first_run es rs k in IsPressed w.past.run w.press (history w.past) s.rounds.edition s.rounds.round
 
 -- the event of index k leaves this
-abbrev pub CachesAt : Rules → List Event → List Reply → ℕ → Event → Reply → Cache → Cache → Type 0
-CachesAt rules es rs k e r old new = let w = world rules es rs k in Caches rules w.past (deed rules w e) r old new
+abbrev pub CachesAt : Rules → ℕ → List Event → List Reply → ℕ → Event → Reply → Cache → Cache → Type 0
+CachesAt rules first_run es rs k e r old new = let w = world rules first_run es rs k in Caches rules w.past (deed rules w e) r old new
 
 -- what was kept and copied, up to the first i events, which leave this
-pub record IsCourse (most : ℕ) (rules : Rules) (es : List Event) (rs : List Reply) (i : ℕ) (now : Cache) : Type 0 where
+pub record IsCourse (most : ℕ) (rules : Rules) (first_run : ℕ) (es : List Event) (rs : List Reply) (i : ℕ) (now : Cache) : Type 0 where
   pub caches : ℕ → Cache
   pub first : caches 0 ≡ new_cache most
   pub last : caches i ≡ now
-  pub each : (k : ℕ) (e : Event) (r : Reply) → slice_get es k ≡ Some e → slice_get rs k ≡ Some r → CachesAt rules es rs k e r (caches k) (caches (k + 1))
-  pub pressed : (k : ℕ) → k ≤ i → IsPressedBy rules es rs k (caches k)
+  pub each : (k : ℕ) (e : Event) (r : Reply) → slice_get es k ≡ Some e → slice_get rs k ≡ Some r → CachesAt rules first_run es rs k e r (caches k) (caches (k + 1))
+  pub pressed : (k : ℕ) → k ≤ i → IsPressedBy rules first_run es rs k (caches k)
 
 -- what was noted is in step with the rounds of some cache
-pub some_pressed : (most : ℕ) (rules : Rules) (es : List Event) (rs : List Reply) (i : ℕ) (now : Cache) → IsCourse most rules es rs i now → (k : ℕ) → k ≤ i → IsPressedAt rules es rs k
-some_pressed most rules es rs i now course k le = ((course.caches k).rounds.edition, (course.caches k).rounds.round, course.pressed k le)
+pub some_pressed : (most : ℕ) (rules : Rules) (first_run : ℕ) (es : List Event) (rs : List Reply) (i : ℕ) (now : Cache) → IsCourse most rules first_run es rs i now → (k : ℕ) → k ≤ i → IsPressedAt rules first_run es rs k
+some_pressed most rules first_run es rs i now course k le = ((course.caches k).rounds.edition, (course.caches k).rounds.round, course.pressed k le)
 
 -- what is true of a run after its first i events
-pub record IsRun (most : ℕ) (rules : Rules) (es : List Event) (rs : List Reply) (i : ℕ) (s : Levels) (clients : ℕ → Option Client) : Type 0 where
+pub record IsRun (most : ℕ) (rules : Rules) (first_run : ℕ) (es : List Event) (rs : List Reply) (i : ℕ) (s : Levels) (clients : Holders) : Type 0 where
   pub count : length rs ≡ i
-  pub levels : AreLevelsOf s (world rules es rs i)
-  pub course : IsCourse most rules es rs i (cache_of s.hub)
-  pub held : AreHeld clients (world rules es rs i)
-  pub replies : (world rules es rs i).replies ≡ rs
+  pub levels : AreLevelsOf s (world rules first_run es rs i)
+  pub course : IsCourse most rules first_run es rs i (cache_of s.hub)
+  pub held : AreHeld clients (world rules first_run es rs i)
+  pub replies : (world rules first_run es rs i).replies ≡ rs
   pub rules_are : rules_of s.hub ≡ rules
-  pub answers : AreAnswers rules es rs
+  pub room : s.hub.docs.max ≡ most
+  pub answers : AreAnswers rules first_run es rs
 
-module _ (rules : Rules) (es : List Event) (rs : List Reply) (i : ℕ) (e : Event) (r : Reply) (count : length rs ≡ i) (event : slice_get es i ≡ Some e) where
+module _ (rules : Rules) (first_run : ℕ) (es : List Event) (rs : List Reply) (i : ℕ) (e : Event) (r : Reply) (count : length rs ≡ i) (event : slice_get es i ≡ Some e) where
   last_reply : slice_get (rs ++ r ∷ []) i ≡ Some r
   last_reply = ap (slice_get (rs ++ r ∷ [])) (sym count) ∙ get_last rs r
 
-  same_front : (k : ℕ) → k ≤ length rs → world rules es (rs ++ r ∷ []) k ≡ world rules es rs k
-  same_front k le = world-front rules es rs r k le
+  same_front : (k : ℕ) → k ≤ length rs → world rules first_run es (rs ++ r ∷ []) k ≡ world rules first_run es rs k
+  same_front k le = world-front rules first_run es rs r k le
 
-  world_next : world rules es (rs ++ r ∷ []) (i + 1) ≡ after_event rules (world rules es rs i) e r
-  world_next = world-suc rules es (rs ++ r ∷ []) i e r event last_reply ∙ ap (λ p. after_event rules p e r) (same_front i (omega (arith, count)))
+  world_next : world rules first_run es (rs ++ r ∷ []) (i + 1) ≡ after_event rules (world rules first_run es rs i) e r
+  world_next = world-suc rules first_run es (rs ++ r ∷ []) i e r event last_reply ∙ ap (λ p. after_event rules p e r) (same_front i (omega (arith, count)))
 
-  answer_at : answers_event rules (world rules es rs i) e r → AreAnswers rules es rs → (k : ℕ) (f : Event) (q : Reply) → slice_get es k ≡ Some f → slice_get (rs ++ r ∷ []) k ≡ Some q → Place k (length rs)
-      → answers_event rules (world rules es (rs ++ r ∷ []) k) f q
+  answer_at : answers_event rules (world rules first_run es rs i) e r → AreAnswers rules first_run es rs → (k : ℕ) (f : Event) (q : Reply) → slice_get es k ≡ Some f → slice_get (rs ++ r ∷ []) k ≡ Some q → Place k (length rs)
+      → answers_event rules (world rules first_run es (rs ++ r ∷ []) k) f q
   answer_at here so_far k f q ev rep (below lt) =
       subst (λ h. answers_event rules h f q) (sym (same_front k (omega (arith, lt)))) (so_far k f q ev (sym (get_front rs r k lt) ∙ rep))
   answer_at here so_far k f q ev rep (at is) =
       let same_k : k ≡ i = is ∙ count in
       let same_e : e ≡ f = same_Some e f (sym event ∙ ap (slice_get es) (sym same_k) ∙ ev) in
       let same_r : r ≡ q = same_Some r q (sym last_reply ∙ ap (slice_get (rs ++ r ∷ [])) (sym same_k) ∙ rep) in
-      let hs : world rules es rs i ≡ world rules es (rs ++ r ∷ []) k = ap (world rules es rs) (sym same_k) ∙ sym (same_front k (omega (arith, is))) in
+      let hs : world rules first_run es rs i ≡ world rules first_run es (rs ++ r ∷ []) k = ap (world rules first_run es rs) (sym same_k) ∙ sym (same_front k (omega (arith, is))) in
       subst (λ x. x) (λ j. answers_event rules (hs j) (same_e j) (same_r j)) here
   answer_at here so_far k f q ev rep (beyond lt) = absurd (let bad = sym (get_past rs r k lt) ∙ rep in cc)
 
-  pub answers_more : answers_event rules (world rules es rs i) e r → AreAnswers rules es rs → AreAnswers rules es (rs ++ r ∷ [])
+  pub answers_more : answers_event rules (world rules first_run es rs i) e r → AreAnswers rules first_run es rs → AreAnswers rules first_run es (rs ++ r ∷ [])
   answers_more here so_far = λ k f q ev rep. answer_at here so_far k f q ev rep (place_of k (length rs))
 
   -- what is kept after the event comes last
@@ -151,16 +152,16 @@ module _ (rules : Rules) (es : List Event) (rs : List Reply) (i : ℕ) (e : Even
   after_it : (caches : ℕ → Cache) (new : Cache) (k : ℕ) → k ≡ i + 1 → extended caches new k ≡ new
   after_it caches new k is = ap (λ b. cond b (caches k) new) (le-ltb k (i + 1) (omega (arith, is)))
 
-  module _ (most : ℕ) (old new : Cache) (course : IsCourse most rules es rs i old) where
+  module _ (most : ℕ) (old new : Cache) (course : IsCourse most rules first_run es rs i old) where
     abbrev at_each : ℕ → Cache
     at_each = extended course.caches new
 
-    here_is : Caches rules (world rules es rs i).past (deed rules (world rules es rs i) e) r old new → CachesAt rules es (rs ++ r ∷ []) i e r (at_each i) (at_each (i + 1))
+    here_is : Caches rules (world rules first_run es rs i).past (deed rules (world rules first_run es rs i) e) r old new → CachesAt rules first_run es (rs ++ r ∷ []) i e r (at_each i) (at_each (i + 1))
     here_is here =
         subst (λ x. x) (λ j. let w = sym (same_front i (omega (arith, count))) j in Caches rules w.past (deed rules w e) r (sym (before_it course.caches new i (omega arith) ∙ course.last) j) (sym (after_it course.caches new (i + 1) refl) j)) here
 
-    each_at : Caches rules (world rules es rs i).past (deed rules (world rules es rs i) e) r old new → (k : ℕ) (f : Event) (q : Reply) → slice_get es k ≡ Some f → slice_get (rs ++ r ∷ []) k ≡ Some q → Place k (length rs)
-        → CachesAt rules es (rs ++ r ∷ []) k f q (at_each k) (at_each (k + 1))
+    each_at : Caches rules (world rules first_run es rs i).past (deed rules (world rules first_run es rs i) e) r old new → (k : ℕ) (f : Event) (q : Reply) → slice_get es k ≡ Some f → slice_get (rs ++ r ∷ []) k ≡ Some q → Place k (length rs)
+        → CachesAt rules first_run es (rs ++ r ∷ []) k f q (at_each k) (at_each (k + 1))
     each_at here k f q ev rep (below lt) =
         let so_far = course.each k f q ev (sym (get_front rs r k lt) ∙ rep) in
         subst (λ x. x) (λ j. let w = sym (same_front k (omega (arith, lt))) j in Caches rules w.past (deed rules w f) q (sym (before_it course.caches new k (omega (arith, lt, count))) j) (sym (before_it course.caches new (k + 1) (omega (arith, lt, count))) j)) so_far
@@ -168,20 +169,20 @@ module _ (rules : Rules) (es : List Event) (rs : List Reply) (i : ℕ) (e : Even
         let same_k : k ≡ i = is ∙ count in
         let same_e : e ≡ f = same_Some e f (sym event ∙ ap (slice_get es) (sym same_k) ∙ ev) in
         let same_r : r ≡ q = same_Some r q (sym last_reply ∙ ap (slice_get (rs ++ r ∷ [])) (sym same_k) ∙ rep) in
-        subst (λ x. x) (λ j. CachesAt rules es (rs ++ r ∷ []) (sym same_k j) (same_e j) (same_r j) (at_each (sym same_k j)) (at_each (sym same_k j + 1))) (here_is here)
+        subst (λ x. x) (λ j. CachesAt rules first_run es (rs ++ r ∷ []) (sym same_k j) (same_e j) (same_r j) (at_each (sym same_k j)) (at_each (sym same_k j + 1))) (here_is here)
     each_at here k f q ev rep (beyond lt) = absurd (let bad = sym (get_past rs r k lt) ∙ rep in cc)
 
-    pressed_at : (levels : Levels) → cache_of levels.hub ≡ new → AreLevelsOf levels (after_event rules (world rules es rs i) e r) → (k : ℕ) → k ≤ i + 1 → Place k (i + 1) → IsPressedBy rules es (rs ++ r ∷ []) k (at_each k)
+    pressed_at : (levels : Levels) → cache_of levels.hub ≡ new → AreLevelsOf levels (after_event rules (world rules first_run es rs i) e r) → (k : ℕ) → k ≤ i + 1 → Place k (i + 1) → IsPressedBy rules first_run es (rs ++ r ∷ []) k (at_each k)
     pressed_at levels is_new are k le (below lt) =
-        subst (λ x. x) (λ j. let w = sym (same_front k (omega (arith, lt, count))) j in let s = sym (before_it course.caches new k lt) j in IsPressed w.press (history w.past) s.rounds.edition s.rounds.round) (course.pressed k (omega (arith, lt)))
+        subst (λ x. x) (λ j. let w = sym (same_front k (omega (arith, lt, count))) j in let s = sym (before_it course.caches new k lt) j in IsPressed w.past.run w.press (history w.past) s.rounds.edition s.rounds.round) (course.pressed k (omega (arith, lt)))
     pressed_at levels is_new are k le (at is) =
-        let here : IsPressed (after_event rules (world rules es rs i) e r).press (history (after_event rules (world rules es rs i) e r).past) levels.hub.rounds.edition levels.hub.rounds.round = record { pressed = are.levels.pressed; keys = are.keys } in
-        subst (λ n. IsPressedBy rules es (rs ++ r ∷ []) n (at_each n)) (sym is)
-        (subst (λ x. x) (λ j. let w = sym world_next j in let s = (is_new ∙ sym (after_it course.caches new (i + 1) refl)) j in IsPressed w.press (history w.past) s.rounds.edition s.rounds.round) here)
+        let here : IsPressed (after_event rules (world rules first_run es rs i) e r).past.run (after_event rules (world rules first_run es rs i) e r).press (history (after_event rules (world rules first_run es rs i) e r).past) levels.hub.rounds.edition levels.hub.rounds.round = record { pressed = are.levels.pressed; keys = are.keys } in
+        subst (λ n. IsPressedBy rules first_run es (rs ++ r ∷ []) n (at_each n)) (sym is)
+        (subst (λ x. x) (λ j. let w = sym world_next j in let s = (is_new ∙ sym (after_it course.caches new (i + 1) refl)) j in IsPressed w.past.run w.press (history w.past) s.rounds.edition s.rounds.round) here)
     pressed_at levels is_new are k le (beyond lt) = absurd (omega (arith, le, lt))
 
-    pub course_more : (levels : Levels) → cache_of levels.hub ≡ new → AreLevelsOf levels (after_event rules (world rules es rs i) e r) → Caches rules (world rules es rs i).past (deed rules (world rules es rs i) e) r old new
-        → IsCourse most rules es (rs ++ r ∷ []) (i + 1) new
+    pub course_more : (levels : Levels) → cache_of levels.hub ≡ new → AreLevelsOf levels (after_event rules (world rules first_run es rs i) e r) → Caches rules (world rules first_run es rs i).past (deed rules (world rules first_run es rs i) e) r old new
+        → IsCourse most rules first_run es (rs ++ r ∷ []) (i + 1) new
     course_more levels is_new are here = record {
       caches = at_each;
       first = before_it course.caches new 0 (omega arith) ∙ course.first;
@@ -190,10 +191,10 @@ module _ (rules : Rules) (es : List Event) (rs : List Reply) (i : ℕ) (e : Even
       pressed = λ k le. pressed_at levels is_new are k le (place_of k (i + 1));
     }
 
-  pub run_more : (most : ℕ) (old new : Levels) (held now : ℕ → Option Client) → IsRun most rules es rs i old held
-      → ((w : World) → w.replies ≡ rs → AreHeld held w → AreLevelsOf old w → Goes (rules_of old.hub) w e r old.hub new now) → rules_of new.hub ≡ rules_of old.hub → IsRun most rules es (rs ++ r ∷ []) (i + 1) new now
+  pub run_more : (most : ℕ) (old new : Levels) (held now : Holders) → IsRun most rules first_run es rs i old held
+      → ((w : World) → w.replies ≡ rs → AreHeld held w → AreLevelsOf old w → Goes (rules_of old.hub) w e r old.hub new now) → rules_of new.hub ≡ rules_of old.hub → IsRun most rules first_run es (rs ++ r ∷ []) (i + 1) new now
   run_more most old new held now run goes same =
-      let w = world rules es rs i in
+      let w = world rules first_run es rs i in
       let done : Goes rules w e r old.hub new now = subst (λ l. Goes l w e r old.hub new now) run.rules_are (goes w run.replies run.held run.levels) in
       record {
         count = length-append rs (r ∷ []) ∙ ap (λ n. n + 1) count;
@@ -202,16 +203,17 @@ module _ (rules : Rules) (es : List Event) (rs : List Reply) (i : ℕ) (e : Even
         held = subst (AreHeld now) (sym world_next) done.2;
         replies = ap (λ (x : World). x.replies) world_next ∙ ap (λ xs. xs ++ r ∷ []) run.replies;
         rules_are = same ∙ run.rules_are;
+        room = room_stays rules w.past (deed rules w e) r (cache_of old.hub) (cache_of new.hub) done.3 ∙ run.room;
         answers = answers_more done.0 run.answers;
       }
 
 -- ---- served documents
 
 -- a document that is answered comes from a load or a look, after which what readers see is as before
-load_or_look : (rules : Rules) (es : List Event) (rs : List Reply) (i : ℕ) → Sees rules es rs i → (what : Deed) (d : Arc Payload Global) → IsAnswer rules (world rules es rs i) what (Doc d)
-    → (v : World) → world rules es rs (i + 1) ≡ v → v ≡ after rules (world rules es rs i) what (Doc d) → IsServed rules es rs i what d.value
-load_or_look rules es rs i sees (loads asked) d answer v next is =
-    let same : world rules es rs (i + 1) ≡ after rules (world rules es rs i) (loads asked) (Doc d) = next ∙ is in record {
+load_or_look : (rules : Rules) (first_run : ℕ) (es : List Event) (rs : List Reply) (i : ℕ) → Sees rules first_run es rs i → (what : Deed) (d : Arc Payload Global) → IsAnswer rules (world rules first_run es rs i) what (Doc d)
+    → (v : World) → world rules first_run es rs (i + 1) ≡ v → v ≡ after rules (world rules first_run es rs i) what (Doc d) → IsServed rules first_run es rs i what d.value
+load_or_look rules first_run es rs i sees (loads asked) d answer v next is =
+    let same : world rules first_run es rs (i + 1) ≡ after rules (world rules first_run es rs i) (loads asked) (Doc d) = next ∙ is in record {
       after = i + 1;
       floor = omega (arith, ap (λ (w : World). w.press.floor) same, sees.sees.floor, sees.count);
       within = omega arith;
@@ -219,9 +221,9 @@ load_or_look rules es rs i sees (loads asked) d answer v next is =
       asked = ap (λ (a : Result DocKey Fault). key_asked (loads a)) answer.0;
       served = subst (λ (w : World). MayServe d.value w.past) (sym same) answer.1;
     }
-load_or_look rules es rs i sees (looks (Some k)) d answer v next is =
+load_or_look rules first_run es rs i sees (looks (Some k)) d answer v next is =
     let was = sees.sees.shown k d.value answer in
-    let same : world rules es rs (i + 1) ≡ after rules (world rules es rs i) (looks (Some k)) (Doc d) = next ∙ is in record {
+    let same : world rules first_run es rs (i + 1) ≡ after rules (world rules first_run es rs i) (looks (Some k)) (Doc d) = next ∙ is in record {
       after = was.after;
       floor = omega (arith, ap (λ (w : World). w.press.floor) same, was.since);
       within = omega (arith, was.within);
@@ -229,79 +231,82 @@ load_or_look rules es rs i sees (looks (Some k)) d answer v next is =
       asked = ap Some (sym was.key);
       served = was.served;
     }
-load_or_look rules es rs i sees (looks None) d answer v next is = absurd (cc)
-load_or_look rules es rs i sees (writes now asked) d answer v next is = absurd answer
-load_or_look rules es rs i sees (cleans now) d answer v next is = absurd answer
-load_or_look rules es rs i sees closes d answer v next is = absurd answer
-load_or_look rules es rs i sees (expires now) d answer v next is = absurd answer
-load_or_look rules es rs i sees begins d answer v next is = absurd answer
-load_or_look rules es rs i sees copies d answer v next is = absurd answer
-load_or_look rules es rs i sees publishes d answer v next is = absurd answer
-load_or_look rules es rs i sees (takes client p) d answer v next is = absurd answer
-load_or_look rules es rs i sees (shows client) d answer v next is = absurd answer
-load_or_look rules es rs i sees bad d answer v next is = absurd answer
+load_or_look rules first_run es rs i sees (looks None) d answer v next is = absurd (cc)
+load_or_look rules first_run es rs i sees (writes now asked) d answer v next is = absurd answer
+load_or_look rules first_run es rs i sees (cleans now) d answer v next is = absurd answer
+load_or_look rules first_run es rs i sees closes d answer v next is = absurd answer
+load_or_look rules first_run es rs i sees (expires now) d answer v next is = absurd answer
+load_or_look rules first_run es rs i sees begins d answer v next is = absurd answer
+load_or_look rules first_run es rs i sees copies d answer v next is = absurd answer
+load_or_look rules first_run es rs i sees publishes d answer v next is = absurd answer
+load_or_look rules first_run es rs i sees (takes client p) d answer v next is = absurd answer
+load_or_look rules first_run es rs i sees (certifies client p) d answer v next is = absurd answer
+load_or_look rules first_run es rs i sees (shows client) d answer v next is = absurd answer
+load_or_look rules first_run es rs i sees (shows_certified client) d answer v next is = absurd answer
+load_or_look rules first_run es rs i sees (restarts run) d answer v next is = absurd answer
+load_or_look rules first_run es rs i sees bad d answer v next is = absurd answer
 
 in_range : {A : Type 0} (xs : List A) (i : ℕ) (x : A) → slice_get xs i ≡ Some x → i < length xs
 in_range [] i x is = absurd (cc)
 in_range (y ∷ xs) zero x is = omega arith
 in_range (y ∷ xs) (suc i) x is = omega (arith, in_range xs i x is)
 
-pub served : (rules : Rules) (es : List Event) (rs : List Reply) → AreAnswers rules es rs → ((i : ℕ) → i ≤ length rs → ShowsFresh rules es rs i) → AreServed rules es rs
-served rules es rs answers fresh = λ i e d event is.
+pub served : (rules : Rules) (first_run : ℕ) (es : List Event) (rs : List Reply) → AreAnswers rules first_run es rs → ((i : ℕ) → i ≤ length rs → ShowsFresh rules first_run es rs i) → AreServed rules first_run es rs
+served rules first_run es rs answers fresh = λ i e d event is.
     let lt = in_range rs i (Doc d) is in
-    let sees = sees_at rules es rs answers i (λ j le. fresh j (omega (arith, le, lt))) in
-    load_or_look rules es rs i sees (deed rules (world rules es rs i) e) d (answers i e (Doc d) event is) _ refl (world-suc rules es rs i e (Doc d) event is)
+    let sees = sees_at rules first_run es rs answers i (λ j le. fresh j (omega (arith, le, lt))) in
+    load_or_look rules first_run es rs i sees (deed rules (world rules first_run es rs i) e) d (answers i e (Doc d) event is) _ refl (world-suc rules first_run es rs i e (Doc d) event is)
 
 -- ---- the first event that can't be run
 
-pub first_bad : (most : ℕ) (rules : Rules) (es : List Event) (rs : List Reply) (i : ℕ) (e : Event) (n : ℕ) (s : Levels) (held : ℕ → Option Client) → IsRun most rules es rs i s held → slice_get es i ≡ Some e → n ≡ length rs
-    → ((w : World) → w.replies ≡ rs → deed (rules_of s.hub) w e ≡ bad) → IsFirstBadEvent rules es (BadEvent (n + 1))
-first_bad most rules es rs i e n s held run event number is = record {
+pub first_bad : (most : ℕ) (rules : Rules) (first_run : ℕ) (es : List Event) (rs : List Reply) (i : ℕ) (e : Event) (n : ℕ) (s : Levels) (held : Holders) → IsRun most rules first_run es rs i s held → slice_get es i ≡ Some e → n ≡ length rs
+    → ((w : World) → w.replies ≡ rs → deed (rules_of s.hub) w e ≡ bad) → IsFirstBadEvent rules first_run es (BadEvent (n + 1))
+first_bad most rules first_run es rs i e n s held run event number is = record {
   replies = rs;
   event = e;
   before = run.answers;
   is_next = ap (slice_get es) run.count ∙ event;
   is_bad =
-      ap (λ k. deed rules (world rules es rs k) e) run.count
-      ∙ ap (λ l. deed l (world rules es rs i) e) (sym run.rules_are)
-      ∙ is (world rules es rs i) run.replies;
+      ap (λ k. deed rules (world rules first_run es rs k) e) run.count
+      ∙ ap (λ l. deed l (world rules first_run es rs i) e) (sym run.rules_are)
+      ∙ is (world rules first_run es rs i) run.replies;
   number = ap (λ k. BadEvent (k + 1)) number;
 }
 
 pub at_index : {A : Type 0} (xs : List A) (i : ℕ) (x : A) → i < length xs → x ≡ get_or xs i x → slice_get xs i ≡ Some x
 at_index xs i x lt is = slice_get-get_or xs i x lt ∙ ap (λ y. Some y) (sym is)
 
-pub no_answers : (rules : Rules) (es : List Event) (rs : List Reply) → rs ≡ [] → AreAnswers rules es rs
-no_answers rules es rs none = λ i event reply ev is. absurd (let bad = ap (λ xs. slice_get xs i) (sym none) ∙ is in cc)
+pub no_answers : (rules : Rules) (first_run : ℕ) (es : List Event) (rs : List Reply) → rs ≡ [] → AreAnswers rules first_run es rs
+no_answers rules first_run es rs none = λ i event reply ev is. absurd (let bad = ap (λ xs. slice_get xs i) (sym none) ∙ is in cc)
 
 -- ---- nothing has happened yet
 
-pub new_levels : (s : Levels) → StandsFor s.hub nothing → cache_of s.hub ≡ new_cache s.hub.docs.max → s.published ≡ empty → AreLevelsOf s new_world
-new_levels s stands cache published =
+pub new_levels : (run most : ℕ) (s : Levels) → StandsFor s.hub (nothing run) → cache_of s.hub ≡ new_cache most → s.published ≡ empty → AreLevelsOf s (new_world run)
+new_levels run most s stands cache published =
     let rounds : s.hub.rounds ≡ record { edition = empty; round = None } = ap (λ (c : Cache). c.rounds) cache in
     record {
-      levels = first_levels s.hub s.next stands rounds;
+      levels = first_levels run s.hub s.next stands rounds;
       keys = ap (λ (r : Rounds). option_map (λ (x : Round). length x.left) r.round) (sym rounds);
       published = published;
     }
 
-new_pressed : (rules : Rules) (es : List Event) (rs : List Reply) (most : ℕ) (k : ℕ) → k ≤ 0 → IsPressedBy rules es rs k (new_cache most)
+new_pressed : (rules : Rules) (first_run : ℕ) (es : List Event) (rs : List Reply) (most : ℕ) (k : ℕ) → k ≤ 0 → IsPressedBy rules first_run es rs k (new_cache most)
 unfolding world
-new_pressed rules es rs most zero le = record { pressed = first_pressed; keys = refl }
-new_pressed rules es rs most (suc k) le = absurd (omega (arith, le))
+new_pressed rules first_run es rs most zero le = record { pressed = first_pressed first_run; keys = refl }
+new_pressed rules first_run es rs most (suc k) le = absurd (omega (arith, le))
 
-pub new_course : (most : ℕ) (rules : Rules) (es : List Event) (rs : List Reply) (now : Cache) → rs ≡ [] → now ≡ new_cache most → IsCourse most rules es rs 0 now
-new_course most rules es rs now none is = record {
+pub new_course : (most : ℕ) (rules : Rules) (first_run : ℕ) (es : List Event) (rs : List Reply) (now : Cache) → rs ≡ [] → now ≡ new_cache most → IsCourse most rules first_run es rs 0 now
+new_course most rules first_run es rs now none is = record {
   caches = λ k. new_cache most;
   first = refl;
   last = sym is;
   each = λ k e r ev rep. absurd (let bad = ap (λ xs. slice_get xs k) (sym none) ∙ rep in cc);
-  pressed = λ k le. new_pressed rules es rs most k le;
+  pressed = λ k le. new_pressed rules first_run es rs most k le;
 }
 
 -- all that was kept and copied
-pub all_cached : (most : ℕ) (rules : Rules) (es : List Event) (rs : List Reply) (i : ℕ) (now : Cache) → length rs ≡ i → IsCourse most rules es rs i now → AreCached most rules es rs
-all_cached most rules es rs i now count course = record {
+pub all_cached : (most : ℕ) (rules : Rules) (first_run : ℕ) (es : List Event) (rs : List Reply) (i : ℕ) (now : Cache) → length rs ≡ i → IsCourse most rules first_run es rs i now → AreCached most rules first_run es rs
+all_cached most rules first_run es rs i now count course = record {
   caches = course.caches;
   first = course.first;
   each = course.each;
@@ -320,24 +325,24 @@ stays_one : (rules : Rules) (w : World) (e : Option Event) (r : Option Reply) �
 stays_one rules w None r none = refl
 stays_one rules w (Some e) r none = ap (after_at rules w (Some e)) none
 
-world_stays : (rules : Rules) (es : List Event) (rs : List Reply) (k : ℕ) → length rs ≤ k → world rules es rs (suc k) ≡ world rules es rs k
+world_stays : (rules : Rules) (first_run : ℕ) (es : List Event) (rs : List Reply) (k : ℕ) → length rs ≤ k → world rules first_run es rs (suc k) ≡ world rules first_run es rs k
 unfolding world
-world_stays rules es rs k le = stays_one rules (world rules es rs k) (slice_get es k) (slice_get rs k) (get_beyond rs k le)
+world_stays rules first_run es rs k le = stays_one rules (world rules first_run es rs k) (slice_get es k) (slice_get rs k) (get_beyond rs k le)
 
-ends_so : (rules : Rules) (es : List Event) (rs : List Reply) (k : ℕ) → (length rs ≤ k → world rules es rs k ≡ world rules es rs (length rs)) → Place (length rs) (suc k) → length rs ≤ suc k → world rules es rs (suc k) ≡ world rules es rs (length rs)
-ends_so rules es rs k so (below lt) le = world_stays rules es rs k (omega (arith, lt)) ∙ so (omega (arith, lt))
-ends_so rules es rs k so (at is) le = ap (world rules es rs) (sym is)
-ends_so rules es rs k so (beyond lt) le = absurd (omega (arith, lt, le))
+ends_so : (rules : Rules) (first_run : ℕ) (es : List Event) (rs : List Reply) (k : ℕ) → (length rs ≤ k → world rules first_run es rs k ≡ world rules first_run es rs (length rs)) → Place (length rs) (suc k) → length rs ≤ suc k → world rules first_run es rs (suc k) ≡ world rules first_run es rs (length rs)
+ends_so rules first_run es rs k so (below lt) le = world_stays rules first_run es rs k (omega (arith, lt)) ∙ so (omega (arith, lt))
+ends_so rules first_run es rs k so (at is) le = ap (world rules first_run es rs) (sym is)
+ends_so rules first_run es rs k so (beyond lt) le = absurd (omega (arith, lt, le))
 
-world_end : (rules : Rules) (es : List Event) (rs : List Reply) (k : ℕ) → length rs ≤ k → world rules es rs k ≡ world rules es rs (length rs)
-world_end rules es rs zero le = let is : 0 ≡ length rs = omega (arith, le) in ap (world rules es rs) is
-world_end rules es rs (suc k) le = ends_so rules es rs k (world_end rules es rs k) (place_of (length rs) (suc k)) le
+world_end : (rules : Rules) (first_run : ℕ) (es : List Event) (rs : List Reply) (k : ℕ) → length rs ≤ k → world rules first_run es rs k ≡ world rules first_run es rs (length rs)
+world_end rules first_run es rs zero le = let is : 0 ≡ length rs = omega (arith, le) in ap (world rules first_run es rs) is
+world_end rules first_run es rs (suc k) le = ends_so rules first_run es rs k (world_end rules first_run es rs k) (place_of (length rs) (suc k)) le
 
 -- what readers see may be published after any number of events
-pub always_fresh : (rules : Rules) (es : List Event) (rs : List Reply) → ((k : ℕ) → k ≤ length rs → IsPressedAt rules es rs k) → (i : ℕ) → ShowsFresh rules es rs i
-always_fresh rules es rs pressed i = one (place_of i (length rs))
+pub always_fresh : (rules : Rules) (first_run : ℕ) (es : List Event) (rs : List Reply) → ((k : ℕ) → k ≤ length rs → IsPressedAt rules first_run es rs k) → (i : ℕ) → ShowsFresh rules first_run es rs i
+always_fresh rules first_run es rs pressed i = one (place_of i (length rs))
   where
-    one : Place i (length rs) → ShowsFresh rules es rs i
+    one : Place i (length rs) → ShowsFresh rules first_run es rs i
     one (below lt) = (pressed i (omega (arith, lt))).2.pressed.publishable
     one (at is) = (pressed i (omega (arith, is))).2.pressed.publishable
-    one (beyond lt) = subst (λ (w : World). IsPublishable w.press.published) (sym (world_end rules es rs i (omega (arith, lt)))) (pressed (length rs) (omega arith)).2.pressed.publishable
+    one (beyond lt) = subst (λ (w : World). IsPublishable w.press.published) (sym (world_end rules first_run es rs i (omega (arith, lt)))) (pressed (length rs) (omega arith)).2.pressed.publishable

@@ -1,4 +1,4 @@
--- Copies that are known at a version, and documents that are true of a version.
+-- Copies that are known at a version of a run, and documents that are true of a version of their run.
 use Rattle.std.proofs.Common.{◌≡◌, ℕ, ◌≤◌, Bool, true, false, List, [], ◌∷◌, ◌++◌, length, map, take, Option, Some, None, Ok, refl, sym, ap, subst, ◌∙◌, arith}
 use Rattle.std.proofs.lemmas.Option.{same_Some}
 use Rattle.std.specs.FinMap.{FinMap, values}
@@ -6,7 +6,7 @@ use Rattle.disco_values.specs.Key.{key_cmp}
 use Rattle.disco_instance.specs.Row.{Row}
 use Rattle.disco_history.specs.Change.{Entry, front}
 use Rattle.disco_history.specs.Forms.{in_form}
-use Rattle.disco_history.specs.Mentions.{copied, delta, known, mention_of, overlay}
+use Rattle.disco_history.specs.Mentions.{copied, delta, mention_of, overlay}
 use Rattle.disco_history.specs.Registry.{reg}
 use Rattle.disco_history.proofs.FormLemmas.{copied_formed, overlay_formed}
 use Rattle.disco_history.proofs.Overlays.{copy_law, overlay_law}
@@ -15,14 +15,14 @@ use Rattle.disco_history.specs.Query.{all}
 use Rattle.disco_history.proofs.Restrictions.{values-said_all}
 use Rattle.disco_wire.specs.Documents.{document_of}
 use Rattle.disco_wire.specs.Meaning.{Meaning}
-use Rattle.disco_documents.specs.Documents.{MeansFor, meaning_for, mentioned, kind}
+use Rattle.disco_documents.specs.Documents.{IsTrueFor, MeansFor, meaning_for, mentioned, kind}
 use Rattle.disco_query.specs.Query.{is_delta}
 use Rattle.disco_documents.specs.Rows.{mentions_in}
 use Rattle.disco_query.specs.declared.query.Query.{Query}
 use Rattle.disco_query.specs.declared.query.Query.TheVariants as query
-use Rattle.disco_cache.specs.Payloads.{IsTrue}
+use Rattle.disco_cache.specs.Payloads.{IsTrue, cert_of}
 use Rattle.disco_cache.specs.declared.payload.Payload.{Payload}
-use Rattle.disco_client.specs.Tracks.{moved}
+use Rattle.disco_client.specs.Tracks.{Histories, IsAt, known_at, moved}
 use Rattle.disco_client.specs.declared.known.Known.{Known}
 use Rattle.disco_client.proofs.Moves.{Moves, moves}
 use Rattle.disco_world.specs.Clients.{MeansVersion, taken, taken_by, taken_from}
@@ -51,21 +51,30 @@ extends_on h g f one two = record {
 same_version : (h g : List Entry) (v : ℕ) → Extends h g → v ≤ length h → front g v ≡ front h v
 same_version h g v ext le = sym (take-take v (length h) g le) ∙ ap (take v) ext.begins
 
-pub means_on : (h g : List Entry) (c : Client) → Extends h g → MeansVersion h c → MeansVersion g c
-means_on h g c ext means = λ at is.
-    let so = means at is in
-    (omega (arith, so.0, ext.longer), so.1 ∙ ap (λ x. in_form at.form (reg x)) (sym (same_version h g at.version ext so.0)))
+-- each run's history goes on
+abbrev pub Grow : Histories → Histories → Type 0
+Grow hs gs = (r : ℕ) → Extends (hs r) (gs r)
 
--- a document that a client can take, true of a version of the history
-pub record IsOf (h : List Entry) (d : Payload) : Type 0 where
-  pub inside : d.version ≤ length h
-  pub true_then : IsTrue d (front h d.version)
+pub at_on : (h g : List Entry) (k : Known) (s : FinMap key_cmp Row) → Extends h g → IsAt h k s → IsAt g k s
+at_on h g k s ext so = (omega (arith, so.0, ext.longer), so.1 ∙ ap (λ x. in_form k.form (reg x)) (sym (same_version h g k.version ext so.0)))
+
+pub means_on : (hs gs : Histories) (c : Client) → Grow hs gs → MeansVersion hs c → MeansVersion gs c
+means_on hs gs c grow means = λ at is. at_on (hs at.run) (gs at.run) at c.copy (grow at.run) (means at is)
+
+-- the history of its run as far as a document's version
+abbrev pub seen_by : Histories → Payload → List Entry
+seen_by hs d = front (hs d.run) d.version
+
+-- a document that a client can take, true of a version of its run's history
+pub record IsOf (hs : Histories) (d : Payload) : Type 0 where
+  pub inside : d.version ≤ length (hs d.run)
+  pub true_then : IsTrueFor d.key.query d.text d.base d.version d.key.form (seen_by hs d)
   pub kind : for_clients d.key.query ≡ true
 
-pub of_on : (h g : List Entry) (d : Payload) → Extends h g → IsOf h d → IsOf g d
-of_on h g d ext is = record {
-  inside = omega (arith, is.inside, ext.longer);
-  true_then = subst (IsTrue d) (sym (same_version h g d.version ext is.inside)) is.true_then;
+pub of_on : (hs gs : Histories) (d : Payload) → Grow hs gs → IsOf hs d → IsOf gs d
+of_on hs gs d grow is = record {
+  inside = omega (arith, is.inside, (grow d.run).longer);
+  true_then = subst (IsTrueFor d.key.query d.text d.base d.version d.key.form) (sym (same_version (hs d.run) (gs d.run) d.version (grow d.run) is.inside)) is.true_then;
   kind = is.kind;
 }
 
@@ -78,13 +87,16 @@ is_of_now (query.Vip vip) e = absurd (cc)
 is_of_now (query.Svip svip) e = absurd (cc)
 is_of_now (query.Instance key) e = absurd (cc)
 
-pub of_now : (h : List Entry) (d : Payload) → IsTrue d h → for_clients d.key.query ≡ true → IsOf h d
-of_now h d is kind =
-    let version = is.means.now (is_of_now d.key.query kind) in record {
-      inside = omega (arith, version);
-      true_then = subst (IsTrue d) (sym (ap (λ n. take n h) version ∙ take_all (length h) h (omega arith))) is;
+whole_now : (hs : Histories) (d : Payload) (h : List Entry) → hs d.run ≡ h → IsTrueFor d.key.query d.text d.base d.version d.key.form h → for_clients d.key.query ≡ true → IsOf hs d
+whole_now hs d h here is kind =
+    let version : d.version ≡ length h = is.means.now (is_of_now d.key.query kind) in record {
+      inside = omega (arith, version, ap length here);
+      true_then = subst (IsTrueFor d.key.query d.text d.base d.version d.key.form) (sym (ap (λ n. take n (hs d.run)) version ∙ ap (take (length h)) here ∙ take_all (length h) h (omega arith))) is;
       kind = kind;
     }
+
+pub of_now : (hs : Histories) (run : ℕ) (h : List Entry) (d : Payload) → hs run ≡ h → IsTrue run d h → for_clients d.key.query ≡ true → IsOf hs d
+of_now hs run h d here is kind = whole_now hs d h (ap hs is.0 ∙ here) is.1 kind
 
 -- ---- what such a document means
 
@@ -104,21 +116,54 @@ changes_alone (query.Vip vip) e = absurd (cc)
 changes_alone (query.Svip svip) e = absurd (cc)
 changes_alone (query.Instance key) e = absurd (cc)
 
-true_of : (h : List Entry) (d : Payload) (q : Query) → IsOf h d → d.key.query ≡ q → MeansFor q d.text d.base d.version d.key.form (front h d.version)
-true_of h d q is same = subst (λ q. MeansFor q d.text d.base d.version d.key.form (front h d.version)) same is.true_then.means
+true_of : (hs : Histories) (d : Payload) (q : Query) → IsOf hs d → d.key.query ≡ q → MeansFor q d.text d.base d.version d.key.form (seen_by hs d)
+true_of hs d q is same = subst (λ q. MeansFor q d.text d.base d.version d.key.form (seen_by hs d)) same is.true_then.means
 
-true_full : (h : List Entry) (d : Payload) → IsOf h d → is_delta d.key.query ≡ false → MeansFor query.Apps d.text d.base d.version d.key.form (front h d.version)
-true_full h d is full = true_of h d query.Apps is (all_apps d.key.query is.kind full)
+true_full : (hs : Histories) (d : Payload) → IsOf hs d → is_delta d.key.query ≡ false → MeansFor query.Apps d.text d.base d.version d.key.form (seen_by hs d)
+true_full hs d is full = true_of hs d query.Apps is (all_apps d.key.query is.kind full)
 
-true_delta : (h : List Entry) (d : Payload) → IsOf h d → is_delta d.key.query ≡ true → MeansFor query.Delta d.text d.base d.version d.key.form (front h d.version)
-true_delta h d is kind = true_of h d query.Delta is (changes_alone d.key.query kind)
+true_delta : (hs : Histories) (d : Payload) → IsOf hs d → is_delta d.key.query ≡ true → MeansFor query.Delta d.text d.base d.version d.key.form (seen_by hs d)
+true_delta hs d is kind = true_of hs d query.Delta is (changes_alone d.key.query kind)
 
-pub readable : (h : List Entry) (d : Payload) → IsOf h d → IsReadable d
-readable h d is = by (is_delta d.key.query) refl
+-- its meaning, as a document of a query
+abbrev pub meaning_at : Histories → Payload → Query → Meaning
+meaning_at hs d q = meaning_for q d.key.form (seen_by hs d) d.base d.version
+
+pub means_full : (hs : Histories) (d : Payload) → IsOf hs d → is_delta d.key.query ≡ false → document_of d.text ≡ Ok (meaning_at hs d query.Apps)
+means_full hs d is full = (true_full hs d is full).meaning
+
+pub means_delta : (hs : Histories) (d : Payload) → IsOf hs d → is_delta d.key.query ≡ true → document_of d.text ≡ Ok (meaning_at hs d query.Delta)
+means_delta hs d is delta = (true_delta hs d is delta).meaning
+
+pub readable : (hs : Histories) (d : Payload) → IsOf hs d → IsReadable d
+readable hs d is = by (is_delta d.key.query) refl
   where
     by : (b : Bool) → is_delta d.key.query ≡ b → IsReadable d
-    by true e = (_, ((true_delta h d is e).meaning, refl))
-    by false e = (_, ((true_full h d is e).meaning, refl))
+    by true e = (_, (means_delta hs d is e, refl))
+    by false e = (_, (means_full hs d is e, refl))
+
+-- a document of all apps makes the records of its version
+pub full_at : (hs : Histories) (d : Payload) → IsOf hs d → is_delta d.key.query ≡ false → IsAt (hs d.run) (known_at d.key.form (cert_of d)) (copied (meaning_at hs d query.Apps).mentions)
+full_at hs d is full =
+    let f = d.key.form in
+    let g = seen_by hs d in
+    (is.inside, copied_formed f (map mention_of (mentioned all g)) ∙ ap (λ es. in_form f (copied (map mention_of es))) (values-said_all g) ∙ ap (in_form f) (copy_law g))
+
+-- a delta that reaches records makes of them those of its version
+pub delta_at : (hs : Histories) (d : Payload) (k at : Known) (s : FinMap key_cmp Row) → IsOf hs d → is_delta d.key.query ≡ true → IsAt (hs k.run) k s → Moves k d.key.form (cert_of d) at
+    → IsAt (hs d.run) (known_at d.key.form (cert_of d)) (overlay s (meaning_at hs d query.Delta).mentions)
+delta_at hs d k at s is kind so m =
+    let f = d.key.form in
+    let g = seen_by hs d in
+    let t = true_delta hs d is kind in
+    let es = values (delta g d.base) in
+    let here : IsAt (hs d.run) k s = subst (λ r. IsAt (hs r) k s) (sym m.reaches.run) so in
+    let there : s ≡ in_form f (reg (front g k.version)) =
+    here.1 ∙ ap (λ f. in_form f (reg (front (hs d.run) k.version))) m.form ∙ ap (λ x. in_form f (reg x)) (sym (take-take k.version d.version (hs d.run) m.reaches.below)) in
+    let within : k.version ≤ length g = omega (arith, m.reaches.below, t.now refl) in
+    (is.inside, ap (λ s. overlay s (mentions_in f es)) there ∙ overlay_formed f (reg (front g k.version)) (map mention_of es) ∙ ap (in_form f) (overlay_law g d.base k.version m.reaches.above within))
+
+-- ---- plain clients
 
 pub taken_is : (d : Payload) (held : Option Client) (b : Bool) (m : Meaning) → is_delta d.key.query ≡ b → document_of d.text ≡ Ok m → taken d held ≡ taken_by b d m held
 taken_is d held b m kind means = ap (λ x. taken_from d x held) means ∙ ap (λ b. taken_by b d m held) kind
@@ -126,45 +171,24 @@ taken_is d held b m kind means = ap (λ x. taken_from d x held) means ∙ ap (λ
 same_known : (c : Client) (s : FinMap key_cmp Row) (at now : Known) → c ≡ record { copy = s; known = Some now } → c.known ≡ Some at → now ≡ at
 same_known c s at now e is = same_Some now at (sym (ap (λ (c : Client). c.known) e) ∙ is)
 
-pub full_means : (h : List Entry) (d : Payload) (held : Option Client) (c : Client) → IsOf h d → is_delta d.key.query ≡ false → taken d held ≡ Some c → MeansVersion h c
-full_means h d held c is full takes = λ at known.
-    let f = d.key.form in
-    let v = d.version in
-    let g = front h v in
-    let m = meaning_for query.Apps f g d.base v in
-    let t = true_full h d is full in
-    let now : Known = record { form = f; version = v } in
-    let e : c ≡ record { copy = copied m.mentions; known = Some now } = same_Some _ _ (sym takes ∙ taken_is d held false m full t.meaning) in
-    let so : now ≡ at = same_known c (copied m.mentions) at now e known in
-    let copy : c.copy ≡ in_form f (reg g) =
-    ap (λ (c : Client). c.copy) e ∙ copied_formed f (map mention_of (mentioned all g)) ∙ ap (λ es. in_form f (copied (map mention_of es))) (values-said_all g) ∙ ap (in_form f) (copy_law g) in
-    (subst (λ (k : Known). k.version ≤ length h) so is.inside, copy ∙ ap (λ (k : Known). in_form k.form (reg (front h k.version))) so)
+pub full_means : (hs : Histories) (d : Payload) (held : Option Client) (c : Client) → IsOf hs d → is_delta d.key.query ≡ false → taken d held ≡ Some c → MeansVersion hs c
+full_means hs d held c is full takes = λ at known.
+    let m = meaning_at hs d query.Apps in
+    let now : Known = known_at d.key.form (cert_of d) in
+    let e : c ≡ record { copy = copied m.mentions; known = Some now } = same_Some _ _ (sym takes ∙ taken_is d held false m full (means_full hs d is full)) in
+    let so : IsAt (hs d.run) now c.copy = subst (IsAt (hs d.run) now) (sym (ap (λ (c : Client). c.copy) e)) (full_at hs d is full) in
+    subst (λ (k : Known). IsAt (hs k.run) k c.copy) (same_known c (copied m.mentions) at now e known) so
 
--- ---- deltas
-
-overlay_means : (h : List Entry) (d : Payload) (old : Client) (c : Client) (k at : Known) → IsOf h d → is_delta d.key.query ≡ true → MeansVersion h old → old.known ≡ Some k
-    → c ≡ record { copy = overlay old.copy (meaning_for query.Delta d.key.form (front h d.version) d.base d.version).mentions; known = moved old.known d.key.form d.base d.version } → Moves k d.key.form d.base d.version at
-    → (at.version ≤ length h) × (c.copy ≡ in_form at.form (reg (front h at.version)))
-overlay_means h d old c k at is kind means known e m =
-    let f = d.key.form in
-    let g = front h d.version in
-    let t = true_delta h d is kind in
-    let es = values (delta g d.base) in
-    let there : old.copy ≡ in_form f (reg (front g k.version)) =
-    (means k known).1 ∙ ap (λ f. in_form f (reg (front h k.version))) m.form ∙ ap (λ x. in_form f (reg x)) (sym (take-take k.version d.version h m.below)) in
-    let within : k.version ≤ length g = omega (arith, m.below, t.now refl) in
-    let copy : c.copy ≡ in_form f (reg g) =
-    ap (λ (c : Client). c.copy) e ∙ ap (λ s. overlay s (mentions_in f es)) there ∙ overlay_formed f (reg (front g k.version)) (map mention_of es) ∙ ap (in_form f) (overlay_law g d.base k.version m.above within) in
-    (subst (λ (k : Known). k.version ≤ length h) m.now is.inside, copy ∙ ap (λ (k : Known). in_form k.form (reg (front h k.version))) m.now)
-
-pub delta_means : (h : List Entry) (d : Payload) (held : Option Client) (c : Client) → IsOf h d → is_delta d.key.query ≡ true → ((o : Client) → held ≡ Some o → MeansVersion h o) → taken d held ≡ Some c → MeansVersion h c
-delta_means h d None c is kind means takes = absurd (let bad = sym takes ∙ taken_is d None true (meaning_for query.Delta d.key.form (front h d.version) d.base d.version) kind (true_delta h d is kind).meaning in cc)
-delta_means h d (Some old) c is kind means takes = λ at known.
-    let m = meaning_for query.Delta d.key.form (front h d.version) d.base d.version in
-    let e : c ≡ record { copy = overlay old.copy m.mentions; known = moved old.known d.key.form d.base d.version } = same_Some _ _ (sym takes ∙ taken_is d (Some old) true m kind (true_delta h d is kind).meaning) in
-    by at e old.known refl (sym (ap (λ (c : Client). c.known) e) ∙ known)
+pub delta_means : (hs : Histories) (d : Payload) (held : Option Client) (c : Client) → IsOf hs d → is_delta d.key.query ≡ true → ((o : Client) → held ≡ Some o → MeansVersion hs o) → taken d held ≡ Some c → MeansVersion hs c
+delta_means hs d None c is kind means takes = absurd (let bad = sym takes ∙ taken_is d None true (meaning_at hs d query.Delta) kind (means_delta hs d is kind) in cc)
+delta_means hs d (Some old) c is kind means takes = λ at known.
+    let m = meaning_at hs d query.Delta in
+    let e : c ≡ record { copy = overlay old.copy m.mentions; known = moved old.known d.key.form (cert_of d) } = same_Some _ _ (sym takes ∙ taken_is d (Some old) true m kind (means_delta hs d is kind)) in
+    by at (ap (λ (c : Client). c.copy) e) old.known refl (sym (ap (λ (c : Client). c.known) e) ∙ known)
   where
-    by : (at : Known) → c ≡ record { copy = overlay old.copy (meaning_for query.Delta d.key.form (front h d.version) d.base d.version).mentions; known = moved old.known d.key.form d.base d.version }
-        → (o : Option Known) → old.known ≡ o → moved old.known d.key.form d.base d.version ≡ Some at → (at.version ≤ length h) × (c.copy ≡ in_form at.form (reg (front h at.version)))
-    by at e None none goes = absurd (let bad = ap (λ o. moved o d.key.form d.base d.version) (sym none) ∙ goes in cc)
-    by at e (Some k) some goes = overlay_means h d old c k at is kind (means old refl) some e (moves k d.key.form d.base d.version at (ap (λ o. moved o d.key.form d.base d.version) (sym some) ∙ goes))
+    by : (at : Known) → c.copy ≡ overlay old.copy (meaning_at hs d query.Delta).mentions → (o : Option Known) → old.known ≡ o → moved old.known d.key.form (cert_of d) ≡ Some at → IsAt (hs at.run) at c.copy
+    by at copy None none goes = absurd (let bad = ap (λ o. moved o d.key.form (cert_of d)) (sym none) ∙ goes in cc)
+    by at copy (Some k) some goes =
+        let m = moves k d.key.form (cert_of d) at (ap (λ o. moved o d.key.form (cert_of d)) (sym some) ∙ goes) in
+        let so : IsAt (hs d.run) (known_at d.key.form (cert_of d)) c.copy = subst (IsAt (hs d.run) (known_at d.key.form (cert_of d))) (sym copy) (delta_at hs d k at old.copy is kind (means old refl k some) m) in
+        subst (λ (k : Known). IsAt (hs k.run) k c.copy) m.now so

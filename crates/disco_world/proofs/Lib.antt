@@ -1,7 +1,10 @@
 mod AllAlong
+mod Certifying
 mod Editions
+mod Growing
 mod Histories
 mod Known
+mod Rooms
 mod Shown
 mod Taken
 mod Taking

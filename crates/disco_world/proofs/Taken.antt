@@ -1,5 +1,5 @@
 -- What is answered to a client, and the clients after it.
-use Rattle.std.proofs.Common.{◌≡◌, ℕ, Bool, true, false, cond, eqb, List, Option, Some, None, Result, Ok, Err, IfOk, IfErr, refl, sym, ap, subst, ◌∙◌}
+use Rattle.std.proofs.Common.{◌≡◌, ◌≢◌, ℕ, Bool, true, false, cond, eqb, List, Option, Some, None, option_map, Result, Ok, Err, IfOk, IfErr, refl, sym, ap, subst, ◌∙◌}
 use Rattle.std.proofs.lemmas.Bool.{eqb-true}
 use Rattle.disco_values.specs.declared.fault.Fault.{Fault}
 use Rattle.disco_values.specs.declared.fault.Fault.TheVariants.{OutOfMemory}
@@ -7,20 +7,18 @@ use Rattle.disco_wire.specs.Documents.{document_of}
 use Rattle.disco_wire.specs.Meaning.{Meaning}
 use Rattle.disco_query.specs.Query.{is_delta}
 use Rattle.disco_cache.specs.declared.payload.Payload.{Payload}
+use Rattle.disco_client.specs.declared.certified.CertifiedCopy.{CertifiedCopy}
+use Rattle.disco_client.specs.declared.known.Known.{Known}
 use Rattle.disco_core.specs.State.{Rules}
 use Rattle.disco_world.specs.Answers.{IsAnswer}
-use Rattle.disco_world.specs.Clients.{IsTold, clients_with, shown, taken, taken_by, taken_from}
-use Rattle.disco_world.specs.Events.{World, clients_after, ran_out, shows, takes}
-use Rattle.disco_world.specs.Steps.{AreHeld, ClientTakes, reply_to_show, reply_to_take}
+use Rattle.disco_world.specs.Certified.{IsGiven, given}
+use Rattle.disco_world.specs.Clients.{IsTold, shown, taken, taken_by, taken_from}
+use Rattle.disco_world.specs.Events.{World, certifies, ran_out, shows, shows_certified, takes}
+use Rattle.disco_world.specs.Steps.{AreHeld, ClientIsGiven, ClientTakes, Holders, reply_to_give, reply_to_show, reply_to_take, with_clients}
 use Rattle.disco_world.specs.declared.clients.Client.{Client}
 use Rattle.disco_world.specs.declared.holding.Holding.{Holding}
 use Rattle.disco_world.specs.declared.event.Reply.TheVariants.{Refused}
-
--- what a look at a copy answers
-pub showed : (rules : Rules) (w : World) (held : ℕ → Option Client) (client : ℕ) (r : Result (List Holding) Fault) → AreHeld held w → IfOk r (λ h. h ≡ shown (held client)) → IfErr r (λ e. e ≡ OutOfMemory)
-    → IsAnswer rules w (shows client) (reply_to_show r)
-showed rules w held client (Ok h) are is memory = is ∙ ap shown (are client)
-showed rules w held client (Err e) are is memory = memory
+use Rattle.disco_world.proofs.Certifying.{none_given}
 
 -- where a document leaves no copy there was none
 no_copy_by : (b : Bool) (d : Payload) (m : Meaning) (held : Option Client) → taken_by b d m held ≡ None → held ≡ None
@@ -32,27 +30,61 @@ no_copy_from : (d : Payload) (r : Result Meaning Fault) (held : Option Client) �
 no_copy_from d (Ok m) held is = no_copy_by (is_delta d.key.query) d m held is
 no_copy_from d (Err e) held is = is
 
-one_client : (b : Bool) (o p : Option Client) (held now : Option Client) → (b ≡ true → now ≡ held) → o ≡ None → held ≡ None → p ≡ now → cond b o now ≡ p
-one_client true o p held now same none was is = none ∙ sym was ∙ sym (same refl) ∙ sym is
-one_client false o p held now same none was is = sym is
+-- ---- what a look at a copy answers
 
-is_client : (q c : ℕ) (f : ℕ → Option Client) → eqb q c ≡ true → f q ≡ f c
-is_client q c f e = ap f (eqb-true q c e)
+module _ (rules : Rules) (w : World) (held : Holders) (are : AreHeld held w) (client : ℕ) where
+  pub showed : (r : Result (List Holding) Fault) → IfOk r (λ h. h ≡ shown (option_map (λ (c : Client). c.copy) (held.plain client))) → IfErr r (λ e. e ≡ OutOfMemory) → IsAnswer rules w (shows client) (reply_to_show r)
+  showed (Ok h) is memory = is ∙ ap (λ o. shown (option_map (λ (c : Client). c.copy) o)) (are.0 client)
+  showed (Err e) is memory = memory
 
-pub took : (rules : Rules) (w : World) (old new : ℕ → Option Client) (client : ℕ) (d : Payload) (r : Result (Bool × Option ℕ) Fault) → AreHeld old w → ClientTakes old new client d r
-    → IsAnswer rules w (takes client d) (reply_to_take r) × AreHeld new (record w { clients = clients_after w.clients (takes client d) (reply_to_take r) })
-took rules w old new client d (Ok told) are is = (
-  subst (λ o. IsTold d o told.0 told.1) (ap (taken d) (are client)) is.0,
-  λ q. is.1 q ∙ (λ i. cond (eqb q client) (taken d (are client i)) (are q i)),
-)
-took rules w old new client d (Err e) are is = (
-  λ other. let why = is.0 other in (why.0, ap (taken d) (sym (are client)) ∙ why.1),
-  λ q. is.1 q ∙ are q ∙ sym (by_memory q (ran_out (Refused e)) refl),
-)
-  where
-    by_memory : (q : ℕ) (b : Bool) → (ran_out (Refused e)) ≡ b → cond b w.clients (clients_with w.clients client d) q ≡ w.clients q
-    by_memory q true memory = refl
-    by_memory q false memory =
-        let why = is.0 (λ same. let bad = sym memory ∙ ap (λ x. ran_out (Refused x)) same in cc) in
-        let none : taken d (w.clients client) ≡ None = ap (taken d) (sym (are client)) ∙ why.1 in
-        one_client (eqb q client) (taken d (w.clients client)) (w.clients q) (w.clients client) (w.clients q) (is_client q client w.clients) none (no_copy_from d (document_of d.text) (w.clients client) none) refl
+  pub showed_certified : (r : Result (List Holding) Fault) → IfOk r (λ h. h ≡ shown (option_map (λ (c : CertifiedCopy). c.copy) (held.certified client))) → IfErr r (λ e. e ≡ OutOfMemory) → IsAnswer rules w (shows_certified client) (reply_to_show r)
+  showed_certified (Ok h) is memory = is ∙ ap (λ o. shown (option_map (λ (c : CertifiedCopy). c.copy) o)) (are.1 client)
+  showed_certified (Err e) is memory = memory
+
+-- ---- clients of either kind
+
+module _ {A : Type 0} (clients : ℕ → Option A) (client : ℕ) (now : Option A) where
+  -- this client has that, and each other one what it had
+  abbrev pub with_one : ℕ → Option A
+  with_one q = cond (eqb q client) now (clients q)
+
+  one_left : (q : ℕ) (b : Bool) → eqb q client ≡ b → now ≡ None → clients client ≡ None → cond b now (clients q) ≡ clients q
+  one_left q true same none was = none ∙ sym was ∙ ap clients (sym (eqb-true q client same))
+  one_left q false same none was = refl
+
+  -- a document that is refused leaves all
+  pub refused_leaves : (e : Fault) → (e ≢ OutOfMemory → now ≡ None) → (now ≡ None → clients client ≡ None) → (q : ℕ) → cond (ran_out (Refused e)) clients with_one q ≡ clients q
+  refused_leaves e refused was q = by (ran_out (Refused e)) refl
+    where
+      by : (b : Bool) → ran_out (Refused e) ≡ b → cond b clients with_one q ≡ clients q
+      by true memory = refl
+      by false memory = let none = refused (λ same. let bad = sym memory ∙ ap (λ x. ran_out (Refused x)) same in cc) in one_left q (eqb q client) refl none (was none)
+
+pub same_either : {A : Type 0} (b : Bool) (x : A) → cond b x x ≡ x
+same_either true x = refl
+same_either false x = refl
+
+module _ (rules : Rules) (w : World) (old : Holders) (client : ℕ) (d : Payload) (are : AreHeld old w) where
+  pub took : (plain : ℕ → Option Client) (r : Result (Bool × Option ℕ) Fault) → ClientTakes old.plain plain client d r
+      → IsAnswer rules w (takes client d) (reply_to_take r) × AreHeld (record old { plain = plain }) (with_clients w (takes client d) (reply_to_take r))
+  took plain (Ok told) is = (
+    subst (λ o. IsTold d (taken d o) told.0 told.1) (are.0 client) is.0,
+    (λ q. is.1 q ∙ (λ i. cond (eqb q client) (taken d (are.0 client i)) (are.0 q i)), are.1),
+  )
+  took plain (Err e) is =
+      let none : e ≢ OutOfMemory → taken d (w.clients client) ≡ None = λ other. ap (taken d) (sym (are.0 client)) ∙ (is.0 other).1 in (
+        λ other. ((is.0 other).0, none other),
+        (λ q. is.1 q ∙ are.0 q ∙ sym (refused_leaves w.clients client (taken d (w.clients client)) e none (no_copy_from d (document_of d.text) (w.clients client)) q), λ q. are.1 q ∙ ap (λ f. f q) (sym (same_either (ran_out (Refused e)) w.certified))),
+      )
+
+  pub gave : (certified : ℕ → Option CertifiedCopy) (r : Result (Bool × Known) Fault) → ClientIsGiven old.certified certified client d r
+      → IsAnswer rules w (certifies client d) (reply_to_give r) × AreHeld (record old { certified = certified }) (with_clients w (certifies client d) (reply_to_give r))
+  gave certified (Ok told) is = (
+    subst (λ o. IsGiven d o told.0 told.1.run told.1.version) (are.1 client) is.0,
+    (are.0, λ q. is.1 q ∙ (λ i. cond (eqb q client) (given d (are.1 client i)) (are.1 q i))),
+  )
+  gave certified (Err e) is =
+      let none : e ≢ OutOfMemory → given d (w.certified client) ≡ None = λ other. ap (given d) (sym (are.1 client)) ∙ (is.0 other).1 in (
+        λ other. ((is.0 other).0, none other),
+        (λ q. are.0 q ∙ ap (λ f. f q) (sym (same_either (ran_out (Refused e)) w.clients)), λ q. is.1 q ∙ are.1 q ∙ sym (refused_leaves w.certified client (given d (w.certified client)) e none (none_given d (w.certified client)) q)),
+      )

@@ -1,5 +1,5 @@
 -- What each deed does to the two levels of documents.
-use Rattle.std.proofs.Common.{◌≡◌, ℕ, suc, ◌+◌, ◌-◌, ◌≤◌, Bool, true, false, cond, List, [], ◌∷◌, ◌++◌, length, map, fold, nat_lt, Option, Some, None, IfSome, option_map, slice_get, refl, sym, ap, subst, ◌∙◌, arith}
+use Rattle.std.proofs.Common.{◌≡◌, ℕ, suc, ◌+◌, ◌-◌, ◌<◌, ◌≤◌, Bool, true, false, cond, List, [], ◌∷◌, ◌++◌, length, map, fold, nat_lt, Option, Some, None, IfSome, option_map, slice_get, refl, sym, ap, subst, ◌∙◌, arith}
 use Rattle.std.proofs.lemmas.List.{length-append, length-map, take-append-drop}
 use Rattle.std.proofs.lemmas.Option.{same_Some}
 use Rattle.std.specs.FinMap.{empty, get, insert, keys, len, len-entries, len-insert}
@@ -11,7 +11,7 @@ use Rattle.disco_documents.specs.Documents.{asked_by}
 use Rattle.disco_cache.specs.Docs.{Docs}
 use Rattle.disco_query.specs.declared.key.DocKey.{DocKey}
 use Rattle.disco_query.proofs.Orders.{docs_total}
-use Rattle.disco_core.specs.Past.{Past, history}
+use Rattle.disco_core.specs.Past.{Past, history, nothing}
 use Rattle.disco_core.specs.State.{Rules}
 use Rattle.disco_hub.specs.Levels.{AreLevels}
 use Rattle.disco_rounds.specs.Press.{Edition, change, edition_of, steps_to}
@@ -23,10 +23,10 @@ use Rattle.disco_rounds.specs.Press.{is_doc, key_of_copy}
 use Rattle.disco_rounds.specs.declared.copied.Copied.{Copied}
 use Rattle.disco_rounds.specs.declared.copied.Copied.TheVariants as copied
 use Rattle.disco_rounds.proofs.KeySets.{same_len}
-use Rattle.disco_hub.proofs.Levels.{begun_levels, copied_is, copied_levels, ended_edition, ended_len, ended_levels, plain_levels}
+use Rattle.disco_hub.proofs.Levels.{begun_levels, copied_is, copied_levels, ended_edition, ended_len, ended_levels, first_levels, plain_levels}
 use Rattle.disco_world.specs.Answers.{IsAnswer}
-use Rattle.disco_world.specs.Events.{Deed, World, begins, copies, publishes, looks, after, changes_since, past_after, past_done, ran_out}
-use Rattle.disco_world.specs.Caching.{Caches, IsNext}
+use Rattle.disco_world.specs.Events.{Deed, World, begins, copies, publishes, looks, restarts, after, changes_since, past_after, past_done, ran_out}
+use Rattle.disco_world.specs.Caching.{Cache, Caches, IsNext, new_cache}
 use Rattle.disco_world.specs.Levels.{AreLevelsOf, Copies, Looks}
 use Rattle.disco_world.specs.Steps.{cache_of}
 use Rattle.disco_world.specs.Rounds.{Press, all_of, left_after, left_in, unfinished}
@@ -68,11 +68,11 @@ abbrev many_left : Option Round → Option ℕ
 many_left o = option_map (λ (r : Round). length r.left) o
 
 -- a deed of the hub alone
-pub plainly : (old new : Levels) (w v : World) → AreLevelsOf old w → v.press ≡ record w.press { pending = w.press.pending ++ map change (changes_since w.past v.past) } → Extends (history w.past) (history v.past)
+pub plainly : (old new : Levels) (w v : World) → AreLevelsOf old w → v.press ≡ record w.press { pending = w.press.pending ++ map change (changes_since w.past v.past) } → v.past.run ≡ w.past.run → Extends (history w.past) (history v.past)
     → StandsFor new.hub v.past → new.hub.rounds ≡ old.hub.rounds → new.published ≡ old.published → new.next ≡ old.next → AreLevelsOf new v
-plainly old new w v was press ext stands rounds published next =
+plainly old new w v was press run ext stands rounds published next =
     let s = w.press in
-    let levels = plain_levels old.hub new.hub old.next new.next s.published s.pending w.past was.levels v.past (changes_since w.past v.past) (history_on w.past v.past ext) stands rounds next in
+    let levels = plain_levels old.hub new.hub old.next new.next s.published s.pending w.past was.levels v.past (changes_since w.past v.past) run (history_on w.past v.past ext) stands rounds next in
     let steps = levels.pressed.in_step.steps ∙ ap (λ (r : Rounds). steps_to r.round) rounds ∙ sym was.levels.pressed.in_step.steps in
     record {
       levels = subst (λ (t : Press). AreLevels new.hub new.next t.published t.pending v.past) (sym press) levels;
@@ -163,6 +163,21 @@ module _ (old new : Levels) (w : World) (was : AreLevelsOf old w) where
         (record { round = is.round; was = is.was; whole = is.whole; edition = is.edition; many = many ∙ ap (λ (m : Edition). len m) shown ∙ ended_len old.hub new.hub old.next new.next s.published s.pending w.past was.levels k is }, ap (λ (h : State). h.docs) ends.rest),
       )
 
+-- ---- another run begins
+
+pub restarted_turns : (old new : Levels) (w : World) (run : ℕ) → w.past.run < run → StandsFor new.hub (nothing run) → cache_of new.hub ≡ new_cache old.hub.docs.max → new.published ≡ empty
+    → IsAnswer (rules_of old.hub) w (restarts run) (reply.Restarted run) × AreLevelsOf new (after (rules_of old.hub) w (restarts run) (reply.Restarted run)) × Caches (rules_of old.hub) w.past (restarts run) (reply.Restarted run) (cache_of old.hub) (cache_of new.hub)
+restarted_turns old new w run later stands cache published =
+    let rounds : new.hub.rounds ≡ record { edition = empty; round = None } = ap (λ (c : Cache). c.rounds) cache in (
+      (refl, later),
+      record {
+        levels = first_levels run new.hub new.next stands rounds;
+        keys = ap (λ (r : Rounds). many_left r.round) (sym rounds);
+        published = published;
+      },
+      cache,
+    )
+
 -- ---- what changes nothing
 
 module _ (old new : Levels) (w : World) (was : AreLevelsOf old w) (same : new ≡ old) where
@@ -171,7 +186,7 @@ module _ (old new : Levels) (w : World) (was : AreLevelsOf old w) (same : new �
 
   -- a deed that is answered so leaves all as it was
   unchanged : (v : World) → v.past ≡ w.past → v.press ≡ record w.press { pending = w.press.pending ++ map change (changes_since w.past v.past) } → AreLevelsOf new v
-  unchanged v past press = plainly old new w v was press (subst (λ p. Extends (history w.past) (history p)) (sym past) (extends_same (history w.past)))
+  unchanged v past press = plainly old new w v was press (ap (λ (p : Past). p.run) past) (subst (λ p. Extends (history w.past) (history p)) (sym past) (extends_same (history w.past)))
       (subst (λ p. StandsFor new.hub p) (sym past) (subst (λ (l : Levels). StandsFor l.hub w.past) (sym same) was.levels.stands)) (ap (λ (l : Levels). l.hub.rounds) same) (ap (λ (l : Levels). l.published) same) (ap (λ (l : Levels). l.next) same)
 
   past_stays : (what : Deed) (r : Reply) → past_done (rules_of old.hub) w.past what r ≡ w.past → past_after (rules_of old.hub) w.past what r ≡ w.past

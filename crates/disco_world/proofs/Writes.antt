@@ -21,8 +21,9 @@ use Rattle.disco_registry.specs.declared.op.Applied.{Applied}
 use Rattle.disco_registry.specs.declared.op.Applied.TheVariants as applied
 use Rattle.disco_registry.proofs.Histories.{accepts_after}
 use Rattle.disco_queue.specs.Timed.{Timed}
+use Rattle.disco_client.specs.declared.certified.CertifiedCopy.{CertifiedCopy}
 use Rattle.disco_world.specs.Answers.{IsAnswer}
-use Rattle.disco_world.specs.Events.{Deed, World, after, changes_since, clients_after, clients_done, past_after, past_done, loaded, loads, ran_out, unless, writes, done}
+use Rattle.disco_world.specs.Events.{Deed, World, after, certified_done, changes_since, clients_done, past_after, past_done, loaded, loads, ran_out, unless, writes, done}
 use Rattle.disco_world.specs.declared.clients.Client.{Client}
 use Rattle.disco_world.specs.declared.event.Reply.{Reply}
 use Rattle.disco_world.specs.Levels.{AreLevelsOf}
@@ -30,9 +31,9 @@ use Rattle.std.specs.FinMap.{get}
 use Rattle.disco_history.specs.Registry.{reg}
 use Rattle.disco_hub.specs.Kept.{Forgets, IsAsKept}
 use Rattle.disco_world.specs.Caching.{Caches, change_of}
-use Rattle.disco_world.specs.Steps.{AreHeld, Does, cache_of, reply_of, reply_to}
+use Rattle.disco_world.specs.Steps.{AreHeld, Does, Holders, cache_of, reply_of, reply_to, with_clients}
 use Rattle.disco_world.specs.declared.levels.Levels.{Levels}
-use Rattle.disco_world.proofs.AllAlong.{past_extends}
+use Rattle.disco_world.proofs.Growing.{goes_on, past_extends, run_stays}
 use Rattle.disco_world.proofs.Turning.{plainly}
 use Rattle.disco_world.specs.declared.event.Reply.TheVariants.{Refused}
 
@@ -117,26 +118,29 @@ loads_so old new key (Err e) may refused did same = λ w stands.
     (λ other. ap (unless key) (refused other w.past stands), subst (StandsFor new) (sym (nothing_then (rules_of old) w.past (loaded (rules_of old).delta key (history w.past)) e)) (subst (λ (s : State). StandsFor s w.past) (sym same) stands), ap cache_of same)
 
 -- a deed of the hub leaves the clients
-pub clients_stay : (clients : ℕ → Option Client) (what : Deed) (r : Bool) → clients_done clients what ≡ clients → cond r clients (clients_done clients what) ≡ clients
-clients_stay clients what true same = refl
-clients_stay clients what false same = same
+pub clients_stay : {A : Type 0} (clients done : ℕ → Option A) (b : Bool) → done ≡ clients → cond b clients done ≡ clients
+clients_stay clients done true same = refl
+clients_stay clients done false same = same
 
-module _ (old new : Levels) (held : ℕ → Option Client) (w : World) (what : Deed) (r : Reply) (same : clients_done w.clients what ≡ w.clients) (are : AreHeld held w) where
+module _ (old new : Levels) (held : Holders) (w : World) (what : Deed) (r : Reply) (plain : clients_done w.clients what ≡ w.clients) (certified : certified_done w.certified what ≡ w.certified) (are : AreHeld held w) where
   abbrev CachesIt : Type 0
   CachesIt = Caches (rules_of old.hub) w.past what r (cache_of old.hub) (cache_of new.hub)
 
   -- and so do the clients after it
-  held_on : AreHeld held (record w { clients = clients_after w.clients what r })
-  held_on q = are q ∙ sym (ap (λ (f : ℕ → Option Client). f q) (clients_stay w.clients what (ran_out r) same))
+  held_on : AreHeld held (with_clients w what r)
+  held_on = (
+    λ q. are.0 q ∙ sym (ap (λ (f : ℕ → Option Client). f q) (clients_stay w.clients (clients_done w.clients what) (ran_out r) plain)),
+    λ q. are.1 q ∙ sym (ap (λ (f : ℕ → Option CertifiedCopy). f q) (clients_stay w.certified (certified_done w.certified what) (ran_out r) certified)),
+  )
 
   -- a deed that the hub answers alone
-  pub with_hub : (after (rules_of old.hub) w what r).press ≡ record w.press { pending = w.press.pending ++ map change (changes_since w.past (past_after (rules_of old.hub) w.past what r)) } → AreLevelsOf old w
+  pub with_hub : goes_on what r ≡ true → (after (rules_of old.hub) w what r).press ≡ record w.press { pending = w.press.pending ++ map change (changes_since w.past (past_after (rules_of old.hub) w.past what r)) } → AreLevelsOf old w
       → new.hub.rounds ≡ old.hub.rounds → new.published ≡ old.published → new.next ≡ old.next → IsAnswer (rules_of old.hub) w what r × StandsFor new.hub (past_after (rules_of old.hub) w.past what r) × CachesIt
-      → IsAnswer (rules_of old.hub) w what r × AreLevelsOf new (after (rules_of old.hub) w what r) × AreHeld held (record w { clients = clients_after w.clients what r }) × CachesIt
-  with_hub press levels rounds published next so =
-      (so.0, plainly old new w (after (rules_of old.hub) w what r) levels press (past_extends (rules_of old.hub) w.past what r (ran_out r)) so.1 rounds published next, held_on, so.2)
+      → IsAnswer (rules_of old.hub) w what r × AreLevelsOf new (after (rules_of old.hub) w what r) × AreHeld held (with_clients w what r) × CachesIt
+  with_hub goes press levels rounds published next so =
+      (so.0, plainly old new w (after (rules_of old.hub) w what r) levels press (run_stays (rules_of old.hub) w.past what r (ran_out r) goes) (past_extends (rules_of old.hub) w.past what r (ran_out r) goes) so.1 rounds published next, held_on, so.2)
 
-  -- a deed of a publisher or of a reader
+  -- a deed of a publisher or of a reader, or a restart
   pub with_turn : IsAnswer (rules_of old.hub) w what r × AreLevelsOf new (after (rules_of old.hub) w what r) × CachesIt
-      → IsAnswer (rules_of old.hub) w what r × AreLevelsOf new (after (rules_of old.hub) w what r) × AreHeld held (record w { clients = clients_after w.clients what r }) × CachesIt
+      → IsAnswer (rules_of old.hub) w what r × AreLevelsOf new (after (rules_of old.hub) w what r) × AreHeld held (with_clients w what r) × CachesIt
   with_turn so = (so.0, so.1, held_on, so.2)

@@ -1,24 +1,26 @@
 -- Clients' copies, and the versions at which they are known.
 use Rattle.std.specs.Prelude.{◌≡◌, ℕ, ◌==◌, Bool, true, false, List, [], map, if◌then◌else◌, Option, Some, None, option_map, Result, Ok, Err}
-use Rattle.std.specs.FinMap.{values}
+use Rattle.std.specs.FinMap.{FinMap, values}
+use Rattle.disco_values.specs.Key.{key_cmp}
+use Rattle.disco_instance.specs.Row.{Row}
 use Rattle.disco_values.specs.declared.fault.Fault.{Fault}
-use Rattle.disco_history.specs.Change.{Entry}
 use Rattle.disco_history.specs.Mentions.{copied, overlay}
 use Rattle.disco_wire.specs.Documents.{document_of}
 use Rattle.disco_wire.specs.Meaning.{Meaning}
 use Rattle.disco_query.specs.Query.{is_delta}
+use Rattle.disco_cache.specs.Payloads.{cert_of}
 use Rattle.disco_cache.specs.declared.payload.Payload.{Payload}
 use Rattle.disco_client.specs.Copies.{hash_equal}
-use Rattle.disco_client.specs.Tracks.{IsAt, moved}
+use Rattle.disco_client.specs.Tracks.{Histories, IsAt, known_at, moved}
 use Rattle.disco_client.specs.declared.known.Known.{Known}
 use Rattle.disco_world.specs.declared.clients.Client.{Client}
 use Rattle.disco_world.specs.declared.holding.Holding.{Holding}
 
 -- a document of all apps replaces the copy; a delta is overlaid on the copy that is there
 abbrev pub taken_by : Bool → Payload → Meaning → Option Client → Option Client
-taken_by false d m held = Some (record { copy = copied m.mentions; known = Some (record { form = d.key.form; version = d.version }) })
+taken_by false d m held = Some (record { copy = copied m.mentions; known = Some (known_at d.key.form (cert_of d)) })
 taken_by true d m None = None
-taken_by true d m (Some c) = Some (record { copy = overlay c.copy m.mentions; known = moved c.known d.key.form d.base d.version })
+taken_by true d m (Some c) = Some (record { copy = overlay c.copy m.mentions; known = moved c.known d.key.form (cert_of d) })
 
 abbrev pub taken_from : Payload → Result Meaning Fault → Option Client → Option Client
 taken_from d (Ok m) held = taken_by (is_delta d.key.query) d m held
@@ -42,10 +44,10 @@ pub record IsTold (d : Payload) (now : Option Client) (equal : Bool) (version : 
   pub version_is : version ≡ option_map (λ at. at.version) client.known
 
 -- what is shown of a copy: each instance's key and status, by key
-abbrev pub shown : Option Client → List Holding
+abbrev pub shown : Option (FinMap key_cmp Row) → List Holding
 shown None = []
-shown (Some c) = map (λ r. record { key = r.key; status = r.status }) (values c.copy)
+shown (Some s) = map (λ r. record { key = r.key; status = r.status }) (values s)
 
--- a copy that is known at a version is exactly that version of a history, in its form
-abbrev pub MeansVersion : List Entry → Client → Type 0
-MeansVersion h c = (at : Known) → c.known ≡ Some at → IsAt h at c.copy
+-- a copy that is known at a version of a run is exactly that version of the run's history, in its form
+abbrev pub MeansVersion : Histories → Client → Type 0
+MeansVersion hs c = (at : Known) → c.known ≡ Some at → IsAt (hs at.run) at c.copy

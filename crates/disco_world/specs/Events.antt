@@ -1,5 +1,5 @@
 -- What events are for, and what has happened after them.
-use Rattle.std.specs.Prelude.{ℕ, zero, suc, ◌+◌, List, [], ◌∷◌, ◌++◌, drop, length, map, Bool, true, false, if◌then◌else◌, Option, Some, None, Result, Ok, Err, slice_get}
+use Rattle.std.specs.Prelude.{ℕ, zero, suc, ◌+◌, ◌==◌, List, [], ◌∷◌, ◌++◌, drop, length, map, Bool, true, false, if◌then◌else◌, Option, Some, None, Result, Ok, Err, slice_get}
 use Rattle.disco_instance.specs.Row.{Row}
 use Rattle.disco_values.specs.Text.{in_upper_case}
 use Rattle.disco_values.specs.declared.fault.Fault.{Fault}
@@ -22,23 +22,28 @@ use Rattle.disco_core.specs.State.{Rules}
 use Rattle.disco_query.specs.declared.query.Query.{Query}
 use Rattle.disco_query.specs.declared.query.Query.TheVariants as query
 use Rattle.disco_cache.specs.declared.payload.Payload.{Payload}
+use Rattle.disco_client.specs.Tracks.{Histories}
+use Rattle.disco_client.specs.declared.certified.CertifiedCopy.{CertifiedCopy}
+use Rattle.disco_world.specs.Certified.{certified_with}
 use Rattle.disco_world.specs.Clients.{clients_with}
-use Rattle.disco_world.specs.Rounds.{Press, all_of, new_press}
+use Rattle.disco_world.specs.Rounds.{Press, all_of, press_from}
 use Rattle.disco_world.specs.declared.clients.Client.{Client}
 use Rattle.disco_world.specs.declared.event.Event.{Event}
-use Rattle.disco_world.specs.declared.event.Event.TheVariants.{Step, Take}
-use Rattle.disco_world.specs.declared.event.Step.TheVariants.{Register, Cancel, Renew, SetStatus, DropStatus, Metadata, Load, LoadById, Clean, Minute, Expire, Begin, Copy, Publish, Look, LookById, Show}
+use Rattle.disco_world.specs.declared.event.Event.TheVariants.{Step, Take, Certify}
+use Rattle.disco_world.specs.declared.event.Step.TheVariants.{Register, Cancel, Renew, SetStatus, DropStatus, Metadata, Load, LoadById, Clean, Minute, Expire, Begin, Copy, Publish, Look, LookById, Show, ShowCertified, Restart}
 use Rattle.disco_world.specs.declared.event.Reply.{Reply}
-use Rattle.disco_world.specs.declared.event.Reply.TheVariants.{Doc, Expired, Begun, Copied, Published, Refused}
+use Rattle.disco_world.specs.declared.event.Reply.TheVariants.{Doc, Expired, Begun, Copied, Published, Restarted, Refused}
 
--- what has happened: to the registry, what each event answered, the clients that have a copy, and what was noted for readers
+-- what has happened: to the registry in the run that is running, the histories of the runs that ended, what each event answered, the plain and the certified clients that have a copy, and what was noted for readers
 pub record World : Type 0 where
   pub past : Past
+  pub ended : Histories
   pub replies : List Reply
   pub clients : ℕ → Option Client
+  pub certified : ℕ → Option CertifiedCopy
   pub press : Press
 
--- what an event is for: an operation at a moment in milliseconds, or why it is none; a document, or why it isn't served; a cleaning at a moment; the closing of a minute; a run at a moment that cancels instances whose leases ran out; the beginning of a round, a copy in it, and its publish; a look for a document, if readers can see one of its kind; a document for a client; a look at a client's copy; nothing that can be run
+-- what an event is for: an operation at a moment in milliseconds, or why it is none; a document, or why it isn't served; a cleaning at a moment; the closing of a minute; a run at a moment that cancels instances whose leases ran out; the beginning of a round, a copy in it, and its publish; a look for a document, if readers can see one of its kind; a document for a client, and one for a certified client; a look at a client's copy, and at a certified client's; a restart of the server in a run; nothing that can be run
 pub data Deed : Type 0 where
   writes : ℕ → Result Ask Fault → Deed
   loads : Result DocKey Fault → Deed
@@ -50,7 +55,10 @@ pub data Deed : Type 0 where
   publishes : Deed
   looks : Option DocKey → Deed
   takes : ℕ → Payload → Deed
+  certifies : ℕ → Payload → Deed
   shows : ℕ → Deed
+  shows_certified : ℕ → Deed
+  restarts : ℕ → Deed
   bad : Deed
 
 -- what is asked for, with the name of an app in upper case
@@ -97,6 +105,10 @@ abbrev pub takes_any : ℕ → Option Payload → Deed
 takes_any client None = bad
 takes_any client (Some d) = takes client d
 
+abbrev pub certifies_any : ℕ → Option Payload → Deed
+certifies_any client None = bad
+certifies_any client (Some d) = certifies client d
+
 -- the table of events: what each is for after what has happened
 abbrev pub deed : Rules → World → Event → Deed
 deed rules w (Step (Register now app json)) = writes now (registers app (registration_of json))
@@ -116,7 +128,10 @@ deed rules w (Step Publish) = publishes
 deed rules w (Step (Look key)) = looks (Some (record { query = query_asked key.query; form = key.form }))
 deed rules w (Step (LookById id form)) = looks None
 deed rules w (Step (Show client)) = shows client
+deed rules w (Step (ShowCertified client)) = shows_certified client
+deed rules w (Step (Restart run)) = restarts run
 deed rules w (Take client event) = takes_any client (doc_of_event w.replies event)
+deed rules w (Certify client event) = certifies_any client (doc_of_event w.replies event)
 
 -- what an operation does at a moment after what has happened, where it is one: its change or none, or the first cause against it
 abbrev pub done : Rules → Past → ℕ → Result Ask Fault → Result (Option Entry) Fault
@@ -128,18 +143,29 @@ abbrev pub after_run : Rules → Past → ℕ → Reply → Past
 after_run rules p now (Expired run) = cancelled rules p now (taken_in p now) run.gone
 after_run rules p now _ = p
 
+-- what has happened after a restart that says in which run: nothing yet in that
+abbrev pub after_restart : ℕ → Past → Reply → Past
+after_restart run p (Restarted r) = nothing run
+after_restart run p _ = p
+
 -- what has happened to the registry after a deed with that answer that found memory
 abbrev pub past_done : Rules → Past → Deed → Reply → Past
 past_done rules p (writes now (Ok ask)) reply = after_ask rules.queue p now ask (accept_after rules.limits (history p) ask now)
 past_done rules p (cleans now) reply = cleaned rules.retention p now
 past_done rules p closes reply = minute_closed p
 past_done rules p (expires now) reply = after_run rules p now reply
+past_done rules p (restarts run) reply = after_restart run p reply
 past_done rules p _ reply = p
 
 -- the clients' copies after a deed that found memory
 abbrev pub clients_done : (ℕ → Option Client) → Deed → ℕ → Option Client
 clients_done clients (takes client d) = clients_with clients client d
 clients_done clients _ = clients
+
+-- and those of the certified clients
+abbrev pub certified_done : (ℕ → Option CertifiedCopy) → Deed → ℕ → Option CertifiedCopy
+certified_done clients (certifies client d) = certified_with clients client d
+certified_done clients _ = clients
 
 -- the changes that there are more
 abbrev pub changes_since : Past → Past → List Entry
@@ -150,7 +176,17 @@ abbrev pub press_done : Press → List Entry → ℕ → Deed → Reply → Pres
 press_done s cs i begins (Begun n) = record s { pending = s.pending ++ press.begin ∷ []; keys = n; begun = i }
 press_done s cs i copies (Copied c) = record s { pending = s.pending ++ note_of c ∷ [] }
 press_done s cs i publishes (Published n) = record s { published = all_of s; pending = []; floor = s.begun }
+press_done s cs i (restarts run) (Restarted r) = press_from i
 press_done s cs i _ _ = record s { pending = s.pending ++ map press.change cs }
+
+-- the history of each run: of the one that is running what has happened, and of each other what had happened when it ended
+abbrev pub history_of : World → Histories
+history_of w r = if r == w.past.run then history w.past else w.ended r
+
+-- the histories of the runs that ended, after a deed with that answer: a restart ends the run that is running
+abbrev pub ended_after : World → Deed → Reply → Histories
+ended_after w (restarts run) (Restarted r) = history_of w
+ended_after w _ _ = w.ended
 
 -- the event found no memory
 abbrev pub ran_out : Reply → Bool
@@ -163,24 +199,29 @@ past_after rules p what reply = if ran_out reply then p else past_done rules p w
 abbrev pub clients_after : (ℕ → Option Client) → Deed → Reply → ℕ → Option Client
 clients_after clients what reply = if ran_out reply then clients else clients_done clients what
 
+abbrev pub certified_after : (ℕ → Option CertifiedCopy) → Deed → Reply → ℕ → Option CertifiedCopy
+certified_after clients what reply = if ran_out reply then clients else certified_done clients what
+
 -- what has happened after a deed with that answer: nothing but the answer where there was no memory
 abbrev pub after : Rules → World → Deed → Reply → World
 after rules w what reply = record {
   past = past_after rules w.past what reply;
+  ended = ended_after w what reply;
   replies = w.replies ++ reply ∷ [];
   clients = clients_after w.clients what reply;
+  certified = certified_after w.certified what reply;
   press = press_done w.press (changes_since w.past (past_after rules w.past what reply)) (length w.replies + 1) what reply;
 }
 
--- nothing has happened yet
-abbrev pub new_world : World
-new_world = record { past = nothing; replies = []; clients = λ c. None; press = new_press }
+-- nothing has happened yet, and this is the first run
+abbrev pub new_world : ℕ → World
+new_world run = record { past = nothing run; ended = λ r. []; replies = []; clients = λ c. None; certified = λ c. None; press = press_from 0 }
 
 abbrev pub after_at : Rules → World → Option Event → Option Reply → World
 after_at rules w (Some event) (Some reply) = after rules w (deed rules w event) reply
 after_at rules w _ _ = w
 
--- what has happened after the first i events, with these replies
-unfoldable pub world : Rules → List Event → List Reply → ℕ → World
-world rules events replies zero = new_world
-world rules events replies (suc i) = after_at rules (world rules events replies i) (slice_get events i) (slice_get replies i)
+-- what has happened after the first i events, with these replies, where that was the first run
+unfoldable pub world : Rules → ℕ → List Event → List Reply → ℕ → World
+world rules run events replies zero = new_world run
+world rules run events replies (suc i) = after_at rules (world rules run events replies i) (slice_get events i) (slice_get replies i)

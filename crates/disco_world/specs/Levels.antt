@@ -1,5 +1,5 @@
 -- What private contracts say of the two levels of documents. Nothing here is to be believed: the clauses of `run` don't cite it.
-use Rattle.std.specs.Prelude.{◌≡◌, ℕ, length, Option, Some, None, option_map}
+use Rattle.std.specs.Prelude.{◌≡◌, length, Some, None, option_map}
 use Rattle.std.specs.FinMap.{get}
 use Rattle.disco_values.specs.declared.fault.Fault.TheVariants.{OutOfMemory}
 use Rattle.disco_query.specs.declared.key.DocKey.{DocKey}
@@ -11,11 +11,10 @@ use Rattle.disco_hub.specs.State.{State, rules_of}
 use Rattle.disco_hub.specs.Transitions.{CopiesOne}
 use Rattle.disco_rounds.specs.declared.copied.Copied.{Copied}
 use Rattle.disco_world.specs.Answers.{IsAnswer}
-use Rattle.disco_world.specs.Events.{Deed, World, after, clients_after, deed, query_asked}
+use Rattle.disco_world.specs.Events.{Deed, World, after, deed, query_asked}
 use Rattle.disco_world.specs.Rounds.{left_in}
 use Rattle.disco_world.specs.Caching.{Caches}
-use Rattle.disco_world.specs.Steps.{AreHeld, cache_of}
-use Rattle.disco_world.specs.declared.clients.Client.{Client}
+use Rattle.disco_world.specs.Steps.{AreHeld, Holders, cache_of, with_clients}
 use Rattle.disco_world.specs.declared.event.Event.{Event}
 use Rattle.disco_world.specs.declared.event.Reply.{Reply}
 use Rattle.disco_world.specs.declared.event.Reply.TheVariants.{Doc, Missed, Refused}
@@ -32,9 +31,9 @@ abbrev pub Turns : Levels → Levels → (World → Deed) → Reply → Type 0
 Turns old new what reply = (w : World) → AreLevelsOf old w → IsAnswer (rules_of old.hub) w (what w) reply × AreLevelsOf new (after (rules_of old.hub) w (what w) reply) × Caches (rules_of old.hub) w.past (what w) reply (cache_of old.hub) (cache_of new.hub)
 
 -- they and the clients answer an event, and are then those of what has happened with it
-abbrev pub Goes : Rules → World → Event → Reply → State → Levels → (ℕ → Option Client) → Type 0
-Goes rules w e r old new clients = let what = deed rules w e in
-    IsAnswer rules w what r × AreLevelsOf new (after rules w what r) × AreHeld clients (record w { clients = clients_after w.clients what r }) × Caches rules w.past what r (cache_of old) (cache_of new.hub)
+abbrev pub Goes : Rules → World → Event → Reply → State → Levels → Holders → Type 0
+Goes rules w e r old new held = let what = deed rules w e in
+    IsAnswer rules w what r × AreLevelsOf new (after rules w what r) × AreHeld held (with_clients w what r) × Caches rules w.past what r (cache_of old) (cache_of new.hub)
 
 -- the first key that was left was copied so, and put in or taken out
 pub record Copies (old new : Levels) (c : Copied) : Type 0 where

@@ -1,5 +1,6 @@
 pub mod Answers
 pub mod Caching
+pub mod Certified
 pub mod Clients
 pub mod Events
 pub mod Levels

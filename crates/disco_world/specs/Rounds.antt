@@ -8,7 +8,7 @@ use Rattle.disco_query.specs.declared.key.DocKey.{DocKey}
 use Rattle.disco_cache.specs.declared.payload.Payload.{Payload}
 use Rattle.disco_rounds.specs.Press.{Note, edition_of, step}
 
--- the notes that were published, those since, how many keys the round has that began last, and how many events there were up to its beginning, and up to that of the round published last
+-- of the run that is running: the notes that were published, those since, how many keys the round has that began last, and how many events there were up to its beginning, and up to that of the round published last, or up to the run's where there is none
 pub record Press : Type 0 where
   pub published : List Note
   pub pending : List Note
@@ -16,8 +16,9 @@ pub record Press : Type 0 where
   pub begun : ℕ
   pub floor : ℕ
 
-abbrev pub new_press : Press
-new_press = record { published = []; pending = []; keys = 0; begun = 0; floor = 0 }
+-- nothing is noted since a run began, up to whose beginning there were so many events
+abbrev pub press_from : ℕ → Press
+press_from i = record { published = []; pending = []; keys = 0; begun = i; floor = i }
 
 abbrev pub all_of : Press → List Note
 all_of s = s.published ++ s.pending

@@ -1,5 +1,7 @@
 -- What private contracts say of one event. Nothing here is to be believed: the clauses of `run` don't cite it.
 use Rattle.std.specs.Prelude.{◌≡◌, ◌≢◌, ℕ, Bool, List, Option, Some, None, Result, Ok, Err}
+use Rattle.std.specs.BTreeMap as tree
+use Rattle.std.specs.Ordering.{nat_cmp}
 use Rattle.std.specs.declared.alloc.Global.{Global}
 use Rattle.std.specs.declared.sync.Arc.{Arc}
 use Rattle.disco_instance.specs.Row.{Row}
@@ -14,11 +16,15 @@ use Rattle.disco_cache.specs.declared.payload.Payload.{Payload}
 use Rattle.disco_hub.specs.State.{State, StandsFor, rules_of}
 use Rattle.disco_world.specs.Answers.{IsAnswer}
 use Rattle.disco_world.specs.Caching.{Cache, Caches}
+use Rattle.disco_client.specs.declared.certified.CertifiedCopy.{CertifiedCopy}
+use Rattle.disco_client.specs.declared.known.Known.{Known}
+use Rattle.disco_world.specs.Certified.{IsGiven, certified_with, given, takes_it}
 use Rattle.disco_world.specs.Clients.{IsTold, clients_with, taken}
-use Rattle.disco_world.specs.Events.{Deed, World, doc_of_event, past_after}
+use Rattle.disco_world.specs.Events.{Deed, World, certified_after, clients_after, doc_of_event, past_after}
 use Rattle.disco_world.specs.declared.clients.Client.{Client}
+use Rattle.disco_world.specs.declared.clients.Clients.{Clients}
 use Rattle.disco_world.specs.declared.event.Reply.{Reply}
-use Rattle.disco_world.specs.declared.event.Reply.TheVariants.{Changed, Same, Doc, Taken, Held, Refused}
+use Rattle.disco_world.specs.declared.event.Reply.TheVariants.{Changed, Same, Doc, Taken, Certified, Held, Refused}
 use Rattle.disco_world.specs.declared.holding.Holding.{Holding}
 
 -- the reply to a write, after which there are so many versions
@@ -36,6 +42,11 @@ reply_of (Err e) = Refused e
 abbrev pub reply_to_take : Result (Bool × Option ℕ) Fault → Reply
 reply_to_take (Ok told) = Taken told.0 told.1
 reply_to_take (Err e) = Refused e
+
+-- the reply to a document for a certified client: where the copy is known then
+abbrev pub reply_to_give : Result (Bool × Known) Fault → Reply
+reply_to_give (Ok told) = Certified told.0 told.1.run told.1.version
+reply_to_give (Err e) = Refused e
 
 -- the reply to a show
 abbrev pub reply_to_show : Result (List Holding) Fault → Reply
@@ -63,6 +74,16 @@ abbrev pub ClientTakes : (ℕ → Option Client) → (ℕ → Option Client) →
 ClientTakes old new client d (Ok told) = IsTold d (taken d (old client)) told.0 told.1 × ((q : ℕ) → new q ≡ clients_with old client d q)
 ClientTakes old new client d (Err e) = (e ≢ OutOfMemory → (e ≡ NotFetched) × (taken d (old client) ≡ None)) × ((q : ℕ) → new q ≡ old q)
 
+-- a copy is given a document: so it is then, and so is told
+pub record IsTurned (delta : Bool) (d : Payload) (old new : CertifiedCopy) (taken : Bool) : Type 0 where
+  pub now : given d (Some old) ≡ Some new
+  pub taken_is : taken ≡ takes_it delta d (Some old)
+
+-- a certified client is given a document, or is refused it and all is as before
+abbrev pub ClientIsGiven : (ℕ → Option CertifiedCopy) → (ℕ → Option CertifiedCopy) → ℕ → Payload → Result (Bool × Known) Fault → Type 0
+ClientIsGiven old new client d (Ok told) = IsGiven d (old client) told.0 told.1.run told.1.version × ((q : ℕ) → new q ≡ certified_with old client d q)
+ClientIsGiven old new client d (Err e) = (e ≢ OutOfMemory → (e ≡ NotFetched) × (given d (old client) ≡ None)) × ((q : ℕ) → new q ≡ old q)
+
 -- each of these documents can be read
 abbrev pub AreReadable : List Reply → Type 0
 AreReadable replies = (event : ℕ) (d : Payload) → doc_of_event replies event ≡ Some d → IsReadable d
@@ -70,6 +91,18 @@ AreReadable replies = (event : ℕ) (d : Payload) → doc_of_event replies event
 abbrev pub holding : Row → Holding
 holding r = record { key = r.key; status = r.status }
 
+-- the clients that have a copy, plain and certified, by their numbers
+pub record Holders : Type 0 where
+  pub plain : ℕ → Option Client
+  pub certified : ℕ → Option CertifiedCopy
+
+abbrev pub holders : Clients → Holders
+holders c = record { plain = tree.get nat_cmp c.plain; certified = tree.get nat_cmp c.certified }
+
 -- the clients are those of what has happened
-abbrev pub AreHeld : (ℕ → Option Client) → World → Type 0
-AreHeld clients w = (q : ℕ) → clients q ≡ w.clients q
+abbrev pub AreHeld : Holders → World → Type 0
+AreHeld held w = ((q : ℕ) → held.plain q ≡ w.clients q) × ((q : ℕ) → held.certified q ≡ w.certified q)
+
+-- what a deed with that answer makes of the clients
+abbrev pub with_clients : World → Deed → Reply → World
+with_clients w what r = record w { clients = clients_after w.clients what r; certified = certified_after w.certified what r }

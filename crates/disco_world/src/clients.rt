@@ -1,11 +1,10 @@
 //! Clients and their copies.
-ghost use Rattle.std.specs.Prelude.{◌≡◌, IfErr, IfOk, false, map, option_map, true};
+ghost use Rattle.std.specs.Prelude.{◌≡◌, IfErr, IfOk, Some, false, map, option_map, true};
 ghost use Rattle.std.specs.BTreeMap as tree;
 ghost use Rattle.std.specs.Ordering.{nat_cmp};
 ghost use Rattle.disco_instance.specs.Row.{row};
 ghost use Rattle.disco_values.specs.declared.fault.Fault.TheVariants.{OutOfMemory};
 ghost use Rattle.disco_client.specs.Copies.{hash_equal};
-ghost use Rattle.disco_client.specs.Tracks.{moved, same_form};
 ghost use Rattle.disco_wire.specs.Wire.{wire_meaning};
 ghost use Rattle.disco_query.specs.Query.{is_delta};
 ghost use Rattle.disco_world.specs.Clients.{shown};
@@ -13,9 +12,9 @@ ghost use Rattle.disco_world.specs.Steps.{IsMeant, IsReadable, ClientTakes, hold
 
 use crate::holding::{Holding, Holdings};
 use disco_cache::Payload;
-use disco_client::{Copy, Known};
+use disco_client::{CertifiedCopy, Copy, Known};
 use disco_history::Held;
-use disco_values::{Fault, Form, Text};
+use disco_values::{Fault, Text};
 use disco_wire::{Wire, read_document};
 use std::alloc::Global;
 use std::collections::BTreeMap;
@@ -27,33 +26,35 @@ pub(crate) struct Client {
     pub(crate) known: Option<Known>,
 }
 
-/// The clients that have a copy, by their numbers.
-pub(crate) type Clients = BTreeMap<u32, Client>;
+/// The plain clients that have a copy, by their numbers.
+pub(crate) type PlainClients = BTreeMap<u32, Client>;
+
+/// The certified ones.
+pub(crate) type CertifiedClients = BTreeMap<u32, CertifiedCopy>;
+
+/// The clients that have a copy. Plain and certified ones are numbered apart.
+#[derive(Drop)]
+pub(crate) struct Clients {
+    pub(crate) plain: PlainClients,
+    pub(crate) certified: CertifiedClients,
+}
+
+impl Clients {
+    /// No client has a copy.
+    pub(crate) fn new(alloc: Global) -> Clients
+        ensures plain { tree.IsEmpty result.plain }
+        ensures certified { tree.IsEmpty result.certified }
+    {
+        Clients {
+            plain: BTreeMap::new(alloc),
+            certified: BTreeMap::new(alloc),
+        }
+    }
+}
 
 /// What is told of a client that took a document: whether the hash codes are equal, and the version
 /// at which the copy is known.
 pub(crate) type Told = (bool, Option<u64>);
-
-fn same_form(one: Form, other: Form) -> bool
-    ensures { result ≡ same_form one other }
-{
-    match (one, other) {
-        (Form::Full, Form::Full) | (Form::Compact, Form::Compact) => true,
-        _ => false,
-    }
-}
-
-/// Where a copy is known after a delta.
-fn moved(known: Option<Known>, form: Form, base: u64, version: u64) -> Option<Known>
-    ensures { result ≡ moved known form base version }
-{
-    match known {
-        Some(at) if same_form(at.form, form) && base <= at.version && at.version <= version => {
-            Some(Known { form, version })
-        }
-        _ => None,
-    }
-}
 
 fn version_of(known: Option<Known>) -> Option<u64>
     ensures { result ≡ option_map (λ at. at.version) known }
@@ -77,7 +78,7 @@ fn has_hash(copy: &Copy, hash: &Option<Text>) -> bool
 /// A client's copy becomes a document of all apps.
 fn replace(
     alloc: Global,
-    clients: &mut Clients,
+    clients: &mut PlainClients,
     client: u32,
     payload: &Payload,
     wire: Wire,
@@ -100,10 +101,7 @@ fn replace(
         version,
     })?;
     let equal = has_hash(&copy, &hash);
-    let known = Known {
-        form: payload.key.form,
-        version: payload.version,
-    };
+    let known = Known::of(payload.key.form, payload.cert());
     let replaced = Client {
         copy,
         known: Some(known),
@@ -113,7 +111,12 @@ fn replace(
 }
 
 /// A delta is overlaid on a client's copy.
-fn overlay(clients: &mut Clients, client: u32, payload: &Payload, wire: Wire) -> Result<Told, Fault>
+fn overlay(
+    clients: &mut PlainClients,
+    client: u32,
+    payload: &Payload,
+    wire: Wire,
+) -> Result<Told, Fault>
     requires meant { IsMeant payload.now (wire_meaning wire) }
     requires delta { is_delta payload.now.key.query ≡ true }
     ensures { ClientTakes (tree.get nat_cmp clients.old) (tree.get nat_cmp clients.new) client payload.now result }
@@ -122,15 +125,15 @@ fn overlay(clients: &mut Clients, client: u32, payload: &Payload, wire: Wire) ->
         return Err(Fault::NotFetched);
     };
     let overlaid = held.copy.overlay(wire)?;
-    held.known = moved(held.known, payload.key.form, payload.base, payload.version);
+    held.known = Known::moved(held.known, payload.key.form, payload.cert());
     Ok((overlaid.hash_equal, version_of(held.known)))
 }
 
-/// A client takes a document, of all apps or a delta. Refused as `NotFetched` exactly for a delta
+/// A plain client takes a document, of all apps or a delta. Refused as `NotFetched` exactly for a delta
 /// where the client has no copy, and as `OutOfMemory`; each copy is then as before.
 pub(crate) fn take(
     alloc: Global,
-    clients: &mut Clients,
+    clients: &mut PlainClients,
     client: u32,
     payload: &Payload,
 ) -> Result<Told, Fault>
@@ -159,13 +162,36 @@ fn holdings(alloc: Global, records: &[Held]) -> Result<Vec<Holding>, Fault>
     Ok(holdings)
 }
 
-/// The instances of a client's copy, by key: none where it has no copy.
-pub(crate) fn show(alloc: Global, clients: &Clients, client: u32) -> Result<Holdings, Fault>
-    ensures holdings { IfOk result (λ h. h ≡ shown (tree.get nat_cmp clients.now client)) }
+/// The instances of a copy, by key.
+fn held_in(alloc: Global, copy: &Copy) -> Result<Holdings, Fault>
+    ensures holdings { IfOk result (λ h. h ≡ shown (Some copy.now)) }
+    ensures memory { IfErr result (λ e. e ≡ OutOfMemory) }
+{
+    Ok(Holdings::from_vec(holdings(alloc, copy.records())?))
+}
+
+/// The instances of a plain client's copy, by key: none where it has no copy.
+pub(crate) fn show(alloc: Global, clients: &PlainClients, client: u32) -> Result<Holdings, Fault>
+    ensures holdings { IfOk result (λ h. h ≡ shown (option_map (λ c. c.copy) (tree.get nat_cmp clients.now client))) }
     ensures memory { IfErr result (λ e. e ≡ OutOfMemory) }
 {
     match clients.get(&client) {
-        Some(held) => Ok(Holdings::from_vec(holdings(alloc, held.copy.records())?)),
+        Some(held) => held_in(alloc, &held.copy),
+        None => Ok(Holdings::from_vec(Vec::new(alloc))),
+    }
+}
+
+/// The instances of a certified client's copy, by key: none where it has no copy.
+pub(crate) fn show_certified(
+    alloc: Global,
+    clients: &CertifiedClients,
+    client: u32,
+) -> Result<Holdings, Fault>
+    ensures holdings { IfOk result (λ h. h ≡ shown (option_map (λ c. c.copy) (tree.get nat_cmp clients.now client))) }
+    ensures memory { IfErr result (λ e. e ≡ OutOfMemory) }
+{
+    match clients.get(&client) {
+        Some(held) => held_in(alloc, &held.copy),
         None => Ok(Holdings::from_vec(Vec::new(alloc))),
     }
 }

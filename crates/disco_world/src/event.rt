@@ -17,6 +17,10 @@ pub enum Event {
     /// A client is given the document that an earlier event answered, by the number of that event
     /// from 1: one of all apps, or a delta.
     Take { client: u32, event: u64 },
+    /// A certified client is given the document that an earlier event answered, by the number of that
+    /// event from 1: one of all apps, or a delta. It takes it as its certificate tells. Certified
+    /// clients are numbered apart from the plain ones.
+    Certify { client: u32, event: u64 },
 }
 
 /// An event that looks at no earlier reply. Moments are in milliseconds.
@@ -101,6 +105,15 @@ pub enum Step {
     Show {
         client: u32,
     },
+    /// A look at a certified client's copy.
+    ShowCertified {
+        client: u32,
+    },
+    /// The server is started again: another run begins, with an empty registry and an empty edition.
+    /// Clients keep their copies.
+    Restart {
+        run: u64,
+    },
 }
 
 /// What an event answers.
@@ -134,7 +147,16 @@ pub enum Reply {
         hash_equal: bool,
         version: Option<u64>,
     },
+    /// A certified client was given a document: whether it took it, and the run and the version at
+    /// which its copy is known then.
+    Certified {
+        taken: bool,
+        run: u64,
+        version: u64,
+    },
     /// The instances of a client's copy, by key.
     Held(Holdings),
+    /// Another run has begun.
+    Restarted(u64),
     Refused(Fault),
 }

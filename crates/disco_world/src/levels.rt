@@ -21,9 +21,9 @@ pub(crate) struct Levels {
 }
 
 impl Levels {
-    /// An empty registry within the limits of the settings, and no document.
+    /// An empty registry within the limits of the settings, in their run, and no document.
     pub(crate) fn new(alloc: Global, settings: &Settings) -> Levels
-        ensures stands { StandsFor result.hub nothing }
+        ensures stands { StandsFor result.hub (nothing settings.now.run) }
         ensures rules { rules_of result.hub ≡ rules settings.now }
         ensures cache { cache_of result.hub ≡ new_cache settings.now.entries }
         ensures published { result.published ≡ empty }

@@ -2,16 +2,18 @@
 //!
 //! [`run`] is the library's main theorem for a list of events: every served document is the
 //! registry at one version, restricted to what was asked for. For a load it is that of the moment,
-//! for a look one since the last published round began. [`run_to`] says the same of replies that are
-//! told as they come.
+//! for a look one since the last published round began. A certified client's copy is exactly the
+//! registry of a run at a version. [`run_to`] says the same of replies that are told as they come.
 #![tactic(auto)]
 
 mod asks;
+mod certified;
 mod clients;
 mod event;
 mod holding;
 mod levels;
 mod loads;
+mod restarts;
 mod rounds;
 mod runs;
 mod steps;

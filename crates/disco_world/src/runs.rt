@@ -2,7 +2,6 @@
 ghost use Rattle.std.specs.Prelude.{◌≡◌, ◌≢◌, length, IfOk, IfErr, IfSome, IfNone, None, Result, Some, option_map};
 ghost use Rattle.std.specs.BTreeMap as tree;
 ghost use Rattle.std.specs.FinMap.{empty};
-ghost use Rattle.std.specs.Ordering.{nat_cmp};
 ghost use Rattle.disco_instance.specs.Instance.{Gives};
 ghost use Rattle.disco_values.specs.declared.fault.Fault.{Fault};
 ghost use Rattle.disco_values.specs.declared.fault.Fault.TheVariants.{OutOfMemory};
@@ -10,19 +9,21 @@ ghost use Rattle.disco_registry.specs.Op.{Ask, ask_of};
 ghost use Rattle.disco_core.specs.Past.{nothing};
 ghost use Rattle.disco_core.specs.State.{rules};
 ghost use Rattle.disco_hub.specs.State.{StandsFor, rules_of};
-ghost use Rattle.disco_world.specs.Answers.{AreAnswers, AreKnown, AreServed, IsFirstBadEvent};
+ghost use Rattle.disco_world.specs.Answers.{AreAnswers, AreExact, AreKnown, AreServed, IsFirstBadEvent, NeverFall};
 ghost use Rattle.disco_world.specs.Caching.{AreCached, new_cache};
 ghost use Rattle.disco_world.specs.Events.{World, bad, closes, deed, doc_in, doc_of_event, expires, for_clients, writes};
 ghost use Rattle.disco_world.specs.Levels.{AreLevelsOf, Goes};
-ghost use Rattle.disco_world.specs.Steps.{AreHeld, AreReadable, Does, cache_of, reply_to, reply_to_show, reply_to_take};
+ghost use Rattle.disco_world.specs.Steps.{AreHeld, AreReadable, Does, cache_of, holders, reply_to, reply_to_give, reply_to_show, reply_to_take};
 ghost use Rattle.disco_world.specs.declared.event.Event.TheVariants as event;
 
 use crate::asks::{add_metadata, cancel, drop_status, renew, set_status};
-use crate::clients::{Clients, Told, show, take};
+use crate::certified::{Given, give};
+use crate::clients::{Clients, Told, show, show_certified, take};
 use crate::event::{Event, Reply, Step};
 use crate::holding::Holdings;
 use crate::levels::Levels;
 use crate::loads::{load, load_by_id};
+use crate::restarts::restart;
 use crate::rounds::{begin, copy, look, publish};
 use disco_cache::Payload;
 use disco_hub::Hub;
@@ -32,47 +33,53 @@ use disco_registry::{Applied, Op};
 use disco_settings::Settings;
 use disco_values::Fault;
 use std::alloc::Global;
-use std::collections::BTreeMap;
 
-/// Runs the events in order from an empty registry, and answers each. Refused as `BadEvent`, with
-/// the number of the first such event counted from 1, where a client is to take what is no earlier
-/// served document of all apps and no delta; and as `OutOfMemory` where no room for the replies is
-/// found. An event that finds no memory is answered so and changes nothing; a run of cancels that
-/// finds none says so behind how many are gone.
+/// Runs the events in order from an empty registry, in the run that the settings name, and answers
+/// each. Refused as `BadEvent`, with the number of the first such event counted from 1, where a
+/// client is to take what is no earlier served document of all apps and no delta; and as
+/// `OutOfMemory` where no room for the replies is found. An event that finds no memory is answered so
+/// and changes nothing; a run of cancels that finds none says so behind how many are gone.
 pub fn run(alloc: Global, settings: &Settings, events: &[Event]) -> Result<Vec<Reply>, Fault>
     ensures each { IfOk result (λ replies. length replies.items ≡ length events.now) }
-    ensures answers { IfOk result (λ replies. AreAnswers (rules settings.now) events.now replies.items) }
-    ensures served { IfOk result (λ replies. AreServed (rules settings.now) events.now replies.items) }
-    ensures cached { IfOk result (λ replies. AreCached settings.now.entries (rules settings.now) events.now replies.items) }
-    ensures known { IfOk result (λ replies. AreKnown (rules settings.now) events.now replies.items) }
-    ensures refused { IfErr result (λ e. e ≢ OutOfMemory → IsFirstBadEvent (rules settings.now) events.now e) }
+    ensures answers { IfOk result (λ replies. AreAnswers (rules settings.now) settings.now.run events.now replies.items) }
+    ensures served { IfOk result (λ replies. AreServed (rules settings.now) settings.now.run events.now replies.items) }
+    ensures cached { IfOk result (λ replies. AreCached settings.now.entries (rules settings.now) settings.now.run events.now replies.items) }
+    ensures known { IfOk result (λ replies. AreKnown (rules settings.now) settings.now.run events.now replies.items) }
+    ensures exact { IfOk result (λ replies. AreExact (rules settings.now) settings.now.run events.now replies.items) }
+    ensures rising { IfOk result (λ replies. NeverFall (rules settings.now) settings.now.run events.now replies.items) }
+    ensures refused { IfErr result (λ e. e ≢ OutOfMemory → IsFirstBadEvent (rules settings.now) settings.now.run events.now e) }
 {
     let mut levels = Levels::new(alloc, settings);
-    let mut clients = BTreeMap::new(alloc);
-    run_all(alloc, &mut levels, &mut clients, events)
+    let mut clients = Clients::new(alloc);
+    run_all(alloc, settings, &mut levels, &mut clients, events)
 }
 
 /// Runs the events over an empty registry, of which no client has a copy.
 fn run_all(
     alloc: Global,
+    settings: &Settings,
     levels: &mut Levels,
     clients: &mut Clients,
     events: &[Event],
 ) -> Result<Vec<Reply>, Fault>
-    requires stands { StandsFor levels.old.hub nothing }
-    requires cache { cache_of levels.old.hub ≡ new_cache levels.old.hub.docs.max }
+    requires stands { StandsFor levels.old.hub (nothing settings.now.run) }
+    requires ruled { rules_of levels.old.hub ≡ rules settings.now }
+    requires cache { cache_of levels.old.hub ≡ new_cache settings.now.entries }
     requires published { levels.old.published ≡ empty }
-    requires clients { tree.IsEmpty clients.old }
+    requires plain { tree.IsEmpty clients.old.plain }
+    requires certified { tree.IsEmpty clients.old.certified }
     ensures each { IfOk result (λ replies. length replies.items ≡ length events.now) }
-    ensures answers { IfOk result (λ replies. AreAnswers (rules_of levels.old.hub) events.now replies.items) }
-    ensures served { IfOk result (λ replies. AreServed (rules_of levels.old.hub) events.now replies.items) }
-    ensures cached { IfOk result (λ replies. AreCached levels.old.hub.docs.max (rules_of levels.old.hub) events.now replies.items) }
-    ensures known { IfOk result (λ replies. AreKnown (rules_of levels.old.hub) events.now replies.items) }
-    ensures refused { IfErr result (λ e. e ≢ OutOfMemory → IsFirstBadEvent (rules_of levels.old.hub) events.now e) }
+    ensures answers { IfOk result (λ replies. AreAnswers (rules settings.now) settings.now.run events.now replies.items) }
+    ensures served { IfOk result (λ replies. AreServed (rules settings.now) settings.now.run events.now replies.items) }
+    ensures cached { IfOk result (λ replies. AreCached settings.now.entries (rules settings.now) settings.now.run events.now replies.items) }
+    ensures known { IfOk result (λ replies. AreKnown (rules settings.now) settings.now.run events.now replies.items) }
+    ensures exact { IfOk result (λ replies. AreExact (rules settings.now) settings.now.run events.now replies.items) }
+    ensures rising { IfOk result (λ replies. NeverFall (rules settings.now) settings.now.run events.now replies.items) }
+    ensures refused { IfErr result (λ e. e ≢ OutOfMemory → IsFirstBadEvent (rules settings.now) settings.now.run events.now e) }
 {
     let mut replies = Vec::new(alloc);
     for event in events {
-        let Some(reply) = answer(alloc, levels, clients, replies.as_slice(), event) else {
+        let Some(reply) = answer(alloc, settings, levels, clients, replies.as_slice(), event) else {
             return Err(Fault::BadEvent(replies.len() as u64 + 1));
         };
         replies.push(reply)?;
@@ -84,21 +91,28 @@ fn run_all(
 /// be run.
 fn answer(
     alloc: Global,
+    settings: &Settings,
     levels: &mut Levels,
     clients: &mut Clients,
     replies: &[Reply],
     event: &Event,
 ) -> Option<Reply>
+    requires ruled { rules_of levels.old.hub ≡ rules settings.now }
+    requires room { levels.old.hub.docs.max ≡ settings.now.entries }
     requires readable { AreReadable replies.now }
     ensures is_bad { IfNone result ((w : World) → w.replies ≡ replies.now → deed (rules_of levels.old.hub) w event.now ≡ bad) }
-    ensures does { IfSome result (λ r. (w : World) → w.replies ≡ replies.now → AreHeld (tree.get nat_cmp clients.old) w → AreLevelsOf levels.old w
-        → Goes (rules_of levels.old.hub) w event.now r levels.old.hub levels.new (tree.get nat_cmp clients.new)) }
+    ensures does { IfSome result (λ r. (w : World) → w.replies ≡ replies.now → AreHeld (holders clients.old) w → AreLevelsOf levels.old w
+        → Goes (rules_of levels.old.hub) w event.now r levels.old.hub levels.new (holders clients.new)) }
     ensures rules { rules_of levels.new.hub ≡ rules_of levels.old.hub }
 {
     match event {
-        Event::Step(step) => Some(answer_step(alloc, levels, clients, step)),
+        Event::Step(step) => Some(answer_step(alloc, settings, levels, clients, step)),
         Event::Take { client, event } => match document(replies, *event) {
-            Some(payload) => Some(took(take(alloc, clients, *client, payload))),
+            Some(payload) => Some(took(take(alloc, &mut clients.plain, *client, payload))),
+            None => None,
+        },
+        Event::Certify { client, event } => match document(replies, *event) {
+            Some(payload) => Some(gave(give(alloc, &mut clients.certified, *client, payload))),
             None => None,
         },
     }
@@ -107,12 +121,15 @@ fn answer(
 /// Answers one event that looks at no earlier reply.
 pub(crate) fn answer_step(
     alloc: Global,
+    settings: &Settings,
     levels: &mut Levels,
     clients: &Clients,
     step: &Step,
 ) -> Reply
-    ensures does { (w : World) → AreHeld (tree.get nat_cmp clients.now) w → AreLevelsOf levels.old w
-        → Goes (rules_of levels.old.hub) w (event.Step step.now) result levels.old.hub levels.new (tree.get nat_cmp clients.now) }
+    requires ruled { rules_of levels.old.hub ≡ rules settings.now }
+    requires room { levels.old.hub.docs.max ≡ settings.now.entries }
+    ensures does { (w : World) → AreHeld (holders clients.now) w → AreLevelsOf levels.old w
+        → Goes (rules_of levels.old.hub) w (event.Step step.now) result levels.old.hub levels.new (holders clients.now) }
     ensures rules { rules_of levels.new.hub ≡ rules_of levels.old.hub }
 {
     match step {
@@ -151,7 +168,11 @@ pub(crate) fn answer_step(
         Step::Publish => publish(alloc, levels),
         Step::Look { key } => look(alloc, &levels.published, key),
         Step::LookById { .. } => Reply::Missed,
-        Step::Show { client } => showed(show(alloc, clients, *client)),
+        Step::Show { client } => showed(show(alloc, &clients.plain, *client)),
+        Step::ShowCertified { client } => {
+            showed(show_certified(alloc, &clients.certified, *client))
+        }
+        Step::Restart { run } => restart(alloc, settings, levels, *run),
     }
 }
 
@@ -206,6 +227,20 @@ fn took(told: Result<Told, Fault>) -> Reply
         Ok((hash_equal, version)) => Reply::Taken {
             hash_equal,
             version,
+        },
+        Err(fault) => Reply::Refused(fault),
+    }
+}
+
+/// The reply to a document for a certified client.
+fn gave(told: Result<Given, Fault>) -> Reply
+    ensures { result ≡ reply_to_give told }
+{
+    match told {
+        Ok((taken, known)) => Reply::Certified {
+            taken,
+            run: known.run,
+            version: known.version,
         },
         Err(fault) => Reply::Refused(fault),
     }

@@ -33,5 +33,5 @@ fn has_takes(events: &[Event]) -> bool
 fn is_take(event: &Event) -> bool
     ensures { result ≡ is_take event.now }
 {
-    matches!(event, Event::Take { .. })
+    matches!(event, Event::Take { .. } | Event::Certify { .. })
 }

@@ -20,7 +20,6 @@ use crate::steps::Steps;
 use disco_settings::Settings;
 use disco_values::Fault;
 use std::alloc::Global;
-use std::collections::BTreeMap;
 
 /// Tells replies to an output, one after another.
 pub trait Tell<W> {
@@ -46,35 +45,38 @@ pub fn run_to<W, T: Tell<W>>(
     teller: &mut T,
     out: &mut W,
 ) -> Result<(), Fault>
-    ensures told { OnOk result (AreTold settings.now.entries (rules settings.now) steps.entry.events.now T.text (T.told teller.old out.old) (T.told teller.new out.new)) }
+    ensures told { OnOk result (AreTold settings.now.entries (rules settings.now) settings.now.run steps.entry.events.now T.text (T.told teller.old out.old) (T.told teller.new out.new)) }
     ensures fault { IfErr result (λ e. (e ≡ WriteFailed) ⊎ (e ≡ OutOfMemory)) }
 {
     let mut levels = Levels::new(alloc, settings);
-    let clients = BTreeMap::new(alloc);
-    tell_all(alloc, &mut levels, &clients, steps, teller, out)
+    let clients = Clients::new(alloc);
+    tell_all(alloc, settings, &mut levels, &clients, steps, teller, out)
 }
 
 /// Runs the events over an empty registry, of which no client has a copy, and tells each reply.
 fn tell_all<W, T: Tell<W>>(
     alloc: Global,
+    settings: &Settings,
     levels: &mut Levels,
     clients: &Clients,
     steps: Steps,
     teller: &mut T,
     out: &mut W,
 ) -> Result<(), Fault>
-    requires stands { StandsFor levels.old.hub nothing }
-    requires cache { cache_of levels.old.hub ≡ new_cache levels.old.hub.docs.max }
+    requires stands { StandsFor levels.old.hub (nothing settings.now.run) }
+    requires ruled { rules_of levels.old.hub ≡ rules settings.now }
+    requires cache { cache_of levels.old.hub ≡ new_cache settings.now.entries }
     requires published { levels.old.published ≡ empty }
-    requires clients { tree.IsEmpty clients.now }
-    ensures told { OnOk result (AreTold levels.old.hub.docs.max (rules_of levels.old.hub) steps.entry.events.now T.text (T.told teller.old out.old) (T.told teller.new out.new)) }
+    requires plain { tree.IsEmpty clients.now.plain }
+    requires certified { tree.IsEmpty clients.now.certified }
+    ensures told { OnOk result (AreTold settings.now.entries (rules settings.now) settings.now.run steps.entry.events.now T.text (T.told teller.old out.old) (T.told teller.new out.new)) }
     ensures fault { IfErr result (λ e. (e ≡ WriteFailed) ⊎ (e ≡ OutOfMemory)) }
 {
     for event in steps.events {
         let Event::Step(step) = event else {
             unreachable!()
         };
-        let reply = answer_step(alloc, levels, clients, step);
+        let reply = answer_step(alloc, settings, levels, clients, step);
         teller.tell(&reply, out)?;
     }
     Ok(())

@@ -1,16 +1,14 @@
 use Rattle.std.proofs.Common.{ℕ, List, Ok, Some, refl, subst}
-use Rattle.std.specs.BTreeMap as tree
-use Rattle.std.specs.Ordering.{nat_cmp}
 use Rattle.disco_instance.specs.Instance.{Gives}
 use Rattle.disco_registry.specs.Op as asking
 use Rattle.disco_registry.specs.Op.{ask_of}
 use Rattle.disco_wire.specs.Registration.{registration_of}
-use Rattle.disco_world.specs.Events.{expires, looks, shows, writes}
+use Rattle.disco_world.specs.Events.{expires, looks, restarts, shows, shows_certified, writes}
 use Rattle.disco_operations.specs.Operations.{key_named, registers}
 use Rattle.disco_world.specs.Levels.{key_looked}
-use Rattle.disco_world.specs.Steps.{reply_to_show}
+use Rattle.disco_world.specs.Steps.{holders, reply_to_show}
 use Rattle.disco_hub.specs.State.{rules_of}
-use Rattle.disco_world.proofs.Taken.{showed}
+use Rattle.disco_world.proofs.Taken.{showed, showed_certified}
 use Rattle.disco_world.proofs.Turning.{looked, quiet_turns}
 use Rattle.disco_world.proofs.Writes.{with_hub, with_turn}
 use Rattle.disco_world.proofs.runs.answer_step.Goals as goal
@@ -18,42 +16,53 @@ use Rattle.disco_world.proofs.runs.answer_step.Goals as goal
 pub returns-in-Register-clause-does : goal.returns-in-Register-clause-does
 returns-in-Register-clause-does c = λ w held levels.
     let gives = subst (λ (b : List ℕ). Gives ask_of c.register.result (registers c.in-Register.app (registration_of b))) c.as_slice.ensures c.register.ensures in
-    rw c.in-Register.is (with_hub c.args.levels.now (record c.args.levels.now { hub = c.write.new.hub }) (tree.get nat_cmp c.args.clients.now) w (writes c.in-Register.now (registers c.in-Register.app (registration_of c.in-Register.json))) c.write.result refl held refl levels c.write.ensures.rounds refl refl (c.write.ensures.does (registers c.in-Register.app (registration_of c.in-Register.json)) gives w levels.levels.stands))
+    rw c.in-Register.is (with_hub c.args.levels.now (record c.args.levels.now { hub = c.write.new.hub }) (holders c.args.clients.now) w (writes c.in-Register.now (registers c.in-Register.app (registration_of c.in-Register.json))) c.write.result refl refl held refl refl levels c.write.ensures.rounds refl refl (c.write.ensures.does (registers c.in-Register.app (registration_of c.in-Register.json)) gives w levels.levels.stands))
 
 pub returns-in-Cancel-clause-does : goal.returns-in-Cancel-clause-does
 returns-in-Cancel-clause-does c = λ w held levels.
-    rw c.in-Cancel.is (with_hub c.args.levels.now (record c.args.levels.now { hub = c.write-in-Cancel.new.hub }) (tree.get nat_cmp c.args.clients.now) w (writes c.in-Cancel.now (Ok (asking.cancel (key_named c.in-Cancel.app c.in-Cancel.id)))) c.write-in-Cancel.result refl held refl levels c.write-in-Cancel.ensures.rounds refl refl (c.write-in-Cancel.ensures.does (Ok (asking.cancel (key_named c.in-Cancel.app c.in-Cancel.id))) c.cancel.ensures w levels.levels.stands))
+    rw c.in-Cancel.is (with_hub c.args.levels.now (record c.args.levels.now { hub = c.write-in-Cancel.new.hub }) (holders c.args.clients.now) w (writes c.in-Cancel.now (Ok (asking.cancel (key_named c.in-Cancel.app c.in-Cancel.id)))) c.write-in-Cancel.result refl refl held refl refl levels c.write-in-Cancel.ensures.rounds refl refl (c.write-in-Cancel.ensures.does (Ok (asking.cancel (key_named c.in-Cancel.app c.in-Cancel.id))) c.cancel.ensures w levels.levels.stands))
 
 pub returns-in-Renew-clause-does : goal.returns-in-Renew-clause-does
 returns-in-Renew-clause-does c = λ w held levels.
-    rw c.in-Renew.is (with_hub c.args.levels.now (record c.args.levels.now { hub = c.write-in-Renew.new.hub }) (tree.get nat_cmp c.args.clients.now) w (writes c.in-Renew.now (Ok (asking.renew (key_named c.in-Renew.app c.in-Renew.id)))) c.write-in-Renew.result refl held refl levels c.write-in-Renew.ensures.rounds refl refl (c.write-in-Renew.ensures.does (Ok (asking.renew (key_named c.in-Renew.app c.in-Renew.id))) c.renew.ensures w levels.levels.stands))
+    rw c.in-Renew.is (with_hub c.args.levels.now (record c.args.levels.now { hub = c.write-in-Renew.new.hub }) (holders c.args.clients.now) w (writes c.in-Renew.now (Ok (asking.renew (key_named c.in-Renew.app c.in-Renew.id)))) c.write-in-Renew.result refl refl held refl refl levels c.write-in-Renew.ensures.rounds refl refl (c.write-in-Renew.ensures.does (Ok (asking.renew (key_named c.in-Renew.app c.in-Renew.id))) c.renew.ensures w levels.levels.stands))
 
 pub returns-in-SetStatus-clause-does : goal.returns-in-SetStatus-clause-does
 returns-in-SetStatus-clause-does c = λ w held levels.
-    rw c.in-SetStatus.is (with_hub c.args.levels.now (record c.args.levels.now { hub = c.write-in-SetStatus.new.hub }) (tree.get nat_cmp c.args.clients.now) w (writes c.in-SetStatus.now (Ok (asking.set_status (key_named c.in-SetStatus.app c.in-SetStatus.id) c.in-SetStatus.status))) c.write-in-SetStatus.result refl held refl levels c.write-in-SetStatus.ensures.rounds refl refl (c.write-in-SetStatus.ensures.does (Ok (asking.set_status (key_named c.in-SetStatus.app c.in-SetStatus.id) c.in-SetStatus.status)) c.set_status.ensures w levels.levels.stands))
+    rw c.in-SetStatus.is (with_hub c.args.levels.now (record c.args.levels.now { hub = c.write-in-SetStatus.new.hub }) (holders c.args.clients.now) w (writes c.in-SetStatus.now (Ok (asking.set_status (key_named c.in-SetStatus.app c.in-SetStatus.id) c.in-SetStatus.status))) c.write-in-SetStatus.result refl refl held refl refl levels c.write-in-SetStatus.ensures.rounds refl refl (c.write-in-SetStatus.ensures.does (Ok (asking.set_status (key_named c.in-SetStatus.app c.in-SetStatus.id) c.in-SetStatus.status)) c.set_status.ensures w levels.levels.stands))
 
 pub returns-in-DropStatus-clause-does : goal.returns-in-DropStatus-clause-does
 returns-in-DropStatus-clause-does c = λ w held levels.
-    rw c.in-DropStatus.is (with_hub c.args.levels.now (record c.args.levels.now { hub = c.write-in-DropStatus.new.hub }) (tree.get nat_cmp c.args.clients.now) w (writes c.in-DropStatus.now (Ok (asking.drop_status (key_named c.in-DropStatus.app c.in-DropStatus.id) c.in-DropStatus.status))) c.write-in-DropStatus.result refl held refl levels c.write-in-DropStatus.ensures.rounds refl refl (c.write-in-DropStatus.ensures.does (Ok (asking.drop_status (key_named c.in-DropStatus.app c.in-DropStatus.id) c.in-DropStatus.status)) c.drop_status.ensures w levels.levels.stands))
+    rw c.in-DropStatus.is (with_hub c.args.levels.now (record c.args.levels.now { hub = c.write-in-DropStatus.new.hub }) (holders c.args.clients.now) w (writes c.in-DropStatus.now (Ok (asking.drop_status (key_named c.in-DropStatus.app c.in-DropStatus.id) c.in-DropStatus.status))) c.write-in-DropStatus.result refl refl held refl refl levels c.write-in-DropStatus.ensures.rounds refl refl (c.write-in-DropStatus.ensures.does (Ok (asking.drop_status (key_named c.in-DropStatus.app c.in-DropStatus.id) c.in-DropStatus.status)) c.drop_status.ensures w levels.levels.stands))
 
 pub returns-in-Metadata-clause-does : goal.returns-in-Metadata-clause-does
 returns-in-Metadata-clause-does c = λ w held levels.
-    rw c.in-Metadata.is (with_hub c.args.levels.now (record c.args.levels.now { hub = c.write-in-Metadata.new.hub }) (tree.get nat_cmp c.args.clients.now) w (writes c.in-Metadata.now (Ok (asking.add_metadata (key_named c.in-Metadata.app c.in-Metadata.id) c.in-Metadata.entries))) c.write-in-Metadata.result refl held refl levels c.write-in-Metadata.ensures.rounds refl refl (c.write-in-Metadata.ensures.does (Ok (asking.add_metadata (key_named c.in-Metadata.app c.in-Metadata.id) c.in-Metadata.entries)) c.add_metadata.ensures w levels.levels.stands))
+    rw c.in-Metadata.is (with_hub c.args.levels.now (record c.args.levels.now { hub = c.write-in-Metadata.new.hub }) (holders c.args.clients.now) w (writes c.in-Metadata.now (Ok (asking.add_metadata (key_named c.in-Metadata.app c.in-Metadata.id) c.in-Metadata.entries))) c.write-in-Metadata.result refl refl held refl refl levels c.write-in-Metadata.ensures.rounds refl refl (c.write-in-Metadata.ensures.does (Ok (asking.add_metadata (key_named c.in-Metadata.app c.in-Metadata.id) c.in-Metadata.entries)) c.add_metadata.ensures w levels.levels.stands))
 
 pub returns-in-Expire-clause-does : goal.returns-in-Expire-clause-does
 returns-in-Expire-clause-does c = λ w held levels.
-    rw c.in-Expire.is (with_hub c.args.levels.now (record c.args.levels.now { hub = c.expire.new.hub }) (tree.get nat_cmp c.args.clients.now) w (expires c.in-Expire.now) c.expire.result refl held refl levels c.expire.ensures.rounds refl refl (c.expire.ensures.does w levels.levels.stands))
+    rw c.in-Expire.is (with_hub c.args.levels.now (record c.args.levels.now { hub = c.expire.new.hub }) (holders c.args.clients.now) w (expires c.in-Expire.now) c.expire.result refl refl held refl refl levels c.expire.ensures.rounds refl refl (c.expire.ensures.does w levels.levels.stands))
 
 pub returns-in-Look-clause-does : goal.returns-in-Look-clause-does
 returns-in-Look-clause-does c = λ w held levels.
     let s = c.args.levels.now in
     let what = looks (Some (key_looked c.in-Look.key)) in
-    rw c.in-Look.is (with_turn s s (tree.get nat_cmp c.args.clients.now) w what c.look.result refl held
+    rw c.in-Look.is (with_turn s s (holders c.args.clients.now) w what c.look.result refl refl held
     (looked (rules_of s.hub) w s.published (key_looked c.in-Look.key) c.look.result levels.published c.look.ensures, quiet_turns s s w levels refl what c.look.result refl refl, refl))
 
 pub returns-in-Show-clause-does : goal.returns-in-Show-clause-does
 returns-in-Show-clause-does c = λ w held levels.
     let s = c.args.levels.now in
     let what = shows c.in-Show.client in
-    rw (c.in-Show.is, c.showed.ensures) (with_turn s s (tree.get nat_cmp c.args.clients.now) w what (reply_to_show c.show.result) refl held
-    (showed (rules_of s.hub) w (tree.get nat_cmp c.args.clients.now) c.in-Show.client c.show.result held c.show.ensures.holdings c.show.ensures.memory, quiet_turns s s w levels refl what (reply_to_show c.show.result) refl refl, refl))
+    rw (c.in-Show.is, c.showed.ensures) (with_turn s s (holders c.args.clients.now) w what (reply_to_show c.show.result) refl refl held
+    (showed (rules_of s.hub) w (holders c.args.clients.now) held c.in-Show.client c.show.result c.show.ensures.holdings c.show.ensures.memory, quiet_turns s s w levels refl what (reply_to_show c.show.result) refl refl, refl))
+
+pub returns-in-ShowCertified-clause-does : goal.returns-in-ShowCertified-clause-does
+returns-in-ShowCertified-clause-does c = λ w held levels.
+    let s = c.args.levels.now in
+    let what = shows_certified c.in-ShowCertified.client in
+    rw (c.in-ShowCertified.is, c.showed-in-ShowCertified.ensures) (with_turn s s (holders c.args.clients.now) w what (reply_to_show c.show_certified.result) refl refl held
+    (showed_certified (rules_of s.hub) w (holders c.args.clients.now) held c.in-ShowCertified.client c.show_certified.result c.show_certified.ensures.holdings c.show_certified.ensures.memory, quiet_turns s s w levels refl what (reply_to_show c.show_certified.result) refl refl, refl))
+
+pub returns-in-Restart-clause-does : goal.returns-in-Restart-clause-does
+returns-in-Restart-clause-does c = λ w held levels.
+    rw c.in-Restart.is (with_turn c.args.levels.now c.restart.new.levels (holders c.args.clients.now) w (restarts c.in-Restart.run') c.restart.result refl refl held (c.restart.ensures.turns w levels))

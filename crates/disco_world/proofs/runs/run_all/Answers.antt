@@ -1,12 +1,11 @@
-use Rattle.std.proofs.Common.{◌≡◌, refl, sym, subst, ◌∙◌, Option, Some, None, IfNone, arith}
-use Rattle.std.specs.BTreeMap as tree
-use Rattle.std.specs.Ordering.{nat_cmp}
-use Rattle.disco_hub.specs.State.{rules_of}
+use Rattle.std.proofs.Common.{◌≡◌, refl, sym, ap, subst, ◌∙◌, Option, Some, None, IfNone, arith}
+use Rattle.disco_core.specs.State.{rules}
 use Rattle.disco_world.specs.Events.{world}
-use Rattle.disco_world.specs.Steps.{AreReadable, cache_of}
+use Rattle.disco_world.specs.Steps.{AreReadable, cache_of, holders}
+use Rattle.disco_world.specs.Caching.{Cache}
 use Rattle.disco_world.specs.declared.event.Reply.{Reply}
 use Rattle.disco_world.proofs.Histories.{all_cached, always_fresh, at_index, first_bad, new_course, new_levels, no_answers, run_more, served, some_pressed}
-use Rattle.disco_world.proofs.AllAlong.{all_readable, holds_at, known}
+use Rattle.disco_world.proofs.AllAlong.{all_readable, exact, holds_at, known, rising}
 use Rattle.disco_world.proofs.runs.run_all.Goals as goal
 
 none_by : (o : Option Reply) (P : Type 0) → ((x : Reply) → o ≡ Some x → ⊥) → IfNone o P → P
@@ -17,19 +16,20 @@ pub loop-event-init : goal.loop-event-init
 unfolding world
 loop-event-init c = record {
   count = rw c.new-replies.ensures.items refl;
-  levels = new_levels c.args.levels.now c.requires.stands c.requires.cache c.requires.published;
-  course = new_course c.args.levels.now.hub.docs.max (rules_of c.args.levels.now.hub) c.args.events.now c.new-replies.result.items (cache_of c.args.levels.now.hub) c.new-replies.ensures.items c.requires.cache;
-  held = λ q. search (c.requires.clients);
+  levels = new_levels c.args.settings.now.run c.args.settings.now.entries c.args.levels.now c.requires.stands c.requires.cache c.requires.published;
+  course = new_course c.args.settings.now.entries (rules c.args.settings.now) c.args.settings.now.run c.args.events.now c.new-replies.result.items (cache_of c.args.levels.now.hub) c.new-replies.ensures.items c.requires.cache;
+  held = (λ q. search (c.requires.plain), λ q. search (c.requires.certified));
   replies = sym c.new-replies.ensures.items;
-  rules_are = refl;
-  answers = no_answers (rules_of c.args.levels.now.hub) c.args.events.now c.new-replies.result.items c.new-replies.ensures.items;
+  rules_are = c.requires.ruled;
+  room = ap (λ (s : Cache). s.docs.max) c.requires.cache;
+  answers = no_answers (rules c.args.settings.now) c.args.settings.now.run c.args.events.now c.new-replies.result.items c.new-replies.ensures.items;
 }
 
 pub answer-requires : goal.answer-requires
 answer-requires c =
     let run = c.loop-event.invariant in
-    let readable : AreReadable c.loop-event.replies.items = subst AreReadable run.replies (all_readable _ (holds_at (rules_of c.args.levels.now.hub) c.args.events.now c.loop-event.replies.items run.answers c.loop-event.event-index (λ j le. (some_pressed c.args.levels.now.hub.docs.max _ _ _ _ _ run.course j le).2.pressed.publishable))) in
-    record { readable = subst AreReadable (sym c.as_slice.ensures.value) readable }
+    let readable : AreReadable c.loop-event.replies.items = subst AreReadable run.replies (all_readable _ (holds_at (rules c.args.settings.now) c.args.settings.now.run c.args.events.now c.loop-event.replies.items run.answers c.loop-event.event-index (λ j le. (some_pressed c.args.settings.now.entries _ _ _ _ _ _ run.course j le).2.pressed.publishable))) in
+    record { ruled = run.rules_are; room = run.room; readable = subst AreReadable (sym c.as_slice.ensures.value) readable }
 
 pub returns-in_default-clause-refused : goal.returns-in_default-clause-refused
 returns-in_default-clause-refused c = λ other.
@@ -37,7 +37,7 @@ returns-in_default-clause-refused c = λ other.
     let es = c.args.events.now in
     let i = c.loop-event.event-index in
     let e = c.event-item.result in
-    first_bad c.args.levels.now.hub.docs.max (rules_of c.args.levels.now.hub) es c.loop-event.replies.items i e c.len.result c.loop-event.levels (tree.get nat_cmp c.loop-event.clients) run
+    first_bad c.args.settings.now.entries (rules c.args.settings.now) c.args.settings.now.run es c.loop-event.replies.items i e c.len.result c.loop-event.levels (holders c.loop-event.clients) run
     (at_index es i e c.loop-event-test.true c.event-item.is) (omega (arith, c.len.ensures, c.loop-event.replies.ok.0))
     (λ w replies. none_by c.answer.result _ c.in_default.not-Some c.answer.ensures.is_bad w (replies ∙ sym c.as_slice.ensures.value))
 
@@ -47,23 +47,33 @@ loop-event-preserved c =
     let i = c.loop-event.event-index in
     let e = c.event-item.result in
     let run = c.loop-event.invariant in
-    rw c.in_ok-push.ensures.items (run_more (rules_of c.args.levels.now.hub) es c.loop-event.replies.items i e c.in-Some.reply run.count (at_index es i e c.loop-event-test.true c.event-item.is)
-    c.args.levels.now.hub.docs.max c.loop-event.levels c.answer.new.levels (tree.get nat_cmp c.loop-event.clients) (tree.get nat_cmp c.answer.new.clients) run
+    rw c.in_ok-push.ensures.items (run_more (rules c.args.settings.now) c.args.settings.now.run es c.loop-event.replies.items i e c.in-Some.reply run.count (at_index es i e c.loop-event-test.true c.event-item.is)
+    c.args.settings.now.entries c.loop-event.levels c.answer.new.levels (holders c.loop-event.clients) (holders c.answer.new.clients) run
     (λ w replies held levels. c.in-Some.ensures.does w (replies ∙ sym c.as_slice.ensures.value) held levels) c.answer.ensures.rules)
 
 pub returns-clause-cached : goal.returns-clause-cached
 returns-clause-cached c =
     let run = c.loop-event.invariant in
-    all_cached c.args.levels.now.hub.docs.max (rules_of c.args.levels.now.hub) c.args.events.now c.loop-event.replies.items c.loop-event.event-index (cache_of c.loop-event.levels.hub) run.count run.course
+    all_cached c.args.settings.now.entries (rules c.args.settings.now) c.args.settings.now.run c.args.events.now c.loop-event.replies.items c.loop-event.event-index (cache_of c.loop-event.levels.hub) run.count run.course
 
 pub returns-clause-served : goal.returns-clause-served
 returns-clause-served c =
     let run = c.loop-event.invariant in
-    served (rules_of c.args.levels.now.hub) c.args.events.now c.loop-event.replies.items run.answers (λ i le. (some_pressed c.args.levels.now.hub.docs.max _ _ _ _ _ run.course i (omega (arith, le, run.count))).2.pressed.publishable)
+    served (rules c.args.settings.now) c.args.settings.now.run c.args.events.now c.loop-event.replies.items run.answers (λ i le. (some_pressed c.args.settings.now.entries _ _ _ _ _ _ run.course i (omega (arith, le, run.count))).2.pressed.publishable)
 
 pub returns-clause-known : goal.returns-clause-known
 returns-clause-known c =
     let run = c.loop-event.invariant in
     let es = c.args.events.now in
     let rs = c.loop-event.replies.items in
-    known (rules_of c.args.levels.now.hub) es rs run.answers (always_fresh (rules_of c.args.levels.now.hub) es rs (λ k le. some_pressed c.args.levels.now.hub.docs.max _ _ _ _ _ run.course k (omega (arith, le, run.count))))
+    known (rules c.args.settings.now) c.args.settings.now.run es rs run.answers (always_fresh (rules c.args.settings.now) c.args.settings.now.run es rs (λ k le. some_pressed c.args.settings.now.entries _ _ _ _ _ _ run.course k (omega (arith, le, run.count))))
+
+pub returns-clause-exact : goal.returns-clause-exact
+returns-clause-exact c =
+    let run = c.loop-event.invariant in
+    let es = c.args.events.now in
+    let rs = c.loop-event.replies.items in
+    exact (rules c.args.settings.now) c.args.settings.now.run es rs run.answers (always_fresh (rules c.args.settings.now) c.args.settings.now.run es rs (λ k le. some_pressed c.args.settings.now.entries _ _ _ _ _ _ run.course k (omega (arith, le, run.count))))
+
+pub returns-clause-rising : goal.returns-clause-rising
+returns-clause-rising c = rising (rules c.args.settings.now) c.args.settings.now.run c.args.events.now c.loop-event.replies.items

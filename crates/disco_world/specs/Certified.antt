@@ -1,0 +1,50 @@
+-- Certified clients, whose copies are always known (this project's own rule).
+use Rattle.std.specs.Prelude.{◌≡◌, ℕ, ◌==◌, ◌&&◌, Bool, true, false, if◌then◌else◌, Option, Some, None, Result, Ok, Err}
+use Rattle.std.specs.FinMap.{FinMap, empty}
+use Rattle.disco_values.specs.Key.{key_cmp}
+use Rattle.disco_values.specs.declared.fault.Fault.{Fault}
+use Rattle.disco_instance.specs.Row.{Row}
+use Rattle.disco_history.specs.Mentions.{copied, overlay}
+use Rattle.disco_wire.specs.Documents.{document_of}
+use Rattle.disco_wire.specs.Meaning.{Meaning}
+use Rattle.disco_query.specs.Query.{is_delta}
+use Rattle.disco_cache.specs.Payloads.{cert_of}
+use Rattle.disco_cache.specs.declared.payload.Payload.{Payload}
+use Rattle.disco_client.specs.Tracks.{gives_way, known_at, reaches, same_form}
+use Rattle.disco_client.specs.declared.certified.CertifiedCopy.{CertifiedCopy}
+
+-- a document is taken: one of all apps where there is no copy, or one that gives way to it; a delta of the copy's form that reaches it
+abbrev pub takes_it : Bool → Payload → Option CertifiedCopy → Bool
+takes_it false d None = true
+takes_it false d (Some k) = gives_way (cert_of d) k.known
+takes_it true d None = false
+takes_it true d (Some k) = same_form k.known.form d.key.form && reaches (cert_of d) k.known
+
+-- the records that it makes then
+abbrev pub rows_by : Bool → Meaning → Option CertifiedCopy → FinMap key_cmp Row
+rows_by false m held = copied m.mentions
+rows_by true m None = empty
+rows_by true m (Some k) = overlay k.copy m.mentions
+
+abbrev pub given_by : Bool → Payload → Meaning → Option CertifiedCopy → Option CertifiedCopy
+given_by delta d m held = if takes_it delta d held then Some (record { copy = rows_by delta m held; known = known_at d.key.form (cert_of d) }) else held
+
+abbrev pub given_from : Payload → Result Meaning Fault → Option CertifiedCopy → Option CertifiedCopy
+given_from d (Ok m) held = given_by (is_delta d.key.query) d m held
+given_from d (Err e) held = held
+
+-- a certified client after it was given a document: what the document makes where it is taken, else what it was
+abbrev pub given : Payload → Option CertifiedCopy → Option CertifiedCopy
+given d held = given_from d (document_of d.text) held
+
+-- all certified clients after one of them was given a document
+abbrev pub certified_with : (ℕ → Option CertifiedCopy) → ℕ → Payload → ℕ → Option CertifiedCopy
+certified_with clients c d q = if q == c then given d (clients c) else clients q
+
+-- what is told of a certified client that was given a document: whether it was taken, and the run and the version of the copy then
+pub record IsGiven (d : Payload) (held : Option CertifiedCopy) (taken : Bool) (run version : ℕ) : Type 0 where
+  pub copy : CertifiedCopy
+  pub now : given d held ≡ Some copy
+  pub taken_is : taken ≡ takes_it (is_delta d.key.query) d held
+  pub run_is : run ≡ copy.known.run
+  pub version_is : version ≡ copy.known.version
