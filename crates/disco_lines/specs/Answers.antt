@@ -10,7 +10,7 @@ use Rattle.disco_rounds.specs.declared.copied.Copied.TheVariants as copied
 use Rattle.disco_values.specs.Status.{status_name}
 use Rattle.disco_world.specs.declared.holding.Holding.{Holding}
 use Rattle.disco_world.specs.declared.event.Reply.{Reply}
-use Rattle.disco_world.specs.declared.event.Reply.TheVariants.{Changed, Same, Doc, Cleaned, Closed, Expired, Begun, Copied, Done, Published, Missed, Taken, Held, Refused}
+use Rattle.disco_world.specs.declared.event.Reply.TheVariants.{Changed, Same, Doc, Cleaned, Closed, Expired, Begun, Copied, Done, Published, Missed, Taken, Certified, Held, Restarted, Refused}
 
 -- `doc BASE VERSION `
 abbrev pub document_front : Payload → List ℕ
@@ -35,6 +35,11 @@ abbrev pub version_or_dash : Option ℕ → List ℕ
 version_or_dash None = codes "-"
 version_or_dash (Some version) = decimal version
 
+-- `copy` where a certified client took a document, and `keep` where it didn't
+abbrev pub copy_or_keep : Bool → List ℕ
+copy_or_keep true = codes "copy"
+copy_or_keep false = codes "keep"
+
 -- ` APP/ID=STATUS`, each as it is
 abbrev pub holding_text : Holding → List ℕ
 holding_text h = codes " " ++ h.key.app ++ codes "/" ++ h.key.id ++ codes "=" ++ status_name h.status
@@ -58,7 +63,9 @@ answer_line Done = codes "done\n"
 answer_line (Published documents) = codes "published " ++ decimal documents ++ codes "\n"
 answer_line Missed = codes "miss\n"
 answer_line (Taken equal version) = codes "copy " ++ yes_or_no equal ++ codes " " ++ version_or_dash version ++ codes "\n"
+answer_line (Certified taken run version) = copy_or_keep taken ++ codes " " ++ decimal run ++ codes " " ++ decimal version ++ codes "\n"
 answer_line (Held holdings) = codes "held " ++ decimal (length holdings) ++ flat_map holding_text holdings ++ codes "\n"
+answer_line (Restarted run) = codes "run " ++ decimal run ++ codes "\n"
 answer_line (Refused fault) = refusal_line fault
 
 -- the answer lines of replies, one behind another

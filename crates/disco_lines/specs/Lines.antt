@@ -8,7 +8,7 @@ use Rattle.disco_values.specs.declared.fault.Fault.TheVariants.{BadEvent}
 use Rattle.disco_world.specs.declared.event.Event.{Event}
 use Rattle.disco_world.specs.declared.event.Event.TheVariants as event
 use Rattle.disco_world.specs.declared.event.Step.{Step}
-use Rattle.disco_world.specs.declared.event.Step.TheVariants.{Register, Cancel, Renew, SetStatus, DropStatus, Metadata, Clean, Minute, Expire, Begin, Copy, Publish, Show}
+use Rattle.disco_world.specs.declared.event.Step.TheVariants.{Register, Cancel, Renew, SetStatus, DropStatus, Metadata, Clean, Minute, Expire, Begin, Copy, Publish, Show, ShowCertified, Restart}
 use Rattle.disco_lines.specs.Loads.{load_of, look_for, wanted}
 use Rattle.disco_operations.specs.Query.{entries_of_query}
 use Rattle.disco_lines.specs.Words.{words, joined, only, only_text, only_moment, moment_of_word, client_of_word}
@@ -60,10 +60,20 @@ abbrev pub expiring : List (List ℕ) → Option Step
 expiring more = option_map (λ n. Expire n) (only_moment more)
 
 -- `CLIENT`
-abbrev pub showing : List (List ℕ) → Option Step
-showing more = option_map (λ c. Show c) (option_and_then client_of_word (only more))
+abbrev pub only_client : List (List ℕ) → Option ℕ
+only_client more = option_and_then client_of_word (only more)
 
--- what a keyword and the words behind it mean, if it isn't a take
+abbrev pub showing : List (List ℕ) → Option Step
+showing more = option_map (λ c. Show c) (only_client more)
+
+abbrev pub certified_showing : List (List ℕ) → Option Step
+certified_showing more = option_map (λ c. ShowCertified c) (only_client more)
+
+-- `RUN`
+abbrev pub restarting : List (List ℕ) → Option Step
+restarting more = option_map (λ r. Restart r) (only_moment more)
+
+-- what a keyword and the words behind it mean, if it gives no client a document
 abbrev pub step_named : List ℕ → List (List ℕ) → Option Step
 step_named keyword more =
     if bytes_eq keyword (codes "register") then registration more
@@ -75,16 +85,26 @@ step_named keyword more =
     else (if bytes_eq keyword (codes "publish") then alone Publish more
     else (if bytes_eq keyword (codes "load") then option_map load_of (wanted more)
     else (if bytes_eq keyword (codes "look") then option_map look_for (wanted more)
-    else (if bytes_eq keyword (codes "show") then showing more else step_of_instance keyword more)))))))))
+    else (if bytes_eq keyword (codes "show") then showing more
+    else (if bytes_eq keyword (codes "certshow") then certified_showing more
+    else (if bytes_eq keyword (codes "restart") then restarting more else step_of_instance keyword more)))))))))))
 
 -- `CLIENT EVENT`
+abbrev pub client_and_event : List (List ℕ) → Option (ℕ × ℕ)
+client_and_event (client ∷ more) = option_and_then (λ c. option_map (λ e. (c, e)) (only_moment more)) (client_of_word client)
+client_and_event [] = None
+
 abbrev pub taking : List (List ℕ) → Option Event
-taking (client ∷ more) = option_and_then (λ c. option_map (λ e. event.Take c e) (only_moment more)) (client_of_word client)
-taking [] = None
+taking more = option_map (λ given. event.Take given.0 given.1) (client_and_event more)
+
+abbrev pub certifying : List (List ℕ) → Option Event
+certifying more = option_map (λ given. event.Certify given.0 given.1) (client_and_event more)
 
 -- what a keyword and the words behind it mean
 abbrev pub event_named : List ℕ → List (List ℕ) → Option Event
-event_named keyword more = if bytes_eq keyword (codes "take") then taking more else option_map event.Step (step_named keyword more)
+event_named keyword more =
+    if bytes_eq keyword (codes "take") then taking more
+    else (if bytes_eq keyword (codes "certified") then certifying more else option_map event.Step (step_named keyword more))
 
 -- what the words of a line mean
 abbrev pub event_of_words : List (List ℕ) → Option Event

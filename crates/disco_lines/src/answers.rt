@@ -3,10 +3,10 @@ ghost use Rattle.std.specs.Prelude.{◌≡◌, ◌⊎◌, ◌++◌, [], IfErr, O
 ghost use Rattle.disco_values.specs.declared.fault.Fault.TheVariants.{OutOfMemory, WriteFailed};
 ghost use Rattle.std.specs.Io.KnownBytes.{Appends, append_known};
 ghost use Rattle.disco_reader.specs.Causes.{Cause, Raises};
-ghost use Rattle.disco_lines.specs.Answers.{answer_line, answer_lines, document_front, document_line, holding_text, refusal_line, yes_or_no};
+ghost use Rattle.disco_lines.specs.Answers.{answer_line, answer_lines, copy_or_keep, document_front, document_line, holding_text, refusal_line, yes_or_no};
 ghost use Rattle.std.specs.List.{flat_map};
 ghost use Rattle.disco_world.specs.declared.event.Reply.TheVariants as reply;
-ghost use Rattle.disco_world.specs.declared.event.Reply.TheVariants.{Taken, Held};
+ghost use Rattle.disco_world.specs.declared.event.Reply.TheVariants.{Taken, Certified, Held};
 
 use disco_cache::Payload;
 use disco_hub::Expired;
@@ -62,6 +62,19 @@ fn write_taken<W: Write>(equal: bool, version: Option<u64>, out: &mut W) -> io::
         Some(version) => writeln!(out, "copy {equal} {version}"),
         None => writeln!(out, "copy {equal} -"),
     }
+}
+
+fn copy_or_keep(taken: bool) -> &'static str
+    ensures { result.now ≡ copy_or_keep taken }
+{
+    if taken { "copy" } else { "keep" }
+}
+
+fn write_certified<W: Write>(taken: bool, run: u64, version: u64, out: &mut W) -> io::Result<()>
+    ensures { OnOk result (Appends (W.contents out.old) (W.contents out.new) (answer_line (Certified taken run version))) }
+{
+    let word = copy_or_keep(taken);
+    writeln!(out, "{word} {run} {version}")
 }
 
 fn write_closed<W: Write>(minute: &Minute, out: &mut W) -> io::Result<()>
@@ -141,7 +154,13 @@ fn write_answer<W: Write>(reply: &Reply, out: &mut W) -> io::Result<()>
             hash_equal,
             version,
         } => write_taken(*hash_equal, *version, out),
+        Reply::Certified {
+            taken,
+            run,
+            version,
+        } => write_certified(*taken, *run, *version, out),
         Reply::Held(holdings) => write_held(holdings.as_slice(), out),
+        Reply::Restarted(run) => writeln!(out, "run {run}"),
         Reply::Refused(fault) => write_refusal(fault, out),
     }
 }

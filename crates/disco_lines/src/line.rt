@@ -1,7 +1,7 @@
 //! The event that a line means. `None` stands for a line that can't be read.
 ghost use Rattle.std.specs.Prelude.{◌≡◌, IfOk, IfErr, Some};
 ghost use Rattle.disco_values.specs.declared.fault.Fault.TheVariants.{OutOfMemory};
-ghost use Rattle.disco_lines.specs.Lines.{alone, event_named, event_of, metadata_change, override_removal, registration, showing, step_at, step_named, step_of_instance, taking};
+ghost use Rattle.disco_lines.specs.Lines.{alone, certifying, client_and_event, event_named, event_of, metadata_change, only_client, override_removal, registration, step_at, step_named, step_of_instance, taking};
 ghost use Rattle.disco_lines.specs.Words.{client_of_word, moment_of_word, only_moment, only_text};
 
 use crate::load::{load_of, look_for, wanted_of};
@@ -29,7 +29,9 @@ use std::alloc::Global;
 /// - `load FORM QUERY` and `look FORM QUERY`, where the form is `full` or `compact`, and the query
 ///   `apps`, `delta`, `app NAME`, `vip VIP`, `svip SVIP`, `one APP ID` or `id ID`;
 /// - `take CLIENT EVENT`, where the event is the number from 1 of the line that served a document;
-/// - `show CLIENT`.
+/// - `show CLIENT`;
+/// - `certified CLIENT EVENT` and `certshow CLIENT`, as `take` and `show`, of certified clients;
+/// - `restart RUN`.
 ///
 /// Refused only as `OutOfMemory`.
 pub(crate) fn event_of(alloc: Global, line: &[u8]) -> Result<Option<Event>, Fault>
@@ -52,11 +54,12 @@ fn event_named(alloc: Global, keyword: &str, words: Words) -> Result<Option<Even
 {
     match keyword {
         "take" => take_of(alloc, words),
+        "certified" => certify_of(alloc, words),
         _ => Ok(step_named(alloc, keyword, words)?.map(|step| Event::Step(step))),
     }
 }
 
-/// What a keyword and the words behind it mean, where it isn't a take.
+/// What a keyword and the words behind it mean, where it gives no client a document.
 fn step_named(alloc: Global, keyword: &str, words: Words) -> Result<Option<Step>, Fault>
     ensures value { IfOk result (λ found. found ≡ step_named keyword.now words.entry) }
     ensures memory { IfErr result (λ e. e ≡ OutOfMemory) }
@@ -71,7 +74,9 @@ fn step_named(alloc: Global, keyword: &str, words: Words) -> Result<Option<Step>
         "publish" => Ok(alone(Step::Publish, &words)),
         "load" => Ok(wanted_of(alloc, words)?.map(load_of)),
         "look" => Ok(wanted_of(alloc, words)?.map(look_for)),
-        "show" => show_of(alloc, words),
+        "show" => Ok(only_client(alloc, words)?.map(|client| Step::Show { client })),
+        "certshow" => Ok(only_client(alloc, words)?.map(|client| Step::ShowCertified { client })),
+        "restart" => Ok(only_moment(alloc, words)?.map(|run| Step::Restart { run })),
         _ => step_of_instance(alloc, keyword, words),
     }
 }
@@ -259,8 +264,9 @@ fn client_of_word(alloc: Global, word: &[u8]) -> Result<Option<u32>, Fault>
     }
 }
 
-fn take_of(alloc: Global, words: Words) -> Result<Option<Event>, Fault>
-    ensures value { IfOk result (λ found. found ≡ taking words.entry) }
+/// A client and the number of an event.
+fn client_and_event(alloc: Global, words: Words) -> Result<Option<(u32, u64)>, Fault>
+    ensures value { IfOk result (λ found. found ≡ client_and_event words.entry) }
     ensures memory { IfErr result (λ e. e ≡ OutOfMemory) }
 {
     let Some((client, words)) = words.split() else {
@@ -270,17 +276,38 @@ fn take_of(alloc: Global, words: Words) -> Result<Option<Event>, Fault>
         return Ok(None);
     };
     match only_moment(alloc, words)? {
-        Some(event) => Ok(Some(Event::Take { client, event })),
+        Some(event) => Ok(Some((client, event))),
         None => Ok(None),
     }
 }
 
-fn show_of(alloc: Global, words: Words) -> Result<Option<Step>, Fault>
-    ensures value { IfOk result (λ found. found ≡ showing words.entry) }
+fn take_of(alloc: Global, words: Words) -> Result<Option<Event>, Fault>
+    ensures value { IfOk result (λ found. found ≡ taking words.entry) }
+    ensures memory { IfErr result (λ e. e ≡ OutOfMemory) }
+{
+    match client_and_event(alloc, words)? {
+        Some((client, event)) => Ok(Some(Event::Take { client, event })),
+        None => Ok(None),
+    }
+}
+
+fn certify_of(alloc: Global, words: Words) -> Result<Option<Event>, Fault>
+    ensures value { IfOk result (λ found. found ≡ certifying words.entry) }
+    ensures memory { IfErr result (λ e. e ≡ OutOfMemory) }
+{
+    match client_and_event(alloc, words)? {
+        Some((client, event)) => Ok(Some(Event::Certify { client, event })),
+        None => Ok(None),
+    }
+}
+
+/// A client, where no word stands behind it.
+fn only_client(alloc: Global, words: Words) -> Result<Option<u32>, Fault>
+    ensures value { IfOk result (λ found. found ≡ only_client words.entry) }
     ensures memory { IfErr result (λ e. e ≡ OutOfMemory) }
 {
     match words.only() {
-        Some(client) => Ok(client_of_word(alloc, client)?.map(|client| Step::Show { client })),
+        Some(client) => client_of_word(alloc, client),
         None => Ok(None),
     }
 }
