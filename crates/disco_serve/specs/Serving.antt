@@ -11,9 +11,9 @@ use Rattle.disco_serve.specs.declared.service.Service.{Service}
 abbrev pub port_in : List Row → ℕ
 port_in rows = within 65535 1 (number_given (codes "port") rows)
 
--- the settings, the port, the workers (4 where none are given) and the connections (0, which is no end) are those given
-pub record IsGiven (rows : List Row) (s : Service) : Type 0 where
-  pub settings : AreGiven rows s.settings
+-- the settings, of which the run is this one where none is given, the port, the workers (4 where none are given) and the connections (0, which is no end) are those given
+pub record IsGiven (run : ℕ) (rows : List Row) (s : Service) : Type 0 where
+  pub settings : AreGiven run rows s.settings
   pub port : s.port ≡ port_in rows
   pub workers : s.workers ≡ within 64 4 (number_given (codes "workers") rows)
   pub connections : s.connections ≡ unwrap_or (number_given (codes "connections") rows) 0

@@ -18,22 +18,21 @@ use disco_options::{Verb, count, number_given, read_words, refused, report, sett
 use disco_press::{Desk, Opening, Seat, open};
 use disco_server::{Open, listen, start};
 use disco_streams::{Failed, Sink, write_all};
-use disco_timers::{SystemClock, timers};
+use disco_timers::{Clock, SystemClock, timers};
 use disco_values::Fault;
 use std::alloc::Global;
-use std::io;
 use std::net::{Net, TcpListener, TcpStream};
-use std::rt::Clock;
 use std::sync::atomic::{AtomicBool, Ordering};
 use std::sync::{Mutex, Wait};
 use std::thread::{Threads, join};
+use std::{io, rt};
 
-/// What the words of `serve` name.
-fn service_from(matches: &ArgMatches<'_>) -> Service
-    ensures { IsGiven (rows_of (found_of matches.now)) result }
+/// What the words of `serve` name; the run is `run` where they name none.
+fn service_from(matches: &ArgMatches<'_>, run: u64) -> Service
+    ensures { IsGiven run (rows_of (found_of matches.now)) result }
 {
     Service {
-        settings: settings_from(matches),
+        settings: settings_from(matches, run),
         port: count(matches, "port", 65_535, 1) as u16,
         workers: count(matches, "workers", 64, 4) as usize,
         connections: number_given(matches, "connections").unwrap_or(0),
@@ -50,7 +49,7 @@ fn run<J: Naming + Send + Sync, R>(
     seats: Vec<Seat<J>>,
 ) -> Result<(), Fault>
 where
-    R: Threads + Wait + Clock + Sync,
+    R: Threads + Wait + rt::Clock + Sync,
 {
     let limits = Limits::of_server();
     let stop = AtomicBool::new(false);
@@ -102,7 +101,7 @@ fn open_and_serve<J: Naming + Send + Sync, R, W: Sink>(
     out: &mut W,
 ) -> Result<(), Fault>
 where
-    R: Threads + Wait + Clock + Sync,
+    R: Threads + Wait + rt::Clock + Sync,
     requires opening { Opens J.list J.name J.parts opening }
     ensures said { OnOk result (Appends (W.contents out.old) (W.contents out.new) (listening_line service.now.port)) }
 {
@@ -143,7 +142,8 @@ fn unheard<E: Sink>(alloc: Global, port: u16, error: &io::Error, errors: &mut E)
 /// Runs the command `serve` on the words behind the program's name, and gives the exit status.
 ///
 /// It listens on a port of 127.0.0.1, writes `listening 127.0.0.1:PORT` to `out`, and serves
-/// connections until so many have ended, which is never where none are named. The status is 0
+/// connections until so many have ended, which is never where none are named. Where the words name
+/// no run, it is the moment at which `serve` is called, in milliseconds since 1970. The status is 0
 /// then, and where help was asked for. It is 2 for words that are refused, with a message on
 /// `errors`. Else it is 1, with the line `discovery: fault N` on
 /// `errors`, and in front of it why where the host refuses the port.
@@ -156,15 +156,17 @@ pub fn serve<J: Naming + Send + Sync, R, W: Sink, E: Sink>(
     words: &[String],
 ) -> u8
 where
-    R: Net<Listener = TcpListener, Stream = TcpStream> + Threads + Wait + Clock + Sync,
+    R: Net<Listener = TcpListener, Stream = TcpStream> + Threads + Wait + rt::Clock + Sync,
     requires opening { Opens J.list J.name J.parts opening }
     ensures ends { EndsBy E.contents E.failed (faults_of Verb.Serve (map string_bytes words.now)) result out.old out.new errors.old errors.new }
     // Words with no fault are `serve` with options: 0 says that the line which these ask for was written.
     ensures listening { faults_of Verb.Serve (map string_bytes words.now) ≡ [] → result ≡ 0
         → SaysListening (map string_bytes words.now) (W.contents out.old) (W.contents out.new) }
 {
+    let mut clock = SystemClock::new(rt);
+    let run = clock.now();
     let service = match read_words(alloc, Verb::Serve, words) {
-        Ok(matches) => service_from(&matches),
+        Ok(matches) => service_from(&matches, run),
         Err(error) => return refused(alloc, &error, out, errors),
     };
     let listener = match listen(rt, service.port) {
