@@ -1,29 +1,33 @@
 //! The settings of a row.
 use disco_digits::number_of_digits;
-use disco_settings::{MOST_INSTANCES, Settings};
+use disco_settings::{MOST_INSTANCES, MOST_QUEUE, Settings};
 use std::io;
 use std::io::ErrorKind;
 
-/// What is chosen by a line more: `no-delta`, `versions N` or `instances N`.
+/// What is chosen by a number more: that of `run`, `versions`, `instances` or `queue`.
+fn with_number(mut chosen: Settings, name: &str, number: u64) -> Option<Settings> {
+    if name == "run" {
+        chosen.run = number;
+    } else if name == "versions" && number > 0 {
+        chosen.versions = number;
+    } else if name == "instances" && number > 0 && number <= MOST_INSTANCES {
+        chosen.instances = number;
+    } else if name == "queue" && number > 0 && number <= MOST_QUEUE {
+        chosen.queue = number;
+    } else {
+        return None;
+    }
+    Some(chosen)
+}
+
+/// What is chosen by a line more: `no-delta`, or a name and its number.
 fn with_line(mut chosen: Settings, line: &str) -> Option<Settings> {
     if line == "no-delta" {
         chosen.delta = false;
         return Some(chosen);
     }
-    if let Some(word) = line.strip_prefix("versions ") {
-        let versions = number_of_digits(word)?;
-        if versions == 0 {
-            return None;
-        }
-        chosen.versions = versions;
-        return Some(chosen);
-    }
-    let instances = number_of_digits(line.strip_prefix("instances ")?)?;
-    if instances == 0 || instances > MOST_INSTANCES {
-        return None;
-    }
-    chosen.instances = instances;
-    Some(chosen)
+    let (name, digits) = line.split_once(' ')?;
+    with_number(chosen, name, number_of_digits(digits)?)
 }
 
 /// The settings that the lines of a text give.
