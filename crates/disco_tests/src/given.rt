@@ -19,7 +19,7 @@ pub(crate) fn strings(alloc: Global, words: &[&str]) -> Result<Vec<String>, Allo
 /// The settings of a command line without options.
 pub(crate) fn defaults(alloc: Global) -> Result<Settings, Fault> {
     let words = strings(alloc, &["replay"])?;
-    match settings_of(alloc, words.as_slice()) {
+    match settings_of(alloc, words.as_slice(), 0) {
         Ok(settings) => Ok(settings),
         Err(_) => Err(Fault::OutOfMemory),
     }
