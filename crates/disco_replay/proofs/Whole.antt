@@ -26,7 +26,7 @@ none_bad known events read input bad e line =
     not_bad events input bad (read.2 ∙ ap meanings same) line
 
 -- a run of events is refused for want of memory, or for an event that can't be run
-pub run_fault : (settings : Settings) (known : Option (List ℕ)) (reads writes : Type 0) (events : List Event) → AreRead known events → (e : Fault) → (e ≢ OutOfMemory → IsFirstBadEvent (rules settings) events e) → IsRunFault settings known reads writes e
+pub run_fault : (settings : Settings) (known : Option (List ℕ)) (reads writes : Type 0) (events : List Event) → AreRead known events → (e : Fault) → (e ≢ OutOfMemory → IsFirstBadEvent (rules settings) settings.run events e) → IsRunFault settings known reads writes e
 run_fault settings known reads writes events read OutOfMemory refused = inl refl
 run_fault settings known reads writes events read other refused = inr (inr (inr (inr (events, read, refused (λ bad. cc)))))
 

@@ -15,7 +15,7 @@ use Rattle.disco_options.specs.declared.verb.Verb.TheVariants.{Replay}
 
 -- the fault names the first event of the whole input that can't be run
 abbrev pub NamesBadEvent : Settings → Option (List ℕ) → Fault → Type 0
-NamesBadEvent settings known fault = (events : List Event) × AreRead known events × IsFirstBadEvent (rules settings) events fault
+NamesBadEvent settings known fault = (events : List Event) × AreRead known events × IsFirstBadEvent (rules settings) settings.run events fault
 
 -- why events may get no answers, or not all: want of memory, a failed read or write, of which there has to be a sign, or an input that can't be run
 abbrev pub IsRunFault : Settings → Option (List ℕ) → Type 0 → Type 0 → Fault → Type 0
@@ -26,7 +26,7 @@ IsRunFault settings known reads writes fault =
 pub record IsAnswered (settings : Settings) (known old new : Option (List ℕ)) : Type 0 where
   pub events : List Event
   pub read : AreRead known events
-  pub answered : AreTold settings.entries (rules settings) events answer_line old new
+  pub answered : AreTold settings.entries (rules settings) settings.run events answer_line old new
 
 -- the words are `replay` and options, and the input is answered with the settings that these name
 abbrev pub IsReplayed : List Text → Option (List ℕ) → Option (List ℕ) → Option (List ℕ) → Type 0

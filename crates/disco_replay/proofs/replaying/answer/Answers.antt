@@ -31,6 +31,8 @@ returns-clause-answered g c = then_ok c.write_answers.result _ _ (λ written. re
     served = rw c.as_slice-2.ensures.value at c.in_ok-replies.ensures.served;
     cached = rw c.as_slice-2.ensures.value at c.in_ok-replies.ensures.cached;
     known = rw c.as_slice-2.ensures.value at c.in_ok-replies.ensures.known;
+    exact = rw c.as_slice-2.ensures.value at c.in_ok-replies.ensures.exact;
+    rising = rw c.as_slice-2.ensures.value at c.in_ok-replies.ensures.rising;
     told = rw c.as_slice-3.ensures.value at written;
   };
 }) c.write_answers.ensures.written
