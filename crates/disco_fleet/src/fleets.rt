@@ -1,162 +1,127 @@
 //! The command `fleet`.
-ghost use Rattle.std.specs.Prelude.{map, string_bytes};
+ghost use Rattle.std.specs.Prelude.{◌≡◌, ◌+◌, false, IfSome, map, string_bytes};
 ghost use Rattle.clap.specs.Words.{found_of, rows_of};
-ghost use Rattle.disco_fleet.specs.Fleets.{IsGiven};
+ghost use Rattle.disco_fleet.specs.Fleets.{IsGiven, faults_of_fleet, faults_of_restart, is_last};
 ghost use Rattle.disco_options.specs.Ending.{EndsBy};
-ghost use Rattle.disco_options.specs.Options.{faults_of};
-ghost use Rattle.disco_press.specs.Openings.{Opens};
 
 mod comparing;
 mod following;
+mod line;
 mod plan;
 mod registering;
 mod rounds;
+mod running;
 mod showing;
 
 use clap::ArgMatches;
-use disco_editions::Naming;
-use disco_message::Limits;
-use disco_options::{Verb, count, read_words, refused, report, settings_from};
-use disco_press::{Desk, Opening, Seat, open};
-use disco_server::{Open, listen, start};
-use disco_settings::MOST_INSTANCES;
-use disco_streams::Sink;
-use disco_timers::SystemClock;
+use disco_options::{Verb, count, flag_given, read_words, refused, report, settings_from};
+use disco_press::Opening;
+use disco_settings::{MOST_INSTANCES, Settings};
+use disco_streams::{Sink, write_all};
 use disco_values::Fault;
-use following::{Follower, connect_all, refresh_all};
+use following::followers;
 use plan::Plan;
-use registering::register_all;
-use rounds::{publish_round, publish_rounds};
+use running::{Turn, run};
 pub use showing::lines_of;
-use showing::show;
 use std::alloc::Global;
+use std::marker::Brand;
 use std::net::{Net, TcpListener, TcpStream};
 use std::rt::Clock;
-use std::sync::{Mutex, Wait};
-use std::thread::{Threads, join};
-
-/// How often each client refreshes while instances are registered.
-const REFRESHES: u64 = 5;
-
-/// How many rounds are published while instances are registered.
-const ROUNDS: u64 = 3;
+use std::sync::Wait;
+use std::thread::Threads;
 
 /// What the words of `fleet` name.
 fn plan_from(matches: &ArgMatches<'_>) -> Plan
     ensures { IsGiven (rows_of (found_of matches.now)) result }
 {
     Plan {
-        settings: settings_from(matches),
+        settings: settings_from(matches, 0),
         writers: count(matches, "writers", 64, 1),
         clients: count(matches, "clients", 64, 1),
         instances: count(matches, "instances", MOST_INSTANCES, 1),
+        certified: flag_given(matches, "certified"),
+        restart: flag_given(matches, "restart"),
     }
 }
 
-/// Instances are registered, rounds are published and clients refresh, all at once. Gives the
-/// clients back.
-fn begin<J: Naming + Send + Sync, R>(
-    rt: &R,
-    alloc: Global,
-    plan: &Plan,
-    desk: &Mutex<Desk<J>>,
-    clients: Vec<Follower>,
-) -> Result<Vec<Follower>, Fault>
-where
-    R: Threads + Wait + Clock + Sync,
+/// The settings of the next run, if a restart is asked for.
+fn restarted(plan: &Plan) -> Option<Settings>
+    requires { is_last plan.now.restart plan.now.settings.run ≡ false }
+    ensures { IfSome result (λ s. s.run ≡ plan.now.settings.run + 1) }
 {
-    let (registered, (published, clients)) = join(
-        rt,
-        move || register_all(rt, alloc, desk, plan.writers, plan.instances),
-        move || {
-            join(
-                rt,
-                move || publish_rounds(rt, desk, ROUNDS),
-                move || refresh_all(rt, clients, REFRESHES),
-            )
-        },
-    );
-    registered?;
-    published?;
-    clients
+    if !plan.restart {
+        return None;
+    }
+    let mut settings = plan.settings;
+    settings.run += 1;
+    Some(settings)
 }
 
-/// What the writers, the publisher and the clients do beside the server.
-fn work<J: Naming + Send + Sync, R, W: Sink>(
-    rt: &R,
-    alloc: Global,
-    plan: &Plan,
-    desk: &Mutex<Desk<J>>,
-    clients: Vec<Follower>,
-    out: &mut W,
-) -> Result<(), Fault>
-where
-    R: Threads + Wait + Clock + Sync,
-{
-    let clients = begin(rt, alloc, plan, desk, clients)?;
-    publish_round(rt, desk)?;
-    let clients = refresh_all(rt, clients, 1)?;
-    show(rt, alloc, desk, clients.as_slice(), out)
-}
-
-/// A server with a worker for each client, and beside it the work.
-fn run<J: Naming + Send + Sync, R, W: Sink>(
-    rt: &R,
-    alloc: Global,
-    plan: &Plan,
-    listener: TcpListener,
-    desk: &Mutex<Desk<J>>,
-    seats: Vec<Seat<J>>,
-    out: &mut W,
-) -> Result<(), Fault>
+/// Runs the server once, and for a restart once more, with the next run.
+fn run_all<R, W: Sink>(rt: &R, alloc: Global, plan: &Plan, out: &mut W) -> Result<(), Fault>
 where
     R: Net<Listener = TcpListener, Stream = TcpStream> + Threads + Wait + Clock + Sync,
+    requires { is_last plan.now.restart plan.now.settings.run ≡ false }
 {
-    let clients = connect_all(rt, alloc, &listener, plan.clients)?;
-    let limits = Limits::of_server();
-    let limits = &limits;
-    let (served, worked) = join(
+    let restarted = restarted(plan);
+    let clients = followers(alloc, plan)?;
+    let clients = run::<Brand, R, W>(
         rt,
-        move || {
-            start(
-                rt,
-                alloc,
-                listener,
-                desk,
-                seats,
-                limits,
-                plan.clients,
-                SystemClock::new(rt),
-                &Open,
-            )
-        },
-        move || work(rt, alloc, plan, desk, clients, out),
-    );
-    worked?;
-    served
+        alloc,
+        plan,
+        Turn::First,
+        &plan.settings,
+        Opening::new(),
+        clients,
+        out,
+    )?;
+    if let Some(settings) = restarted {
+        run::<Brand, R, W>(
+            rt,
+            alloc,
+            plan,
+            Turn::Again,
+            &settings,
+            Opening::new(),
+            clients,
+            out,
+        )?;
+    }
+    Ok(())
 }
 
-/// Listens, opens a desk, and runs all.
-fn listen_and_run<J: Naming + Send + Sync, R, W: Sink>(
+/// Says that there is no run to restart in, and gives the status. Nothing is left to try where that
+/// can't be written.
+fn refuse_restart<E: Sink>(errors: &mut E) -> u8
+    ensures { result ≡ 2 }
+{
+    let _ = write_all(
+        errors,
+        b"error: there is no run after 18446744073709551615 for '--restart'\n",
+    );
+    2
+}
+
+/// Does what a plan says, and gives the exit status. A restart in the last run that there is, is
+/// refused.
+fn carry_out<R, W: Sink, E: Sink>(
     rt: &R,
     alloc: Global,
     plan: &Plan,
-    opening: Opening,
     out: &mut W,
-) -> Result<(), Fault>
+    errors: &mut E,
+) -> u8
 where
     R: Net<Listener = TcpListener, Stream = TcpStream> + Threads + Wait + Clock + Sync,
-    requires opening { Opens J.list J.name J.parts opening }
+    ensures { EndsBy E.contents E.failed (faults_of_restart (is_last plan.now.restart plan.now.settings.run)) result out.old out.new errors.old errors.new }
 {
-    let Ok(listener) = listen(rt, 0) else {
-        return Err(Fault::ReadFailed);
-    };
-    let seats = plan.clients as usize;
-    let (desk, seats) = open::<J, R>(rt, alloc, &plan.settings, seats, opening)?;
-    let desk = Mutex::new(desk);
-    let done = run(rt, alloc, plan, listener, &desk, seats, out);
-    desk.into_inner().close(rt);
-    done
+    if plan.restart && plan.settings.run == u64::MAX {
+        return refuse_restart(errors);
+    }
+    match run_all(rt, alloc, plan, out) {
+        Ok(()) => 0,
+        Err(fault) => report(&fault, errors),
+    }
 }
 
 /// Runs the command `fleet` on the words behind the program's name, and gives the exit status.
@@ -164,28 +129,29 @@ where
 /// A server with a worker for each client listens on a free port of 127.0.0.1. While writers
 /// register the instances, each client refreshes five times and three rounds are published. After
 /// one more round and one more refresh it writes `fleet N HASH` to `out`, and of each client
-/// whether its copy has exactly the registry's records: `client I yes` or `client I no`. The status
-/// is 0 then, and where help was asked for. It is 2 for words that are refused, with a message on
-/// `errors`. Else it is 1, with the line `discovery: fault N` on `errors`.
-pub fn fleet<J: Naming + Send + Sync, R, W: Sink, E: Sink>(
+/// whether its copy has exactly the registry's records: `client I yes` or `client I no`. With
+/// `--certified` the clients go by certificates.
+///
+/// With `--restart` the server then ends, and another one begins with the next run and no instances.
+/// Each client keeps its copy and goes on over a new connection. The writers register all instances
+/// again, one round is published, each client refreshes once, and the same lines are written.
+///
+/// The status is 0 then, and where help was asked for. It is 2 for words that are refused, and for
+/// `--restart` in the last run, 2^64 - 1, with a message on `errors`. Else it is 1, with the line
+/// `discovery: fault N` on `errors`.
+pub fn fleet<R, W: Sink, E: Sink>(
     rt: &R,
     alloc: Global,
-    opening: Opening,
     out: &mut W,
     errors: &mut E,
     words: &[String],
 ) -> u8
 where
     R: Net<Listener = TcpListener, Stream = TcpStream> + Threads + Wait + Clock + Sync,
-    requires opening { Opens J.list J.name J.parts opening }
-    ensures { EndsBy E.contents E.failed (faults_of Verb.Fleet (map string_bytes words.now)) result out.old out.new errors.old errors.new }
+    ensures { EndsBy E.contents E.failed (faults_of_fleet (map string_bytes words.now)) result out.old out.new errors.old errors.new }
 {
-    let plan = match read_words(alloc, Verb::Fleet, words) {
-        Ok(matches) => plan_from(&matches),
-        Err(error) => return refused(alloc, &error, out, errors),
-    };
-    match listen_and_run::<J, R, W>(rt, alloc, &plan, opening, out) {
-        Ok(()) => 0,
-        Err(fault) => report(&fault, errors),
+    match read_words(alloc, Verb::Fleet, words) {
+        Ok(matches) => carry_out(rt, alloc, &plan_from(&matches), out, errors),
+        Err(error) => refused(alloc, &error, out, errors),
     }
 }

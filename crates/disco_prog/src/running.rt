@@ -1,5 +1,6 @@
 //! The program.
 ghost use Rattle.std.specs.Prelude.{◌≡◌, [], map, string_bytes};
+ghost use Rattle.disco_fleet.specs.Fleets.{faults_of_running};
 ghost use Rattle.disco_options.specs.Ending.{EndsBy};
 ghost use Rattle.disco_options.specs.Faults.{Says};
 ghost use Rattle.disco_options.specs.Options.{faults_of, verb_of};
@@ -37,7 +38,7 @@ pub fn run<J: Naming + Send + Sync, R, I: Source, W: Sink, E: Sink>(
 where
     R: Net<Listener = TcpListener, Stream = TcpStream> + Threads + Wait + Clock + Sync,
     requires opening { Opens J.list J.name J.parts opening }
-    ensures ends { EndsBy E.contents E.failed (faults_of (verb_of (map string_bytes words.now)) (map string_bytes words.now)) result out.old out.new errors.old errors.new }
+    ensures ends { EndsBy E.contents E.failed (faults_of_running (verb_of (map string_bytes words.now)) (map string_bytes words.now)) result out.old out.new errors.old errors.new }
 
     // `replay` with status 0 has answered all events of the input, and with 1 has told why it hasn't.
     ensures replayed { verb_of (map string_bytes words.now) ≡ Replay → faults_of Replay (map string_bytes words.now) ≡ [] → result ≡ 0
@@ -55,6 +56,6 @@ where
     match Verb::of(words) {
         Verb::Replay => replay(alloc, input, out, errors, words),
         Verb::Serve => serve::<J, R, W, E>(rt, alloc, opening, out, errors, words),
-        Verb::Fleet => fleet::<J, R, W, E>(rt, alloc, opening, out, errors, words),
+        Verb::Fleet => fleet(rt, alloc, out, errors, words),
     }
 }

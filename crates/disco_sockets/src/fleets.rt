@@ -33,6 +33,7 @@ impl Fetch for Always {
         Ok(Fetched {
             status: 200,
             body: Bytes::from_vec(self.document.as_bytes().to_vec(self.alloc)?),
+            cert: None,
         })
     }
 

@@ -1,10 +1,12 @@
 //! Clients that keep a copy over connections of their own.
+use crate::fleets::line::{Connected, Line};
+use crate::fleets::plan::Plan;
 use disco_http::Writer;
 use disco_message::Limits;
 use disco_reader::{Counted, Reader};
 use disco_reconcile::{Client, HttpFetch};
 use disco_values::{Fault, Form};
-use std::alloc::Global;
+use std::alloc::{AllocError, Global};
 use std::io;
 use std::net::{Net, SocketAddr, TcpListener, TcpStream};
 use std::thread::{Threads, map_vec};
@@ -13,8 +15,26 @@ use std::time::Duration;
 /// How long a client waits for bytes of a reply, in seconds.
 const PATIENCE: u64 = 60;
 
-/// A client over a connection.
-pub(super) type Follower = Client<HttpFetch<Counted<TcpStream>, Counted<TcpStream>>>;
+/// A client over a line.
+pub(super) type Follower = Client<Line>;
+
+/// One client, without a copy and without a connection.
+fn follower(alloc: Global, certified: bool) -> Follower {
+    if certified {
+        Client::certified(alloc, Line::new(), Form::Full)
+    } else {
+        Client::new(alloc, Line::new(), Form::Full)
+    }
+}
+
+/// The clients, none of which has a copy or a connection.
+pub(super) fn followers(alloc: Global, plan: &Plan) -> Result<Vec<Follower>, AllocError> {
+    let mut clients = Vec::new(alloc);
+    for _ in 0..plan.clients {
+        clients.push(follower(alloc, plan.certified))?;
+    }
+    Ok(clients)
+}
 
 /// A connection to that address, and once more the same.
 fn connect<N: Net<Stream = TcpStream>>(
@@ -28,36 +48,53 @@ fn connect<N: Net<Stream = TcpStream>>(
     Ok((stream, other))
 }
 
-/// One client, without a copy.
-fn follower<N: Net<Stream = TcpStream>>(
+/// Fetches over a new connection to that address.
+fn connected<N: Net<Stream = TcpStream>>(
     rt: &N,
     alloc: Global,
     address: SocketAddr,
-) -> Result<Follower, Fault> {
+) -> Result<Connected, Fault> {
     let Ok((source, sink)) = connect(rt, address) else {
         return Err(Fault::ReadFailed);
     };
     let reader = Reader::new(alloc, Counted::new(source), Limits::of_client())?;
     let writer = Writer::new(alloc, Counted::new(sink))?;
-    let fetch = HttpFetch::new(alloc, reader, writer);
-    Ok(Client::new(alloc, fetch, Form::Full))
+    Ok(HttpFetch::new(alloc, reader, writer))
 }
 
-/// So many clients, each connected to a listener.
+/// A client goes on over a connection.
+fn go_on(client: &mut Follower, connected: Connected) {
+    let line = client.replace_fetcher(Line::new());
+    client.replace_fetcher(line.over(connected));
+}
+
+/// A client ends its connection.
+fn hang_up(client: &mut Follower) {
+    let line = client.replace_fetcher(Line::new());
+    client.replace_fetcher(line.hung_up());
+}
+
+/// Each client goes on over a connection to a listener.
 pub(super) fn connect_all<N: Net<Stream = TcpStream>>(
     rt: &N,
     alloc: Global,
     listener: &TcpListener,
-    count: u64,
-) -> Result<Vec<Follower>, Fault> {
+    clients: &mut [Follower],
+) -> Result<(), Fault> {
     let Ok(address) = listener.local_addr() else {
         return Err(Fault::ReadFailed);
     };
-    let mut clients = Vec::new(alloc);
-    for _ in 0..count {
-        clients.push(follower(rt, alloc, address)?)?;
+    for client in clients.iter_mut() {
+        go_on(client, connected(rt, alloc, address)?);
     }
-    Ok(clients)
+    Ok(())
+}
+
+/// Each client ends its connection: a server ends only after that.
+pub(super) fn hang_up_all(clients: &mut [Follower]) {
+    for client in clients.iter_mut() {
+        hang_up(client);
+    }
 }
 
 /// Refreshes so often. What is refused leaves the copy to the next refresh.

@@ -10,6 +10,10 @@ pub(super) struct Plan {
     pub(super) writers: u64,
     pub(super) clients: u64,
     pub(super) instances: u64,
+    /// Whether the clients go by certificates.
+    pub(super) certified: bool,
+    /// Whether the server begins anew when all is shown.
+    pub(super) restart: bool,
     pub(super) ghost some_writers: { 0 < writers },
     pub(super) ghost some_clients: { 0 < clients },
     pub(super) ghost few_clients: { clients ≤ 64 },
