@@ -13,30 +13,36 @@ made k run base version text = record { key = k; run = run; base = base; version
 
 -- a document of held records, written now
 pub held_true : (k : DocKey) (run v : ℕ) (text : List ℕ) (p : Payload) (h : List Entry) → is_delta k.query ≡ false → v ≡ length h → IsWritten k.form k.query h (length h) (Some text) → p ≡ made k run v v text → IsTrue run p h
-held_true k run v text p h held now written is = subst (λ q. IsTrue run q h) (sym is) (refl, record {
-  written = written.1 ∙ (λ i. text_for k.query k.form h (sym now i) (sym now i));
-  means = record {
-    meaning = written.2 ∙ (λ i. Ok (meaning_for k.query k.form h (sym now i) (sym now i)));
-    there = written.0;
-    start = omega arith;
-    whole = λ held. refl;
-    past = omega (arith, now);
-    now = λ kept. now;
-    same = ap (λ x. meaning_for k.query k.form x v v) (ap (front h) now ∙ take-length h);
-  };
-})
+held_true k run v text p h held now written is = subst (λ q. IsTrue run q h) (sym is) (
+  refl,
+  record {
+    written = written.1 ∙ (λ i. text_for k.query k.form h (sym now i) (sym now i));
+    means = record {
+      meaning = written.2 ∙ (λ i. Ok (meaning_for k.query k.form h (sym now i) (sym now i)));
+      there = written.0;
+      start = omega arith;
+      whole = λ held. refl;
+      past = omega (arith, now);
+      now = λ kept. now;
+      same = ap (λ x. meaning_for k.query k.form x v v) (ap (front h) now ∙ take-length h);
+    };
+  },
+)
 
 -- a delta, written now
 pub delta_true : (k : DocKey) (run base v : ℕ) (text : List ℕ) (p : Payload) (h : List Entry) → is_delta k.query ≡ true → base ≤ v → v ≡ length h → IsWritten k.form k.query h base (Some text) → p ≡ made k run base v text → IsTrue run p h
-delta_true k run base v text p h delta start now written is = subst (λ q. IsTrue run q h) (sym is) (refl, record {
-  written = written.1 ∙ (λ i. text_for k.query k.form h base (sym now i));
-  means = record {
-    meaning = written.2 ∙ (λ i. Ok (meaning_for k.query k.form h base (sym now i)));
-    there = written.0;
-    start = start;
-    whole = λ held. absurd (cc);
-    past = omega (arith, now);
-    now = λ kept. now;
-    same = ap (λ x. meaning_for k.query k.form x base v) (ap (front h) now ∙ take-length h);
-  };
-})
+delta_true k run base v text p h delta start now written is = subst (λ q. IsTrue run q h) (sym is) (
+  refl,
+  record {
+    written = written.1 ∙ (λ i. text_for k.query k.form h base (sym now i));
+    means = record {
+      meaning = written.2 ∙ (λ i. Ok (meaning_for k.query k.form h base (sym now i)));
+      there = written.0;
+      start = start;
+      whole = λ held. absurd (cc);
+      past = omega (arith, now);
+      now = λ kept. now;
+      same = ap (λ x. meaning_for k.query k.form x base v) (ap (front h) now ∙ take-length h);
+    };
+  },
+)

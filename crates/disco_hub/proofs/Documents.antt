@@ -161,8 +161,11 @@ module _ (on : Bool) (p q : Past) (c : Entry) (old new : Docs) (forgets : Forget
     served_on =
         let may = kept.served k d before.1 in
         let key = kept.keys k d before.1 in record {
-          true_now = (may.true_now.0 ∙ sym run, subst (λ h. IsTrueFor d.key.query d.text d.base d.version d.key.form h) (sym same)
-              (stays_true on d.key.query d.text d.base d.version d.key.form (history p) c unnamed (ap (λ (x : DocKey). is_cached on x.query) key.0 ∙ key.1) may.true_now.1));
+          true_now = (
+            may.true_now.0 ∙ sym run,
+            subst (λ h. IsTrueFor d.key.query d.text d.base d.version d.key.form h) (sym same)
+                (stays_true on d.key.query d.text d.base d.version d.key.form (history p) c unnamed (ap (λ (x : DocKey). is_cached on x.query) key.0 ∙ key.1) may.true_now.1),
+          );
           start = λ of_delta. omega (arith, may.start of_delta, le);
         }
 
