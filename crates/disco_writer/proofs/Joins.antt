@@ -11,7 +11,9 @@ use Rattle.serde_json.specs.Written.{compact_text, items_text}
 use Rattle.serde_json.specs.View.{items_of}
 use Rattle.disco_values.specs.declared.form.Form.{Form}
 use Rattle.disco_history.specs.Change.{Entry}
-use Rattle.disco_writer.specs.Joined.{text_in, shown, Shown, AreTextsOf, IsTextOf, in_apps, in_commas, before_next, app_open, app_close, many_open, many_close, many_joined, app_joined, one_joined}
+use Rattle.disco_history.specs.Mentions.{mention_of}
+use Rattle.disco_writer.specs.Kept.{IsTextOf}
+use Rattle.disco_writer.specs.Joined.{text_in, shown, Shown, AreTextsOf, in_apps, in_commas, before_next, app_open, app_close, many_open, many_close, many_joined, app_joined, one_joined}
 use Rattle.disco_wire.specs.Documents.{document_of}
 use Rattle.disco_wire.specs.Meaning.{meant}
 use Rattle.disco_wire.specs.declared.wire.Shape.TheVariants.{Many, App, One}
@@ -243,7 +245,7 @@ app_holds form name ps es all is =
           (app_law form name es rows),
     )
 
-pub one_holds : (form : Form) (text : List ℕ) (e : Entry) → IsTextOf form text e
+pub one_holds : (form : Form) (text : List ℕ) (e : Entry) → IsTextOf form text (mention_of e)
     → (one_joined text ≡ compact_text (instance_document form (e ∷ []))) × (document_of (one_joined text) ≡ Ok (meant One None None (mentions_in form (e ∷ []))))
 one_holds form text e is =
     let same = ap one_joined is.all ∙ one_is form e in (

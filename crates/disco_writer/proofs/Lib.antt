@@ -1,7 +1,12 @@
 mod Adding
 mod Joins
+pub mod KeptLaws
 pub mod Metadata
 mod Plain
 mod Pushes
 mod Readable
+mod Steps
+mod Told
+mod Trees
+mod Walk
 mod Written

@@ -130,10 +130,10 @@ pub instance_again : (f : Form) (e : Entry) → IsWellFormed e.0 → IsReadable 
 unfolding instance_tree
 instance_again Full e is =
     let r = e.0 in
-    tree_again (full_fields e) refl (string_again _, (string_again _, (whole_again r.country_id (omega (arith, is.country)), (center_again r.data_center, (string_again _, (string_again _, (string_again _, (string_again _, (string_again _, (string_again _, (string_again _, (string_again _, (lease_tree_again r.lease is.duration is.renewal_interval is.eviction is.last_renewal is.registration is.service_up, (metadata_again r.metadata is.metadata, (string_again _, (port_again r.port is.port, (port_again r.secure_port is.secure_port, (string_again _, (string_again _, (string_again _, (string_again _, tt)))))))))))))))))))))
+    tree_again (full_fields r (Some e.1)) refl (string_again _, (string_again _, (whole_again r.country_id (omega (arith, is.country)), (center_again r.data_center, (string_again _, (string_again _, (string_again _, (string_again _, (string_again _, (string_again _, (string_again _, (string_again _, (lease_tree_again r.lease is.duration is.renewal_interval is.eviction is.last_renewal is.registration is.service_up, (metadata_again r.metadata is.metadata, (string_again _, (port_again r.port is.port, (port_again r.secure_port is.secure_port, (string_again _, (string_again _, (string_again _, (string_again _, tt)))))))))))))))))))))
 instance_again Compact e is =
     let r = e.0 in
-    tree_again (compact_fields e) refl (string_again _, (string_again _, (center_again r.data_center, (string_again _, (string_again _, (string_again _, (string_again _, (string_again _, (string_again _, (port_again r.port is.port, (port_again r.secure_port is.secure_port, (string_again _, (string_again _, (string_again _, tt))))))))))))))
+    tree_again (compact_fields r (Some e.1)) refl (string_again _, (string_again _, (center_again r.data_center, (string_again _, (string_again _, (string_again _, (string_again _, (string_again _, (string_again _, (port_again r.port is.port, (port_again r.secure_port is.secure_port, (string_again _, (string_again _, (string_again _, tt))))))))))))))
 
 instances_again : (f : Form) (es : List Entry) → AreWellFormed es → AreItemsReadable (map (instance_tree f) es)
 instances_again f [] all = tt

@@ -1,5 +1,5 @@
 -- The members of an instance in the groups in which they are written. Nothing here need be believed.
-use Rattle.std.specs.Prelude.{ℕ, List, [], ◌∷◌, ◌++◌, map, codes}
+use Rattle.std.specs.Prelude.{ℕ, List, [], ◌∷◌, ◌++◌, map, codes, Option, Some, None}
 use Rattle.serde_json.specs.Data.{Data, string}
 use Rattle.disco_values.specs.Action.{action_name}
 use Rattle.disco_instance.specs.Row.{Row}
@@ -7,7 +7,7 @@ use Rattle.disco_values.specs.Status.{status_name}
 use Rattle.disco_instance.specs.declared.data_center.DataCenter.{DataCenter}
 use Rattle.disco_instance.specs.declared.lease.Lease.{Lease}
 use Rattle.disco_instance.specs.declared.port.Port.{Port}
-use Rattle.disco_history.specs.Change.{Entry}
+use Rattle.disco_values.specs.declared.action.Action.{Action}
 use Rattle.disco_documents.specs.Trees.{truth, whole, digits_text, port_tree, data_center_tree, lease_tree, metadata_tree}
 
 abbrev pub Fields : Type 0
@@ -28,8 +28,13 @@ entry_fields es = map (λ e. (e.0, string e.1)) es
 
 -- ---- groups of both forms
 
-abbrev pub first_fields : Entry → Fields
-first_fields e = (codes "actionType", string (action_name e.1)) ∷ (codes "app", string e.0.key.app) ∷ []
+-- what was done, where it is said
+abbrev pub done_fields : Option Action → Fields
+done_fields None = []
+done_fields (Some a) = (codes "actionType", string (action_name a)) ∷ []
+
+abbrev pub app_field : Row → Fields
+app_field r = (codes "app", string r.key.app) ∷ []
 
 abbrev pub center_field : Row → Fields
 center_field r = (codes "dataCenterInfo", data_center_tree r.data_center) ∷ []
@@ -49,8 +54,8 @@ vip_field r = (codes "vipAddress", string r.vip_address) ∷ []
 
 -- ---- the full form
 
-abbrev pub to_urls : Entry → Fields
-to_urls e = let r = e.0 in first_fields e ++ ((codes "countryId", whole r.country_id) ∷ (center_field r ++ ((codes "healthCheckUrl", string r.health_check_url) ∷ (codes "homePageUrl", string r.home_page_url) ∷ [])))
+abbrev pub to_urls : Row → Fields
+to_urls r = app_field r ++ ((codes "countryId", whole r.country_id) ∷ (center_field r ++ ((codes "healthCheckUrl", string r.health_check_url) ∷ (codes "homePageUrl", string r.home_page_url) ∷ [])))
 
 abbrev pub to_moments : Row → Fields
 to_moments r = host_fields r ++ ((codes "isCoordinatingDiscoveryServer", truth r.is_coordinating) ∷ moment_fields r)
@@ -61,16 +66,16 @@ to_metadata r = (codes "leaseInfo", lease_tree r.lease) ∷ (codes "metadata", m
 abbrev pub to_vips : Row → Fields
 to_vips r = state_fields r ++ ((codes "statusPageUrl", string r.status_page_url) ∷ vip_field r)
 
-abbrev pub full_fields : Entry → Fields
-full_fields e = to_urls e ++ (to_moments e.0 ++ (to_metadata e.0 ++ to_vips e.0))
+abbrev pub full_fields : Row → Option Action → Fields
+full_fields r o = done_fields o ++ (to_urls r ++ (to_moments r ++ (to_metadata r ++ to_vips r)))
 
 -- ---- the compact form
 
-abbrev pub to_hosts : Entry → Fields
-to_hosts e = first_fields e ++ (center_field e.0 ++ host_fields e.0)
+abbrev pub to_hosts : Row → Fields
+to_hosts r = app_field r ++ (center_field r ++ host_fields r)
 
 abbrev pub from_moments : Row → Fields
 from_moments r = moment_fields r ++ (state_fields r ++ vip_field r)
 
-abbrev pub compact_fields : Entry → Fields
-compact_fields e = to_hosts e ++ from_moments e.0
+abbrev pub compact_fields : Row → Option Action → Fields
+compact_fields r o = done_fields o ++ (to_hosts r ++ from_moments r)

@@ -1,23 +1,23 @@
 -- The text of a document, joined from the texts of its instances. Nothing here need be believed.
-use Rattle.std.specs.Prelude.{◌≡◌, ℕ, Bool, true, false, List, [], ◌∷◌, ◌++◌, codes, decimal, map, if◌then◌else◌, Option, Some, None, ⊤}
-use Rattle.std.specs.Str.{IsUtf8, bytes_eq}
+use Rattle.std.specs.Prelude.{◌≡◌, ℕ, Bool, true, false, List, [], ◌∷◌, ◌++◌, codes, decimal, map, if◌then◌else◌, IfSome, Option, Some, None, option_map, ⊤}
+use Rattle.std.specs.List.{AllByRecursion, filter_map}
+use Rattle.std.specs.Option.{unwrap_or}
+use Rattle.std.specs.Str.{bytes_eq}
 use Rattle.json.specs.Print.{quoted}
 use Rattle.serde_json.specs.Written.{compact_text}
-use Rattle.disco_instance.specs.Row.{IsWellFormed}
 use Rattle.disco_values.specs.declared.form.Form.{Form}
-use Rattle.disco_history.specs.Change.{Entry}
+use Rattle.disco_values.specs.declared.key.Key.{Key}
+use Rattle.disco_history.specs.Change.{Entry, key_of}
+use Rattle.disco_history.specs.Mentions.{mention_of}
 use Rattle.disco_documents.specs.Trees.{instance_tree}
+use Rattle.disco_writer.specs.Kept.{IsTextOf, Kept, text_at}
+use Rattle.disco_writer.specs.declared.piece.Piece.{Piece}
+use Rattle.disco_writer.specs.declared.piece.Source.{Source}
+use Rattle.disco_writer.specs.declared.piece.Source.TheVariants as source
 
 -- the text of an instance in a form
 abbrev pub text_in : Form → Entry → List ℕ
 text_in f e = compact_text (instance_tree f e)
-
--- it is the text of that instance, with what a document needs to know of it
-pub record IsTextOf (f : Form) (text : List ℕ) (e : Entry) : Type 0 where
-  pub all : text ≡ text_in f e
-  pub row : IsWellFormed e.0
-  pub utf8 : IsUtf8 text
-  pub app : IsUtf8 e.0.key.app
 
 -- an instance's app and its text
 abbrev pub Shown : Type 0
@@ -27,16 +27,49 @@ Shown = List ℕ × List ℕ
 abbrev pub shown : Form → List Entry → List Shown
 shown f es = map (λ e. (e.0.key.app, text_in f e)) es
 
+abbrev pub bytes_of : Source → List ℕ
+bytes_of (source.Kept text) = text.now
+bytes_of (source.Made text) = text.items
+
+abbrev pub shown_one : Piece → Shown
+shown_one p = (p.app.now, bytes_of p.source)
+
+abbrev pub shown_by : List Piece → List Shown
+shown_by ps = map shown_one ps
+
 -- these are the apps and the texts of these instances
 abbrev pub AreTextsOf : Form → List Shown → List Entry → Type 0
 AreTextsOf f [] [] = ⊤
 AreTextsOf f [] (e ∷ es) = ⊥
 AreTextsOf f (p ∷ ps) [] = ⊥
-AreTextsOf f (p ∷ ps) (e ∷ es) = (p.0 ≡ e.0.key.app) × IsTextOf f p.1 e × AreTextsOf f ps es
+AreTextsOf f (p ∷ ps) (e ∷ es) = (p.0 ≡ e.0.key.app) × IsTextOf f p.1 (mention_of e) × AreTextsOf f ps es
 
--- what a document needs to know of the texts of these instances
-abbrev pub HaveTexts : Form → List Entry → Type 0
-HaveTexts f es = AreTextsOf f (shown f es) es
+-- ---- kept texts, and texts that are made
+
+-- the apps and the texts of places that don't stand empty
+abbrev pub walked : List (Key × Option (List ℕ)) → List Shown
+walked es = filter_map (λ e. option_map (λ t. (e.0.app, t)) e.1) es
+
+-- an instance's app, and its kept text or, where none is, the one that is made
+abbrev pub told_one : Form → Kept → Entry → Shown
+told_one f v e = (e.0.key.app, unwrap_or (text_at v (key_of e)) (text_in f e))
+
+abbrev pub told_by : Form → Kept → List Entry → List Shown
+told_by f v es = map (told_one f v) es
+
+-- a text that is kept of the instance is its text
+abbrev pub Agrees : Form → Kept → Entry → Type 0
+Agrees f v e = IfSome (text_at v (key_of e)) (λ t. IsTextOf f t (mention_of e))
+
+abbrev pub AllAgree : Form → Kept → List Entry → Type 0
+AllAgree f v es = AllByRecursion (Agrees f v) es
+
+-- where the kept one is its text, what is told is
+abbrev pub IsTold : Form → Kept → Entry → Type 0
+IsTold f v e = Agrees f v e → IsTextOf f (told_one f v e).1 (mention_of e)
+
+abbrev pub AreTold : Form → Kept → List Entry → Type 0
+AreTold f v es = AllByRecursion (IsTold f v) es
 
 -- ---- what stands round the texts
 

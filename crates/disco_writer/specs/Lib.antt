@@ -1,3 +1,6 @@
+pub mod Empty
 pub mod Fields
 pub mod Joined
+pub mod Kept
+pub mod Laws
 pub mod Tokens

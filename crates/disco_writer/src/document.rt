@@ -17,11 +17,15 @@ ghost use Rattle.disco_documents.specs.Documents.{IsWritten};
 ghost use Rattle.disco_query.specs.Query.{is_delta};
 ghost use Rattle.disco_documents.specs.Rows.{held_entries, mentions_in, rows_in};
 ghost use Rattle.disco_documents.specs.Trees.{document_tree};
+ghost use Rattle.disco_writer.specs.Joined.{AllAgree};
+ghost use Rattle.disco_writer.specs.Kept.{AreKept};
 ghost use Rattle.disco_query.specs.declared.query.Query.TheVariants as query;
 
 use crate::delta::write_delta;
+use crate::join::join_many;
 use crate::many::{app_text, many_text, one_text};
 use crate::selected::{count, held_under_svip, held_under_vip};
+use crate::texts::Texts;
 use disco_history::Held;
 use disco_index::{Counts, VipIndex};
 use disco_query::Query;
@@ -32,7 +36,8 @@ use std::alloc::Global;
 
 /// The document that a query asks for in a form, as compact JSON; `None` exactly where the query is
 /// for an app, a vip, a secure vip or an instance, and no record is. A delta names what the queue
-/// keeps. The counts and the vips have to be those of the registry. Refused only as `OutOfMemory`.
+/// keeps. The counts, the vips and the kept texts, in that form, have to be those of the registry: the
+/// document is joined from these texts. Refused only as `OutOfMemory`.
 pub fn write_document(
     alloc: Global,
     form: Form,
@@ -41,9 +46,11 @@ pub fn write_document(
     vips: &VipIndex,
     queue: &ChangedQueue,
     counts: &Counts,
+    texts: &Texts,
 ) -> Result<Option<Vec<u8>>, Fault>
     requires counts { counts.now ≡ tally_in registry.now.held }
     requires vips { IsIndexOf vips.now registry.now.held }
+    requires kept { AreKept form texts.now registry.now.held }
     ensures written { IfOk result (λ o. is_delta query.now ≡ false
         → (h : List Entry) → StandsFor registry.now h → IsWritten form query.now h (length h) (option_map (λ v. v.items) o)) }
     ensures delta { IfOk result (λ o. is_delta query.now ≡ true
@@ -51,12 +58,12 @@ pub fn write_document(
     ensures memory { IfErr result (λ e. e ≡ OutOfMemory) }
 {
     match query {
-        Query::Apps => Ok(Some(write_apps(alloc, form, registry, counts)?)),
-        Query::Delta => Ok(Some(write_delta(alloc, form, registry, queue, counts)?)),
-        Query::App(name) => write_app(alloc, form, registry, name),
-        Query::Vip(vip) => write_vip(alloc, form, registry, vips, vip),
-        Query::Svip(svip) => write_svip(alloc, form, registry, svip),
-        Query::Instance(key) => write_instance(alloc, form, registry, key),
+        Query::Apps => Ok(Some(write_apps(alloc, form, registry, counts, texts)?)),
+        Query::Delta => Ok(Some(write_delta(alloc, form, registry, queue, counts, texts)?)),
+        Query::App(name) => write_app(alloc, form, registry, texts, name),
+        Query::Vip(vip) => write_vip(alloc, form, registry, vips, texts, vip),
+        Query::Svip(svip) => write_svip(alloc, form, registry, texts, svip),
+        Query::Instance(key) => write_instance(alloc, form, registry, texts, key),
     }
 }
 
@@ -68,16 +75,27 @@ pub fn write_full(
     vips: &VipIndex,
     queue: &ChangedQueue,
     counts: &Counts,
+    texts: &Texts,
 ) -> Result<Option<Vec<u8>>, Fault>
     requires counts { counts.now ≡ tally_in registry.now.held }
     requires vips { IsIndexOf vips.now registry.now.held }
+    requires kept { AreKept Full texts.now registry.now.held }
     ensures written { IfOk result (λ o. is_delta query.now ≡ false
         → (h : List Entry) → StandsFor registry.now h → IsWritten Full query.now h (length h) (option_map (λ v. v.items) o)) }
     ensures delta { IfOk result (λ o. is_delta query.now ≡ true
         → (h : List Timed) → StandsFor registry.now (changes h) → Keeps queue.now h → IsWritten Full query.now (changes h) queue.now.base (option_map (λ v. v.items) o)) }
     ensures memory { IfErr result (λ e. e ≡ OutOfMemory) }
 {
-    write_document(alloc, Form::Full, query, registry, vips, queue, counts)
+    write_document(
+        alloc,
+        Form::Full,
+        query,
+        registry,
+        vips,
+        queue,
+        counts,
+        texts,
+    )
 }
 
 fn write_apps(
@@ -85,21 +103,26 @@ fn write_apps(
     form: Form,
     registry: &Registry,
     counts: &Counts,
+    texts: &Texts,
 ) -> Result<Vec<u8>, Fault>
-    requires { counts.now ≡ tally_in registry.now.held }
+    requires counts { counts.now ≡ tally_in registry.now.held }
+    requires kept { AreKept form texts.now registry.now.held }
     ensures written { IfOk result (λ v. (h : List Entry) → StandsFor registry.now h → IsWritten form query.Apps h (length h) (Some v.items)) }
     ensures memory { IfErr result (λ e. e ≡ OutOfMemory) }
 {
     let hash = counts.text(alloc)?;
-    Ok(many_text(alloc, form, registry.records(), &hash, registry.version())?)
+    let pieces = texts.pieces(alloc)?;
+    Ok(join_many(alloc, pieces.as_slice(), &hash, registry.version())?)
 }
 
 fn write_app(
     alloc: Global,
     form: Form,
     registry: &Registry,
+    texts: &Texts,
     name: &Text,
 ) -> Result<Option<Vec<u8>>, Fault>
+    requires { AreKept form texts.now registry.now.held }
     ensures written { IfOk result (λ o. (h : List Entry) → StandsFor registry.now h → IsWritten form (query.App name.now) h (length h) (option_map (λ v. v.items) o)) }
     ensures memory { IfErr result (λ e. e ≡ OutOfMemory) }
 {
@@ -107,17 +130,18 @@ fn write_app(
     if held.is_empty() {
         return Ok(None);
     }
-    Ok(Some(app_text(alloc, form, name, held)?))
+    Ok(Some(app_text(alloc, form, texts, name, held)?))
 }
 
 /// The document of some records, with the hash code of these alone; none where there are none.
 fn write_some(
     alloc: Global,
     form: Form,
+    texts: &Texts,
     held: &[Held],
     version: u64,
 ) -> Result<Option<Vec<u8>>, Fault>
-    ensures written { IfOk result (λ o. MatchOption o (length held.now ≡ 0) (λ v. (0 < length held.now)
+    ensures written { IfOk result (λ o. AllAgree form texts.now (held_entries held.now) → MatchOption o (length held.now ≡ 0) (λ v. (0 < length held.now)
         × (v.items ≡ compact_text (document_tree form (held_entries held.now) (hash (rows_in (held_entries held.now))) version))
         × (document_of v.items ≡ Ok (meant Many (Some (hash (rows_in (held_entries held.now)))) (Some version) (mentions_in form (held_entries held.now)))))) }
     ensures memory { IfErr result (λ e. e ≡ OutOfMemory) }
@@ -126,7 +150,7 @@ fn write_some(
         return Ok(None);
     }
     let hash = count(held).text(alloc)?;
-    Ok(Some(many_text(alloc, form, held, &hash, version)?))
+    Ok(Some(many_text(alloc, form, texts, held, &hash, version)?))
 }
 
 fn write_vip(
@@ -134,40 +158,46 @@ fn write_vip(
     form: Form,
     registry: &Registry,
     vips: &VipIndex,
+    texts: &Texts,
     vip: &Text,
 ) -> Result<Option<Vec<u8>>, Fault>
-    requires { IsIndexOf vips.now registry.now.held }
+    requires index { IsIndexOf vips.now registry.now.held }
+    requires kept { AreKept form texts.now registry.now.held }
     ensures written { IfOk result (λ o. (h : List Entry) → StandsFor registry.now h → IsWritten form (query.Vip vip.now) h (length h) (option_map (λ v. v.items) o)) }
     ensures memory { IfErr result (λ e. e ≡ OutOfMemory) }
 {
     let held = held_under_vip(alloc, registry, vips, vip)?;
-    Ok(write_some(alloc, form, held.as_slice(), registry.version())?)
+    Ok(write_some(alloc, form, texts, held.as_slice(), registry.version())?)
 }
 
 fn write_svip(
     alloc: Global,
     form: Form,
     registry: &Registry,
+    texts: &Texts,
     svip: &Text,
 ) -> Result<Option<Vec<u8>>, Fault>
+    requires { AreKept form texts.now registry.now.held }
     ensures written { IfOk result (λ o. (h : List Entry) → StandsFor registry.now h → IsWritten form (query.Svip svip.now) h (length h) (option_map (λ v. v.items) o)) }
     ensures memory { IfErr result (λ e. e ≡ OutOfMemory) }
 {
     let held = held_under_svip(alloc, registry, svip)?;
-    Ok(write_some(alloc, form, held.as_slice(), registry.version())?)
+    Ok(write_some(alloc, form, texts, held.as_slice(), registry.version())?)
 }
 
 fn write_instance(
     alloc: Global,
     form: Form,
     registry: &Registry,
+    texts: &Texts,
     key: &Key,
 ) -> Result<Option<Vec<u8>>, Fault>
+    requires { AreKept form texts.now registry.now.held }
     ensures written { IfOk result (λ o. (h : List Entry) → StandsFor registry.now h → IsWritten form (query.Instance key.now) h (length h) (option_map (λ v. v.items) o)) }
     ensures memory { IfErr result (λ e. e ≡ OutOfMemory) }
 {
     match registry.held(key) {
-        Some(held) => Ok(Some(one_text(alloc, form, held)?)),
+        Some(held) => Ok(Some(one_text(alloc, form, texts, held)?)),
         None => Ok(None),
     }
 }

@@ -1,25 +1,27 @@
 //! The text of an instance.
-ghost use Rattle.std.specs.Prelude.{IfOk, OnOk};
+ghost use Rattle.std.specs.Prelude.{◌≡◌, IfErr, IfOk, OnOk};
 ghost use Rattle.json.specs.Tree.{json_tokens};
 ghost use Rattle.serde_json.specs.Written.{outline};
 ghost use Rattle.disco_instance.specs.Row.{row};
+ghost use Rattle.disco_values.specs.declared.fault.Fault.TheVariants.{OutOfMemory};
 ghost use Rattle.disco_values.specs.declared.form.Form.TheVariants.{Full, Compact};
-ghost use Rattle.disco_writer.specs.Fields.{first_fields, from_moments, host_fields, moment_fields, state_fields, to_hosts, to_metadata, to_moments, to_urls, to_vips};
-ghost use Rattle.disco_writer.specs.Joined.{IsTextOf};
+ghost use Rattle.disco_wire.specs.Wire.{tell};
+ghost use Rattle.disco_writer.specs.Fields.{done_fields, from_moments, host_fields, moment_fields, state_fields, to_hosts, to_metadata, to_moments, to_urls, to_vips};
+ghost use Rattle.disco_writer.specs.Kept.{IsTextOf, mention_tree};
 ghost use Rattle.disco_writer.specs.Tokens.{Adds, Writes};
-ghost use Rattle.disco_documents.specs.Trees.{instance_tree};
 
 use crate::members::{
     end, put_action, put_data_center, put_digits, put_lease, put_metadata, put_port, put_small,
     put_status, put_text, put_truth, start,
 };
 use disco_instance::{Record, well_formed};
-use disco_values::{Action, Form};
+use disco_values::{Action, Fault, Form};
+use disco_wire::Mention;
 use json::Writer;
-use std::alloc::AllocError;
+use std::alloc::{AllocError, Global};
 
 /// How many bytes are asked for an instance at first: most have fewer.
-pub(crate) fn usual(form: Form) -> usize {
+fn usual(form: Form) -> usize {
     match form {
         Form::Full => 1024,
         Form::Compact => 512,
@@ -28,11 +30,14 @@ pub(crate) fn usual(form: Form) -> usize {
 
 // Groups of members that stand next to each other in both forms.
 
-fn put_first(out: &mut Writer, rec: &Record, action: Action) -> Result<(), AllocError>
-    ensures { Writes result out.old out.new (first_fields (row rec.now, action)) }
+/// What was done, where it is said.
+fn put_done(out: &mut Writer, action: Option<Action>) -> Result<(), AllocError>
+    ensures { Writes result out.old out.new (done_fields action) }
 {
-    put_action(out, "actionType", action)?;
-    put_text(out, "app", &rec.key.app)
+    match action {
+        Some(action) => put_action(out, "actionType", action),
+        None => Ok(()),
+    }
 }
 
 fn put_host(out: &mut Writer, rec: &Record) -> Result<(), AllocError>
@@ -62,10 +67,10 @@ fn put_state(out: &mut Writer, rec: &Record) -> Result<(), AllocError>
 
 // The full form.
 
-fn put_to_urls(out: &mut Writer, rec: &Record, action: Action) -> Result<(), AllocError>
-    ensures { Writes result out.old out.new (to_urls (row rec.now, action)) }
+fn put_to_urls(out: &mut Writer, rec: &Record) -> Result<(), AllocError>
+    ensures { Writes result out.old out.new (to_urls (row rec.now)) }
 {
-    put_first(out, rec, action)?;
+    put_text(out, "app", &rec.key.app)?;
     put_small(out, "countryId", rec.country_id)?;
     put_data_center(out, &rec.data_center)?;
     put_text(out, "healthCheckUrl", &rec.health_check_url)?;
@@ -95,11 +100,12 @@ fn put_to_vips(out: &mut Writer, rec: &Record) -> Result<(), AllocError>
     put_text(out, "vipAddress", &rec.vip_address)
 }
 
-fn put_full(out: &mut Writer, rec: &Record, action: Action) -> Result<(), AllocError>
-    ensures { OnOk result (Adds out.old out.new (json_tokens (outline (instance_tree Full (row rec.now, action))))) }
+fn put_full(out: &mut Writer, rec: &Record, action: Option<Action>) -> Result<(), AllocError>
+    ensures { OnOk result (Adds out.old out.new (json_tokens (outline (mention_tree Full (row rec.now, action))))) }
 {
     start(out)?;
-    put_to_urls(out, rec, action)?;
+    put_done(out, action)?;
+    put_to_urls(out, rec)?;
     put_to_moments(out, rec)?;
     put_to_metadata(out, rec)?;
     put_to_vips(out, rec)?;
@@ -108,10 +114,10 @@ fn put_full(out: &mut Writer, rec: &Record, action: Action) -> Result<(), AllocE
 
 // The compact form.
 
-fn put_to_hosts(out: &mut Writer, rec: &Record, action: Action) -> Result<(), AllocError>
-    ensures { Writes result out.old out.new (to_hosts (row rec.now, action)) }
+fn put_to_hosts(out: &mut Writer, rec: &Record) -> Result<(), AllocError>
+    ensures { Writes result out.old out.new (to_hosts (row rec.now)) }
 {
-    put_first(out, rec, action)?;
+    put_text(out, "app", &rec.key.app)?;
     put_data_center(out, &rec.data_center)?;
     put_host(out, rec)
 }
@@ -124,11 +130,12 @@ fn put_from_moments(out: &mut Writer, rec: &Record) -> Result<(), AllocError>
     put_text(out, "vipAddress", &rec.vip_address)
 }
 
-fn put_compact(out: &mut Writer, rec: &Record, action: Action) -> Result<(), AllocError>
-    ensures { OnOk result (Adds out.old out.new (json_tokens (outline (instance_tree Compact (row rec.now, action))))) }
+fn put_compact(out: &mut Writer, rec: &Record, action: Option<Action>) -> Result<(), AllocError>
+    ensures { OnOk result (Adds out.old out.new (json_tokens (outline (mention_tree Compact (row rec.now, action))))) }
 {
     start(out)?;
-    put_to_hosts(out, rec, action)?;
+    put_done(out, action)?;
+    put_to_hosts(out, rec)?;
     put_from_moments(out, rec)?;
     end(out)
 }
@@ -137,9 +144,9 @@ fn put_instance(
     out: &mut Writer,
     form: Form,
     rec: &Record,
-    action: Action,
+    action: Option<Action>,
 ) -> Result<(), AllocError>
-    ensures { OnOk result (Adds out.old out.new (json_tokens (outline (instance_tree form (row rec.now, action))))) }
+    ensures { OnOk result (Adds out.old out.new (json_tokens (outline (mention_tree form (row rec.now, action))))) }
 {
     match form {
         Form::Full => put_full(out, rec, action),
@@ -147,19 +154,28 @@ fn put_instance(
     }
 }
 
-/// The text of an instance in a form, as compact JSON. It takes the place of what `room` holds.
-pub(crate) fn instance_text(
-    mut room: Vec<u8>,
+/// The text of an instance in a form, as compact JSON, with what was done to it where that is said.
+/// Refused only as `OutOfMemory`.
+pub fn write_text(
+    alloc: Global,
     form: Form,
     rec: &Record,
-    action: Action,
-) -> Result<Vec<u8>, AllocError>
-    ensures { IfOk result (λ v. IsTextOf form v.items (row rec.now, action)) }
+    action: Option<Action>,
+) -> Result<Vec<u8>, Fault>
+    ensures text { IfOk result (λ v. IsTextOf form v.items (row rec.now, action)) }
+    ensures memory { IfErr result (λ e. e ≡ OutOfMemory) }
 {
     well_formed(rec);
     let _app = rec.key.app.as_str();
-    room.clear();
-    let mut out = Writer::new(room);
+    let mut out = Writer::new(Vec::with_capacity(alloc, usual(form))?);
     put_instance(&mut out, form, rec, action)?;
     Ok(out.into_inner())
+}
+
+/// The text of a mention in the full form, as [`write_text`] gives it.
+pub fn text_full(alloc: Global, mention: &Mention) -> Result<Vec<u8>, Fault>
+    ensures text { IfOk result (λ v. IsTextOf Full v.items (tell mention.now)) }
+    ensures memory { IfErr result (λ e. e ≡ OutOfMemory) }
+{
+    write_text(alloc, Form::Full, &mention.rec, mention.action)
 }

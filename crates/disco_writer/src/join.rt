@@ -1,24 +1,24 @@
 //! Documents joined from the texts of their instances.
-ghost use Rattle.std.specs.Prelude.{◌≡◌, ◌++◌, ◌∷◌, [], IfOk, OnOk, None, Some, Ok, option_map, codes, decimal, false};
+ghost use Rattle.std.specs.Prelude.{◌≡◌, ◌++◌, ◌∷◌, [], List, IfOk, OnOk, None, Some, Ok, option_map, codes, decimal, false};
 ghost use Rattle.json.specs.Print.{quoted};
 ghost use Rattle.serde_json.specs.Written.{compact_text};
 ghost use Rattle.disco_values.specs.declared.form.Form.{Form};
 ghost use Rattle.disco_history.specs.Change.{Entry};
-ghost use Rattle.disco_history.specs.Held.{entry_of};
+ghost use Rattle.disco_history.specs.Mentions.{mention_of};
 ghost use Rattle.disco_wire.specs.Documents.{document_of};
 ghost use Rattle.disco_wire.specs.Meaning.{meant};
-ghost use Rattle.disco_wire.specs.declared.wire.Shape.TheVariants.{One};
-ghost use Rattle.disco_writer.specs.Joined.{HaveTexts, IsTextOf, text_in, Pushes, after_last, app_close, app_joined, app_open, before_next, in_apps, in_commas, many_close, many_joined, many_open, one_joined, shown};
-ghost use Rattle.disco_documents.specs.Rows.{held_entries, mentions_in};
-ghost use Rattle.disco_documents.specs.Trees.{instance_document};
+ghost use Rattle.disco_wire.specs.declared.wire.Shape.TheVariants.{App, Many, One};
+ghost use Rattle.disco_writer.specs.Kept.{IsTextOf};
+ghost use Rattle.disco_writer.specs.Joined.{AreTextsOf, Pushes, after_last, app_close, app_joined, app_open, before_next, in_apps, in_commas, many_close, many_joined, many_open, one_joined, shown_by};
+ghost use Rattle.disco_documents.specs.Rows.{mentions_in};
+ghost use Rattle.disco_documents.specs.Trees.{app_document, document_tree, instance_document};
 
-use crate::instance::{instance_text, usual};
-use disco_history::Held;
-use disco_values::{Form, Text};
+use crate::piece::Piece;
+use disco_values::Text;
 use json::Writer;
 use std::alloc::{AllocError, Global};
 
-/// Room for what stands round the texts of a document.
+/// Room for what stands round the texts of an app, beside its name.
 const ROUND: usize = 64;
 
 fn push(out: &mut Vec<u8>, text: &[u8]) -> Result<(), AllocError>
@@ -108,60 +108,27 @@ fn push_after(alloc: Global, out: &mut Vec<u8>, last: Option<&Text>) -> Result<(
     }
 }
 
-fn app_of(held: &Held) -> &Text
-    ensures { result.now ≡ (entry_of held.now).0.key.app }
-{
-    &held.rec.key.app
-}
-
-/// The text of an instance in a form, in the place of what `room` holds.
-pub(crate) fn held_text(room: Vec<u8>, form: Form, held: &Held) -> Result<Vec<u8>, AllocError>
-    ensures { IfOk result (λ v. IsTextOf form v.items (entry_of held.now)) }
-{
-    instance_text(room, form, &held.rec, held.action)
-}
-
-/// Pushes the text of an instance. It is made in `room`, which is given back for the next one.
-fn push_text(
-    out: &mut Vec<u8>,
-    room: Vec<u8>,
-    form: Form,
-    held: &Held,
-) -> Result<Vec<u8>, AllocError>
-    ensures pushed { IfOk result (λ _. Pushes out.old.items out.new.items (text_in form (entry_of held.now))) }
-    ensures text { IfOk result (λ _. IsTextOf form (text_in form (entry_of held.now)) (entry_of held.now)) }
-{
-    let text = held_text(room, form, held)?;
-    push(out, text.as_slice())?;
-    Ok(text)
-}
-
 /// Applications of these instances, neighbours of one app together.
-fn push_apps(alloc: Global, out: &mut Vec<u8>, form: Form, held: &[Held]) -> Result<(), AllocError>
-    ensures pushed { OnOk result (Pushes out.old.items out.new.items (in_apps None (shown form (held_entries held.now)))) }
-    ensures texts { OnOk result (HaveTexts form (held_entries held.now)) }
+fn push_apps(alloc: Global, out: &mut Vec<u8>, pieces: &[Piece<'_>]) -> Result<(), AllocError>
+    ensures { OnOk result (Pushes out.old.items out.new.items (in_apps None (shown_by pieces.now))) }
 {
-    let mut room = Vec::with_capacity(alloc, usual(form))?;
     let mut last: Option<&Text> = None;
-    for one in held {
-        let app = app_of(one);
-        push_before(alloc, out, last, app)?;
-        room = push_text(out, room, form, one)?;
-        last = Some(app);
+    for piece in pieces {
+        push_before(alloc, out, last, piece.app)?;
+        push(out, piece.bytes())?;
+        last = Some(piece.app);
     }
     push_after(alloc, out, last)
 }
 
 /// The texts of these instances with commas between them.
-fn push_list(alloc: Global, out: &mut Vec<u8>, form: Form, held: &[Held]) -> Result<(), AllocError>
-    ensures pushed { OnOk result (Pushes out.old.items out.new.items (in_commas false (shown form (held_entries held.now)))) }
-    ensures texts { OnOk result (HaveTexts form (held_entries held.now)) }
+fn push_list(out: &mut Vec<u8>, pieces: &[Piece<'_>]) -> Result<(), AllocError>
+    ensures { OnOk result (Pushes out.old.items out.new.items (in_commas false (shown_by pieces.now))) }
 {
-    let mut room = Vec::with_capacity(alloc, usual(form))?;
     let mut later = false;
-    for one in held {
+    for piece in pieces {
         push_str(out, if later { "," } else { "" })?;
-        room = push_text(out, room, form, one)?;
+        push(out, piece.bytes())?;
         later = true;
     }
     Ok(())
@@ -182,10 +149,24 @@ fn push_many_close(
     push_str(out, "}}")
 }
 
-/// How many bytes are asked for a document of these instances at first: most need fewer. Nothing
-/// rests on it: a document that needs more asks again.
-pub(crate) fn room(form: Form, held: &[Held]) -> usize {
-    held.len().saturating_mul(usual(form)).saturating_add(ROUND)
+/// How many bytes are asked for a document of these texts, with a name of so many: no document needs
+/// more, so it is asked for once. An escaped byte of a name takes 6. Nothing rests on it.
+fn room(pieces: &[Piece<'_>], name: &Text) -> usize {
+    let mut bytes = around(name).saturating_add(4 * ROUND);
+    let mut last: Option<&Text> = None;
+    for piece in pieces {
+        bytes = bytes.saturating_add(piece.bytes().len()).saturating_add(1);
+        if last != Some(piece.app) {
+            bytes = bytes.saturating_add(around(piece.app));
+        }
+        last = Some(piece.app);
+    }
+    bytes
+}
+
+/// How many bytes stand round the texts of an app.
+fn around(name: &Text) -> usize {
+    name.as_str().len().saturating_mul(6).saturating_add(ROUND)
 }
 
 #[tactic(auto, unfolding(crate::specs::Joined::many_open))]
@@ -195,35 +176,31 @@ fn push_many_open(out: &mut Vec<u8>) -> Result<(), AllocError>
     push_str(out, "{\"applications\":{\"application\":[")
 }
 
-pub(crate) fn push_many(
+fn push_many(
     alloc: Global,
     out: &mut Vec<u8>,
-    form: Form,
-    held: &[Held],
+    pieces: &[Piece<'_>],
     hash: &Text,
     version: u64,
 ) -> Result<(), AllocError>
-    ensures pushed { OnOk result (Pushes out.old.items out.new.items (many_joined (shown form (held_entries held.now)) hash.now version)) }
-    ensures texts { OnOk result (HaveTexts form (held_entries held.now)) }
+    ensures { OnOk result (Pushes out.old.items out.new.items (many_joined (shown_by pieces.now) hash.now version)) }
 {
     push_many_open(out)?;
-    push_apps(alloc, out, form, held)?;
+    push_apps(alloc, out, pieces)?;
     push_many_close(alloc, out, hash, version)
 }
 
-pub(crate) fn push_app(
+fn push_app(
     alloc: Global,
     out: &mut Vec<u8>,
-    form: Form,
     name: &Text,
-    held: &[Held],
+    pieces: &[Piece<'_>],
 ) -> Result<(), AllocError>
-    ensures pushed { OnOk result (Pushes out.old.items out.new.items (app_joined name.now (shown form (held_entries held.now)))) }
-    ensures texts { OnOk result (HaveTexts form (held_entries held.now)) }
+    ensures { OnOk result (Pushes out.old.items out.new.items (app_joined name.now (shown_by pieces.now))) }
 {
     push_str(out, "{\"application\":")?;
     push_open(out)?;
-    push_list(alloc, out, form, held)?;
+    push_list(out, pieces)?;
     push_close(alloc, out, name)?;
     push_str(out, "}")
 }
@@ -236,10 +213,41 @@ fn push_one(out: &mut Vec<u8>, text: &[u8]) -> Result<(), AllocError>
     push_str(out, "}")
 }
 
+/// The document of many apps with these instances.
+pub(crate) fn join_many(
+    alloc: Global,
+    pieces: &[Piece<'_>],
+    hash: &Text,
+    version: u64,
+) -> Result<Vec<u8>, AllocError>
+    ensures text { IfOk result (λ v. (f : Form) (es : List Entry) → AreTextsOf f (shown_by pieces.now) es → v.items ≡ compact_text (document_tree f es hash.now version)) }
+    ensures means { IfOk result (λ v. (f : Form) (es : List Entry) → AreTextsOf f (shown_by pieces.now) es → document_of v.items ≡ Ok (meant Many (Some hash.now) (Some version) (mentions_in f es))) }
+{
+    let _hash = hash.as_str();
+    let mut out = Vec::with_capacity(alloc, room(pieces, hash))?;
+    push_many(alloc, &mut out, pieces, hash, version)?;
+    Ok(out)
+}
+
+/// The document of an app with these instances.
+pub(crate) fn join_app(
+    alloc: Global,
+    name: &Text,
+    pieces: &[Piece<'_>],
+) -> Result<Vec<u8>, AllocError>
+    ensures text { IfOk result (λ v. (f : Form) (es : List Entry) → AreTextsOf f (shown_by pieces.now) es → v.items ≡ compact_text (app_document f name.now es)) }
+    ensures means { IfOk result (λ v. (f : Form) (es : List Entry) → AreTextsOf f (shown_by pieces.now) es → document_of v.items ≡ Ok (meant App None None (mentions_in f es))) }
+{
+    let _name = name.as_str();
+    let mut out = Vec::with_capacity(alloc, room(pieces, name))?;
+    push_app(alloc, &mut out, name, pieces)?;
+    Ok(out)
+}
+
 /// The document of the instance of this text.
 pub(crate) fn join_one(alloc: Global, text: &[u8]) -> Result<Vec<u8>, AllocError>
-    ensures text { IfOk result (λ v. (f : Form) (e : Entry) → IsTextOf f text.now e → v.items ≡ compact_text (instance_document f (e ∷ []))) }
-    ensures means { IfOk result (λ v. (f : Form) (e : Entry) → IsTextOf f text.now e → document_of v.items ≡ Ok (meant One None None (mentions_in f (e ∷ [])))) }
+    ensures text { IfOk result (λ v. (f : Form) (e : Entry) → IsTextOf f text.now (mention_of e) → v.items ≡ compact_text (instance_document f (e ∷ []))) }
+    ensures means { IfOk result (λ v. (f : Form) (e : Entry) → IsTextOf f text.now (mention_of e) → document_of v.items ≡ Ok (meant One None None (mentions_in f (e ∷ [])))) }
 {
     let mut out = Vec::with_capacity(alloc, text.len().saturating_add(ROUND))?;
     push_one(&mut out, text)?;

@@ -1,15 +1,22 @@
 //! Documents as they are written.
 //!
-//! A written document is the compact text of a JSON tree, and means what its definition says.
+//! A written document is the compact text of a JSON tree, and means what its definition says. It is
+//! joined from the texts of its instances, which are kept.
 #![tactic(auto)]
 
 mod delta;
 mod document;
 mod instance;
 mod join;
+pub mod laws;
 mod many;
 mod members;
+mod piece;
+mod places;
 mod selected;
+mod texts;
 
 pub use disco_query::Query;
 pub use document::{write_document, write_full};
+pub use instance::{text_full, write_text};
+pub use texts::Texts;

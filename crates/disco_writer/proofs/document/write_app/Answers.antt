@@ -1,4 +1,4 @@
-use Rattle.std.proofs.Common.{length, filter, refl, ap, sym, ◌≡◌, ◌<◌, ◌∙◌, arith}
+use Rattle.std.proofs.Common.{length, filter, List, refl, ap, sym, subst, ◌≡◌, ◌<◌, ◌∙◌, arith}
 use Rattle.std.proofs.lemmas.Bool.Decides.{nat_tests}
 use Rattle.std.proofs.lemmas.List.{length-map}
 use Rattle.std.specs.FinMap.{FinMap, values}
@@ -10,6 +10,8 @@ use Rattle.disco_history.specs.Apps.{is_of_app}
 use Rattle.disco_history.specs.Held.{entry_of}
 use Rattle.disco_documents.specs.Rows.{held_entries}
 use Rattle.disco_query.specs.declared.query.Query.TheVariants as query
+use Rattle.disco_writer.specs.Joined.{AllAgree}
+use Rattle.disco_writer.proofs.Told.{held_agree, passing_held, values_held}
 use Rattle.disco_writer.proofs.Written.{none_written, some_there, some_written}
 use Rattle.disco_writer.proofs.document.write_app.Goals as goal
 
@@ -25,6 +27,8 @@ returns-clause-written c = λ h stands.
     let name = c.args.name.now in
     let held = c.of_app-held.result.now in
     let same = c.of_app-held.ensures ∙ ap (λ (m : FinMap key_cmp Entry). filter (is_of_app name) (values m)) stands.held ∙ sym (values-said_restrict h (of_app name)) in
+    let held_all = passing_held (is_of_app name) c.args.registry.now.held (values c.args.registry.now.held) (values_held h c.args.registry.now.held stands.held) in
+    let agree = subst (λ (xs : List Entry). AllAgree c.args.form c.args.texts.now xs) (sym c.of_app-held.ensures) (held_agree c.args.form c.args.texts.now c.args.registry.now.held _ c.requires held_all) in
     let some : 0 < length held = grind (arith, nat_tests, c.is_empty.ensures, c.if-is_empty.false) in
     let count : length (held_entries held) ≡ length held = length-map held entry_of in
-    some_written c.args.form (query.App name) h (length h) (held_entries held) _ (length h) _ same refl refl (some_there (of_app name) h (held_entries held) same (omega (arith, some, count))) c.in_ok-app_text.ensures.text c.in_ok-app_text.ensures.means
+    some_written c.args.form (query.App name) h (length h) (held_entries held) _ (length h) _ same refl refl (some_there (of_app name) h (held_entries held) same (omega (arith, some, count))) (c.in_ok-app_text.ensures.text agree) (c.in_ok-app_text.ensures.means agree)

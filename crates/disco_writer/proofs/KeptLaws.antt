@@ -1,0 +1,43 @@
+-- How the kept texts follow the registry.
+use Rattle.std.proofs.Common.{◌≡◌, ℕ, Bool, true, false, cond, List, take, Option, Some, None, refl, sym, ap, subst, ◌∙◌}
+use Rattle.std.specs.FinMap.{get, insert, remove, empty, get-insert, get-remove, get-empty}
+use Rattle.std.specs.Option.{option_flatten, option_or, option_and_then}
+use Rattle.disco_values.specs.Key.{key_cmp, same_key}
+use Rattle.disco_values.specs.declared.form.Form.{Form}
+use Rattle.disco_history.proofs.Keys.{keys_total}
+use Rattle.disco_history.proofs.Lasts.{last_by_parts}
+use Rattle.disco_history.proofs.Sets.{get-delta, get-said}
+use Rattle.disco_history.specs.Change.{Entry, key_of, last}
+use Rattle.disco_history.specs.Registry.{put_of, reg, said}
+use Rattle.disco_writer.specs.Kept.{AreTied, none_kept, text_at}
+use Rattle.disco_writer.specs.Laws.{NoneKeptLaw, SameKeptLaw, PutKeptLaw, GoneKeptLaw, DeltaKeptLaw}
+
+-- what is tied stays tied where both sides are equal to others
+moved : (f : Form) (s t : Option (List ℕ)) (x y : Option Entry) → s ≡ t → x ≡ y → AreTied f t y → AreTied f s x
+moved f s t x y e g tied = subst (λ (z : Option Entry). AreTied f s z) (sym g) (subst (λ (o : Option (List ℕ)). AreTied f o y) (sym e) tied)
+
+either : (f : Form) (b : Bool) (s t : Option (List ℕ)) (x y : Option Entry) → AreTied f s x → AreTied f t y → AreTied f (cond b s t) (cond b x y)
+either f true s t x y first second = first
+either f false s t x y first second = second
+
+pub none_kept_law : NoneKeptLaw
+none_kept_law f k = moved f (text_at none_kept k) None (get empty k) None (ap option_flatten (get-empty key_cmp k)) (get-empty key_cmp k) tt
+
+pub same_kept_law : SameKeptLaw
+same_kept_law f old new held same kept k = moved f (text_at new k) (text_at old k) (get held k) (get held k) (same k) refl (kept k)
+
+pub put_kept_law : PutKeptLaw
+put_kept_law f old new held e text is sets kept k =
+    moved f (text_at new k) (cond (same_key k (key_of e)) (Some text) (text_at old k)) (get (insert held (key_of e) e) k) (cond (same_key k (key_of e)) (Some e) (get held k)) (sets k) (get-insert keys_total held (key_of e) e k)
+    (either f (same_key k (key_of e)) (Some text) (text_at old k) (Some e) (get held k) is (kept k))
+
+pub gone_kept_law : GoneKeptLaw
+gone_kept_law f old new held q sets kept k =
+    moved f (text_at new k) (cond (same_key k q) None (text_at old k)) (get (remove held q) k) (cond (same_key k q) None (get held k)) (sets k) (get-remove keys_total held q k)
+    (either f (same_key k q) None (text_at old k) None (get held k) tt (kept k))
+
+pub delta_kept_law : DeltaKeptLaw
+delta_kept_law f v h base q e kept there =
+    let late : last h q ≡ Some e = last_by_parts h base q ∙ ap (λ (o : Option Entry). option_or o (last (take base h) q)) (sym (get-delta h base q) ∙ there) in
+    let held : get (said h (reg h)) q ≡ put_of e = get-said h q ∙ ap (λ (o : Option Entry). option_and_then put_of o) late in
+    subst (λ (o : Option Entry). AreTied f (text_at v q) o) held (kept q)

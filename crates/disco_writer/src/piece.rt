@@ -1,0 +1,88 @@
+//! What a document is joined of: the texts of its instances.
+ghost use Rattle.std.specs.Prelude.{◌≡◌, IfErr, IfOk};
+ghost use Rattle.disco_values.specs.declared.fault.Fault.TheVariants.{OutOfMemory};
+ghost use Rattle.disco_history.specs.Held.{entry_of};
+ghost use Rattle.disco_documents.specs.Rows.{held_entries};
+ghost use Rattle.disco_writer.specs.Joined.{AreTold, IsTold, bytes_of, shown_by, shown_one, told_by, told_one};
+
+use crate::instance::write_text;
+use crate::texts::Texts;
+use disco_history::Held;
+use disco_values::{Fault, Form, Text};
+use std::alloc::Global;
+
+/// A text that is kept, or one that was made for this document.
+#[derive(Drop)]
+pub(crate) enum Source<'t> {
+    Kept(&'t [u8]),
+    Made(Vec<u8>),
+}
+
+/// An instance's app and its text.
+#[derive(Drop)]
+pub(crate) struct Piece<'t> {
+    pub(crate) app: &'t Text,
+    pub(crate) source: Source<'t>,
+}
+
+impl Piece<'_> {
+    pub(crate) fn bytes(&self) -> &[u8]
+        ensures { result.now ≡ bytes_of self.now.source }
+    {
+        match &self.source {
+            Source::Kept(text) => *text,
+            Source::Made(text) => text.as_slice(),
+        }
+    }
+}
+
+fn source_of<'t>(
+    alloc: Global,
+    form: Form,
+    texts: &'t Texts,
+    held: &'t Held,
+) -> Result<Source<'t>, Fault>
+    ensures source { IfOk result (λ s. bytes_of s ≡ (told_one form texts.now (entry_of held.now)).1) }
+    ensures told { IfOk result (λ s. IsTold form texts.now (entry_of held.now)) }
+    ensures memory { IfErr result (λ e. e ≡ OutOfMemory) }
+{
+    match texts.get(&held.rec.key) {
+        Some(text) => Ok(Source::Kept(text)),
+        None => Ok(Source::Made(write_text(alloc, form, &held.rec, Some(held.action))?)),
+    }
+}
+
+/// An instance's app, and its kept text or, where none is kept, one that is made.
+pub(crate) fn piece_of<'t>(
+    alloc: Global,
+    form: Form,
+    texts: &'t Texts,
+    held: &'t Held,
+) -> Result<Piece<'t>, Fault>
+    ensures piece { IfOk result (λ p. shown_one p ≡ told_one form texts.now (entry_of held.now)) }
+    ensures told { IfOk result (λ p. IsTold form texts.now (entry_of held.now)) }
+    ensures memory { IfErr result (λ e. e ≡ OutOfMemory) }
+{
+    Ok(Piece {
+        app: &held.rec.key.app,
+        source: source_of(alloc, form, texts, held)?,
+    })
+}
+
+/// The pieces of these instances.
+pub(crate) fn pieces_of<'t>(
+    alloc: Global,
+    form: Form,
+    texts: &'t Texts,
+    held: &'t [Held],
+) -> Result<Vec<Piece<'t>>, Fault>
+    ensures pieces { IfOk result (λ v. shown_by v.items ≡ told_by form texts.now (held_entries held.now)) }
+    ensures told { IfOk result (λ v. AreTold form texts.now (held_entries held.now)) }
+    ensures memory { IfErr result (λ e. e ≡ OutOfMemory) }
+{
+    let mut list = Vec::with_capacity(alloc, held.len())?;
+    for one in held {
+        list.push(piece_of(alloc, form, texts, one)?)?;
+    }
+    Ok(list)
+}

@@ -1,0 +1,107 @@
+//! The texts of mentions, by the keys of their instances.
+ghost use Rattle.std.specs.Prelude.{◌≡◌, IfErr, IfOk, List, None, OnErr, OnOk, Some, option_map, ℕ};
+ghost use Rattle.disco_values.specs.declared.fault.Fault.TheVariants.{OutOfMemory};
+ghost use Rattle.disco_values.specs.declared.key.Key.{Key};
+ghost use Rattle.std.specs.FinMap.{entries};
+ghost use Rattle.disco_writer.specs.Joined.{shown_by, walked};
+ghost use Rattle.disco_writer.specs.Kept.{HasNoEmpty, IsReadyFor, IsSameTexts, Sets, none_kept, text_at};
+
+use crate::piece::Piece;
+use crate::places::Places;
+use disco_values::{Bytes, Fault, Key};
+use std::alloc::{AllocError, Global};
+use std::marker::Model;
+
+/// The text of each of some instances, and one that is put next.
+#[derive(Drop)]
+pub struct Texts {
+    places: Places,
+    next: Option<(Key, Bytes)>,
+}
+
+impl Model for Texts {
+    ghost use Rattle.std.specs.Coded.{codes};
+    ghost use Rattle.std.specs.FinMap.{code};
+    ghost use Rattle.disco_writer.specs.Kept.{Kept};
+    ghost use Rattle.disco_writer.specs.Empty.{OnlyNextIsEmpty};
+
+    ghost Value = { Kept };
+
+    ghost coded = { Prim.hlevel (codes, code) };
+
+    ghost view = { λ t. record { places = t.places; next = t.next } };
+
+    ghost invariant = { λ t. OnlyNextIsEmpty t.next t.places };
+}
+
+impl Texts {
+    /// No texts.
+    pub fn new(alloc: Global) -> Texts
+        ensures { result ≡ none_kept }
+    {
+        Texts {
+            places: Places::new(alloc),
+            next: None,
+        }
+    }
+
+    /// The text under a key.
+    pub fn get(&self, key: &Key) -> Option<&[u8]>
+        ensures { option_map (λ t. t.now) result ≡ text_at self.now key.now }
+    {
+        self.places.text(key)
+    }
+
+    /// The app and the text of each instance that has one, in the order of their keys.
+    pub(crate) fn pieces(&self, alloc: Global) -> Result<Vec<Piece<'_>>, AllocError>
+        ensures { IfOk result (λ v. shown_by v.items ≡ walked (entries self.now.places)) }
+    {
+        self.places.pieces(alloc)
+    }
+
+    /// Drops what is put next, and gives back its place where no text stands in it, so that no
+    /// place stands empty. Takes no memory.
+    pub fn forget(&mut self)
+        ensures same { IsSameTexts self.old self.new }
+        ensures none_empty { HasNoEmpty self.new.places }
+    {
+        if let Some((key, _)) = self.next.take() {
+            self.places.sweep(&key);
+        }
+    }
+
+    /// Makes a place for a key and keeps the text for the next `put`. No answer shows a place
+    /// without a text, and there is at most this one: that of an earlier text that was not put is
+    /// given back. Refused only as `OutOfMemory`, and then no place stands empty.
+    pub fn ready(&mut self, key: &Key, text: Vec<u8>) -> Result<(), Fault>
+        ensures same { IsSameTexts self.old self.new }
+        ensures ready { OnOk result (IsReadyFor self.new key.now text.items) }
+        ensures given_back { OnErr result (HasNoEmpty self.new.places) }
+        ensures memory { IfErr result (λ e. e ≡ OutOfMemory) }
+    {
+        self.forget();
+        let kept = key.clone()?;
+        self.places.make(key)?;
+        self.next = Some((kept, Bytes::from_vec(text)));
+        Ok(())
+    }
+
+    /// Puts the text that `ready` was given. Takes no memory.
+    pub fn put(&mut self)
+        ensures put { (k : Key) (t : List ℕ) → IsReadyFor self.old k t → Sets k (Some t) self.old self.new }
+        ensures none_empty { HasNoEmpty self.new.places }
+    {
+        if let Some((key, text)) = self.next.take() {
+            if self.places.has(&key) {
+                self.places.put(&key, text);
+            }
+        }
+    }
+
+    /// Takes the text of a key out, with its place. Takes no memory.
+    pub fn take(&mut self, key: &Key)
+        ensures { Sets key.now None self.old self.new }
+    {
+        self.places.close(key);
+    }
+}
