@@ -10,13 +10,14 @@ ghost use Rattle.disco_queue.specs.Timed.{Timed, changes};
 ghost use Rattle.disco_registry.specs.State.{StandsFor};
 ghost use Rattle.disco_documents.specs.Documents.{IsWritten};
 ghost use Rattle.disco_query.specs.Query.{is_delta};
+ghost use Rattle.disco_writer.specs.Kept.{AreKept};
 
 use disco_index::{Counts, VipIndex};
 use disco_query::Query;
 use disco_queue::ChangedQueue;
 use disco_registry::Registry;
 use disco_values::{Fault, Form};
-use disco_writer::write_document;
+use disco_writer::{Texts, write_document};
 use std::alloc::Global;
 
 /// The document that a query asks for in the compact form, as [`write_document`] gives it.
@@ -27,14 +28,25 @@ pub fn write_compact(
     vips: &VipIndex,
     queue: &ChangedQueue,
     counts: &Counts,
+    texts: &Texts,
 ) -> Result<Option<Vec<u8>>, Fault>
     requires counts { counts.now ≡ tally_in registry.now.held }
     requires vips { IsIndexOf vips.now registry.now.held }
+    requires kept { AreKept Compact texts.now registry.now.held }
     ensures written { IfOk result (λ o. is_delta query.now ≡ false
         → (h : List Entry) → StandsFor registry.now h → IsWritten Compact query.now h (length h) (option_map (λ v. v.items) o)) }
     ensures delta { IfOk result (λ o. is_delta query.now ≡ true
         → (h : List Timed) → StandsFor registry.now (changes h) → Keeps queue.now h → IsWritten Compact query.now (changes h) queue.now.base (option_map (λ v. v.items) o)) }
     ensures memory { IfErr result (λ e. e ≡ OutOfMemory) }
 {
-    write_document(alloc, Form::Compact, query, registry, vips, queue, counts)
+    write_document(
+        alloc,
+        Form::Compact,
+        query,
+        registry,
+        vips,
+        queue,
+        counts,
+        texts,
+    )
 }

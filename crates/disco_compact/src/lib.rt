@@ -5,6 +5,8 @@
 
 mod document;
 mod projection;
+mod text;
 
 pub use document::write_compact;
 pub use projection::project;
+pub use text::text_compact;
