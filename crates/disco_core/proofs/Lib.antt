@@ -1,5 +1,6 @@
 mod Expiring
 mod Asks
+mod Following
 mod Ids
 mod Loads
 mod Marks

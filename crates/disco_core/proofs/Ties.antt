@@ -29,6 +29,8 @@ use Rattle.disco_core.specs.State as core
 use Rattle.disco_core.specs.Moves.{Moves, lease_by}
 use Rattle.disco_core.specs.State.{AddsAny, HasVipPlaces}
 use Rattle.disco_core.specs.Tied.{AreLeased, IsTied}
+use Rattle.disco_core.specs.Written.{AreWritten, IsSameWritten, Written, none_written}
+use Rattle.disco_core.proofs.Following.{none_are, same_are}
 
 abbrev lasts : Option Lease → Option ℕ
 lasts o = option_map (λ l. l.duration_secs) o
@@ -41,8 +43,8 @@ entry_lasts o = rows_last (option_map (λ e. e.0) o)
 
 -- ---- a new world
 
-pub tied_new : (s : State) (t : Tally) (i : VipKeys) (v : Leases) (q : Queue) → StandsFor s [] → t ≡ tally_of [] → i ≡ empty → v ≡ no_leases → Keeps q [] → IsTied s t i v q
-tied_new s t i v q stands ts is vs keeps =
+pub tied_new : (s : State) (t : Tally) (i : VipKeys) (v : Leases) (q : Queue) (w : Written) → StandsFor s [] → t ≡ tally_of [] → i ≡ empty → v ≡ no_leases → Keeps q [] → w ≡ none_written → IsTied s t i v q w
+tied_new s t i v q w stands ts is vs keeps none =
     let held : s.held ≡ empty = stands.held ∙ said_nil in
     record {
       counts = ts ∙ sym empty_law ∙ ap tally_in (sym held);
@@ -50,6 +52,7 @@ tied_new s t i v q stands ts is vs keeps =
       leased = λ k.
           ap (λ x. lasts (lease_at x k)) vs ∙ ap (λ o. lasts (option_flatten o)) (get-empty key_cmp k)
           ∙ sym (ap (λ m. rows_last (record_at m k)) held ∙ ap entry_lasts (get-empty key_cmp k));
+      written = none_are w s.held none held;
       few = let none : len s.held ≡ 0 = ap len held ∙ len-empty key_cmp Entry in omega (arith, none);
       follows = keeps.version ∙ sym stands.version;
     }
@@ -128,22 +131,24 @@ few_taken : (old new : State) (c : Option Entry) → Takes old c new → len old
 few_taken old new c takes few = let l = ap len takes.held in let v = takes.version in let after = few_after old.held c old.version few in omega (arith, l, v, after)
 
 -- what follows a change stays tied
-pub tied_after : (old new : State) (c : Option Entry) (t : Tally) (i : VipKeys) (v₀ v : Leases) (q₀ q : Queue) → len old.held ≤ old.version → AreLeased old.held v₀ → version q₀ ≡ old.version → Takes old c new → t ≡ tally_in (held_after old.held c)
-    → IsIndexOf i (held_after old.held c) → (AreLeased old.held v₀ → AreLeased (held_after old.held c) v) → version q ≡ version_after (version q₀) c → IsTied new t i v q
-tied_after old new c t i v₀ v q₀ q few leased seen takes counted indexed moves recent = record {
+pub tied_after : (old new : State) (c : Option Entry) (t : Tally) (i : VipKeys) (v₀ v : Leases) (q₀ q : Queue) (w₀ w : Written) → len old.held ≤ old.version → AreLeased old.held v₀ → version q₀ ≡ old.version → Takes old c new → t ≡ tally_in (held_after old.held c)
+    → IsIndexOf i (held_after old.held c) → (AreLeased old.held v₀ → AreLeased (held_after old.held c) v) → version q ≡ version_after (version q₀) c → AreWritten w₀ old.held → (AreWritten w₀ old.held → AreWritten w (held_after old.held c)) → IsTied new t i v q w
+tied_after old new c t i v₀ v q₀ q w₀ w few leased seen takes counted indexed moves recent written follows = record {
   counts = counted ∙ ap tally_in (sym takes.held);
   indexed = subst (λ m. IsIndexOf i m) (sym takes.held) indexed;
   leased = subst (λ m. AreLeased m v) (sym takes.held) (moves leased);
+  written = subst (λ m. AreWritten w m) (sym takes.held) (follows written);
   few = few_taken old new c takes few;
   follows = recent ∙ ap (λ n. version_after n c) seen ∙ sym takes.version;
 }
 
 -- what gets more places stays tied
-pub tied_same : (old new : State) (t : Tally) (i j : VipKeys) (v w : Leases) (q r : Queue) → IsTied old t i v q → IsSameRegistry old new → vips.IsSameVips i j → leases.IsSameLeases v w → queue.IsSameQueue q r → IsTied new t j w r
-tied_same old new t i j v w q r tied same vips_same leases_same queue_same = record {
+pub tied_same : (old new : State) (t : Tally) (i j : VipKeys) (v w : Leases) (q r : Queue) (x y : Written) → IsTied old t i v q x → IsSameRegistry old new → vips.IsSameVips i j → leases.IsSameLeases v w → queue.IsSameQueue q r → IsSameWritten x y → IsTied new t j w r y
+tied_same old new t i j v w q r x y tied same vips_same leases_same queue_same texts_same = record {
   counts = tied.counts ∙ ap tally_in (sym same.held);
   indexed = subst (λ m. IsIndexOf j m) (sym same.held) (same_vips_law old.held i j tied.indexed vips_same);
   leased = subst (λ m. AreLeased m w) (sym same.held) (λ k. ap lasts (leases_same.leases k) ∙ tied.leased k);
+  written = subst (λ m. AreWritten y m) (sym same.held) (same_are x y old.held texts_same tied.written);
   few = few_same old new same tied.few;
   follows = (λ k. queue_same.base k + length (queue_same.kept k)) ∙ tied.follows ∙ sym same.version;
 }

@@ -3,3 +3,4 @@ pub mod Past
 pub mod Refusals
 pub mod State
 pub mod Tied
+pub mod Written

@@ -16,17 +16,19 @@ use Rattle.disco_registry.specs.State as registry
 use Rattle.disco_registry.specs.Accept.{Limits, accepts, limits_of}
 use Rattle.disco_registry.specs.Op.{Ask, asked_key, renew}
 use Rattle.disco_core.specs.Past.{Past, history}
+use Rattle.disco_core.specs.Written.{HasTextsFor, IsSameWritten, OpensNoText, Written}
 use Rattle.disco_settings.specs.declared.settings.Settings.{Settings}
 
 abbrev pub limits : Settings → Limits
 limits s = record { versions = s.versions; instances = s.instances }
 
--- the number of the run, the registry, beside it the vips and the leases with their places, the recent changes, how long these are kept, and whether deltas are served
+-- the number of the run, the registry, beside it the vips, the leases and the texts with their places, the recent changes, how long these are kept, and whether deltas are served
 pub record State : Type 0 where
   pub run : ℕ
   pub registry : registry.State
   pub vips : VipKeys
   pub leases : Leases
+  pub texts : Written
   pub queue : Queue
   pub retention : ℕ
   pub delta : Bool
@@ -69,6 +71,7 @@ pub record IsSameCore (old new : State) : Type 0 where
   pub registry : registry.IsSameRegistry old.registry new.registry
   pub vips : vips.IsSameVips old.vips new.vips
   pub leases : leases.IsSameLeases old.leases new.leases
+  pub texts : IsSameWritten old.texts new.texts
   pub queue : queue.IsSameQueue old.queue new.queue
   pub retention : new.retention ≡ old.retention
   pub delta : new.delta ≡ old.delta
@@ -103,9 +106,9 @@ abbrev pub IsSweptAfter : FinMap key_cmp Entry → Option Entry → VipKeys → 
 IsSweptAfter held None v l = Unit {0}
 IsSweptAfter held (Some c) v l = IsSwept v (get held (key_of c)) × IsFilled (key_of c) l
 
--- there is no place of a vip, a lease or a recent change that was not there
+-- there is no place of a vip, a lease, a text or a recent change that was not there
 abbrev pub AddsNoPlaces : State → State → Type 0
-AddsNoPlaces old new = vips.KeepsPlaces new.vips old.vips × leases.KeepsPlaces new.leases old.leases × (new.queue.places ≡ old.queue.places)
+AddsNoPlaces old new = vips.KeepsPlaces new.vips old.vips × leases.KeepsPlaces new.leases old.leases × OpensNoText old.texts new.texts × (new.queue.places ≡ old.queue.places)
 
 -- whether an operation is a renewal
 abbrev pub is_renewal : Ask → Bool
@@ -121,7 +124,7 @@ pub record Prepared : Type 0 where
 
 -- the core can commit it without memory
 abbrev pub IsReady : State → Prepared → Type 0
-IsReady s r = commit.IsReady s.registry r.change × HasPlacesFor s.vips s.leases r.change × HasRoomFor s.queue r.change
+IsReady s r = commit.IsReady s.registry r.change × HasPlacesFor s.vips s.leases r.change × HasRoomFor s.queue r.change × HasTextsFor s.texts r.change
 
 -- what is ready is what was asked of the core, which accepts it
 pub record IsFor (s : State) (r : Prepared) (ask : Ask) : Type 0 where

@@ -5,6 +5,7 @@ mod counts;
 mod leases;
 mod recent;
 mod registered;
+mod texts;
 mod vips;
 
 pub use registered::{Core, Ready};

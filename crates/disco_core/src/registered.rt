@@ -22,11 +22,13 @@ ghost use Rattle.disco_cache.specs.Payloads.{IsTrue};
 ghost use Rattle.disco_core.specs.Past.{Past, cleaned, history, minute_closed, nothing, taken_in, with_done};
 ghost use Rattle.disco_core.specs.Refusals.{doc_of_id, doc_of_key, refusal_of, refusal_of_id};
 ghost use Rattle.disco_core.specs.Moves.{Moves, OthersStay};
+ghost use Rattle.disco_core.specs.Written.{AreWritten, HasNoEmptyText, HasTextsFor, IsSameWritten, OpensNoText};
 ghost use Rattle.disco_core.specs.State.{AddsNoPlaces, HasPlacesFor, HasRoomFor, IsFor, IsReady, IsSameCore, IsSwept, IsSweptAfter, StandsFor, is_renewal, rules, rules_of};
 
 use crate::counts::count;
 use crate::leases::{is_renewal, keep};
 use crate::recent::{remember, shared};
+use crate::texts::BothTexts;
 use crate::{leases, vips};
 use disco_cache::Payload;
 use disco_history::Change;
@@ -44,7 +46,7 @@ use std::marker::Model;
 use std::sync::Arc;
 
 /// The registered instances with all that is kept beside them: the counts of their statuses, which
-/// of them have a vip, their leases, and what changed of late.
+/// of them have a vip, their leases, their texts, and what changed of late.
 #[derive(Drop)]
 pub struct Core {
     alloc: Global,
@@ -55,6 +57,7 @@ pub struct Core {
     vips: VipIndex,
     leases: LeaseBook,
     queue: ChangedQueue,
+    texts: BothTexts,
     /// How long a recent change is kept, in milliseconds.
     retention: u64,
     /// Whether deltas are served.
@@ -71,9 +74,9 @@ impl Model for Core {
 
     ghost coded = { Prim.hlevel (codes, code) };
 
-    ghost view = { λ h. record { run = h.run; registry = h.registry; vips = h.vips; leases = h.leases; queue = h.queue; retention = h.retention; delta = h.delta } };
+    ghost view = { λ h. record { run = h.run; registry = h.registry; vips = h.vips; leases = h.leases; texts = h.texts; queue = h.queue; retention = h.retention; delta = h.delta } };
 
-    ghost invariant = { λ h. IsTied h.registry h.counts h.vips h.leases h.queue };
+    ghost invariant = { λ h. IsTied h.registry h.counts h.vips h.leases h.queue h.texts };
 }
 
 /// An accepted operation, with all that its commit needs.
@@ -153,11 +156,13 @@ fn accept(held: &mut Registry, op: Op, now: u64) -> Result<Ready, Fault>
     with_kept(ready, key, renewal, now)
 }
 
-/// Makes the places that a change needs. Refused only as `OutOfMemory`, with places half made.
+/// Makes the places and the texts that a change needs. Refused only as `OutOfMemory`, with places
+/// half made.
 fn open_all(
     index: &mut VipIndex,
     book: &mut LeaseBook,
     queue: &mut ChangedQueue,
+    texts: &mut BothTexts,
     change: &Change,
 ) -> Result<(), Fault>
     ensures vips { vip.IsSameVips index.old index.new }
@@ -167,33 +172,40 @@ fn open_all(
     ensures queue { recent.IsSameQueue queue.old queue.new }
     ensures places { OnOk result (HasPlacesFor index.new book.new (Some (seen change.now))) }
     ensures room { OnOk result (HasRoomFor queue.new (Some (seen change.now))) }
+    ensures texts { IsSameWritten texts.old texts.new }
+    ensures written { OnOk result (HasTextsFor texts.new (Some (seen change.now))) }
     ensures given_back { OnErr result (queue.new.places ≡ queue.old.places) }
     ensures memory { IfErr result (λ e. e ≡ OutOfMemory) }
 {
     vips::open(index, change)?;
     book.ready(change.key())?;
+    texts.ready(change)?;
     queue.ready(change.key())
 }
 
 /// Gives back the places of a change that stand empty.
-fn sweep_all(index: &mut VipIndex, book: &mut LeaseBook, change: &Change)
+fn sweep_all(index: &mut VipIndex, book: &mut LeaseBook, texts: &mut BothTexts, change: &Change)
     ensures vips { vip.IsSameVips index.old index.new }
     ensures other_vips { OthersStay (put_of (seen change.now)) index.old index.new }
     ensures swept_vips { IsSwept index.new (put_of (seen change.now)) }
     ensures leases { lease.IsSameLeases book.old book.new }
     ensures other_leases { lease.KeepsOthers (key_of (seen change.now)) book.old book.new }
     ensures swept_leases { lease.IsFilled (key_of (seen change.now)) book.new }
+    ensures texts { IsSameWritten texts.old texts.new }
+    ensures swept_texts { HasNoEmptyText texts.new }
 {
     vips::close(index, change);
     book.sweep(change.key());
+    texts.forget();
 }
 
-/// Makes the places that a change needs, if there is one. Refused only as `OutOfMemory`, and then
-/// gives back what was made.
+/// Makes the places and the texts that a change needs, if there is one. Refused only as
+/// `OutOfMemory`, and then gives back what was made.
 fn open_places(
     index: &mut VipIndex,
     book: &mut LeaseBook,
     queue: &mut ChangedQueue,
+    texts: &mut BothTexts,
     change: Option<&Change>,
 ) -> Result<(), Fault>
     ensures vips { vip.IsSameVips index.old index.new }
@@ -201,15 +213,17 @@ fn open_places(
     ensures queue { recent.IsSameQueue queue.old queue.new }
     ensures places { OnOk result (HasPlacesFor index.new book.new (option_map (λ c. seen c.now) change.entry)) }
     ensures room { OnOk result (HasRoomFor queue.new (option_map (λ c. seen c.now) change.entry)) }
+    ensures texts { IsSameWritten texts.old texts.new }
+    ensures written { OnOk result (HasTextsFor texts.new (option_map (λ c. seen c.now) change.entry)) }
     ensures memory { IfErr result (λ e. e ≡ OutOfMemory) }
-    ensures given_back { OnErr result (vip.KeepsPlaces index.new index.old × lease.KeepsPlaces book.new book.old × (queue.new.places ≡ queue.old.places)) }
+    ensures given_back { OnErr result (vip.KeepsPlaces index.new index.old × lease.KeepsPlaces book.new book.old × OpensNoText texts.old texts.new × (queue.new.places ≡ queue.old.places)) }
 {
     let Some(change) = change else {
         return Ok(());
     };
-    let opened = open_all(index, book, queue, change);
+    let opened = open_all(index, book, queue, texts, change);
     if opened.is_err() {
-        sweep_all(index, book, change);
+        sweep_all(index, book, texts, change);
     }
     opened
 }
@@ -219,6 +233,7 @@ fn follow(
     counts: &mut Counts,
     index: &mut VipIndex,
     book: &mut LeaseBook,
+    texts: &mut BothTexts,
     registry: &Registry,
     ready: &Ready,
 )
@@ -227,9 +242,11 @@ fn follow(
     requires few { len registry.now.held ≤ registry.now.version }
     requires ready { commit.IsReady registry.now ready.now.change }
     requires places { HasPlacesFor index.old book.old ready.now.change }
+    requires written { HasTextsFor texts.old ready.now.change }
     ensures counts { counts.new ≡ tally_in (held_after registry.now.held ready.now.change) }
     ensures vips { vip.IsIndexOf index.new (held_after registry.now.held ready.now.change) }
     ensures swept { IsSweptAfter registry.now.held ready.now.change index.new book.new }
+    ensures written { AreWritten texts.old registry.now.held → AreWritten texts.new (held_after registry.now.held ready.now.change) }
     ensures leases { Moves ready.now.change ready.now.key ready.now.renewal ready.now.moment book.old book.new }
 {
     let _version = registry.version();
@@ -238,6 +255,7 @@ fn follow(
             count(counts, registry, change);
             vips::follow(index, registry, change);
             leases::follow(book, change, ready.moment);
+            texts.follow(change);
         }
         None => keep(book, &ready.key, ready.renewal, ready.moment),
     }
@@ -257,6 +275,7 @@ impl Core {
             vips: VipIndex::new(alloc),
             leases: LeaseBook::new(alloc),
             queue: ChangedQueue::new(alloc, settings.queue),
+            texts: BothTexts::new(alloc),
             retention: settings.retention,
             delta: settings.delta,
         }
@@ -291,9 +310,9 @@ impl Core {
         self.delta
     }
 
-    /// Makes every growth that an operation at a moment in milliseconds needs, and changes no
-    /// answer. Refused as the operation is, and as `OutOfMemory`, and then no place of a vip, a lease
-    /// or a recent change stays that was not there.
+    /// Makes every growth that an operation at a moment in milliseconds needs, and the texts of what
+    /// it puts, and changes no answer. Refused as the operation is, and as `OutOfMemory`, and then no
+    /// place of a vip, a lease, a text or a recent change stays that was not there.
     pub fn ready(&mut self, op: Op, now: u64) -> Result<Ready, Fault>
         ensures same { IsSameCore self.old self.new }
         ensures ready { IfOk result (λ r. accepts self.old.registry (ask_of op) now ≡ Ok r.change × IsReady self.new r) }
@@ -307,6 +326,7 @@ impl Core {
             &mut self.vips,
             &mut self.leases,
             &mut self.queue,
+            &mut self.texts,
             ready.to_come(),
         )?;
         Ok(ready)
@@ -329,6 +349,7 @@ impl Core {
             &mut self.counts,
             &mut self.vips,
             &mut self.leases,
+            &mut self.texts,
             &self.registry,
             &ready,
         );
@@ -344,6 +365,7 @@ impl Core {
         ensures registry { self.new.registry ≡ self.old.registry }
         ensures vips { self.new.vips ≡ self.old.vips }
         ensures leases { self.new.leases ≡ self.old.leases }
+        ensures texts { self.new.texts ≡ self.old.texts }
         ensures rules { rules_of self.new ≡ rules_of self.old }
         ensures history { (p : Past) → StandsFor self.old p → StandsFor self.new (cleaned self.old.retention p now) }
     {
@@ -367,6 +389,7 @@ impl Core {
         ensures vips { self.new.vips ≡ self.old.vips }
         ensures places { self.new.leases.places ≡ self.old.leases.places }
         ensures queue { self.new.queue ≡ self.old.queue }
+        ensures texts { self.new.texts ≡ self.old.texts }
         ensures rules { rules_of self.new ≡ rules_of self.old }
         ensures history { (p : Past) → StandsFor self.old p → StandsFor self.new (minute_closed p) }
     {
@@ -419,10 +442,11 @@ impl Core {
             &self.vips,
             &self.queue,
             &self.counts,
+            self.texts.in_form(key.form),
         )
     }
 
-    /// The document that is asked for, written anew: none exactly where an app, a vip, a secure vip
+    /// The document that is asked for, joined from the texts that are kept: none exactly where an app, a vip, a secure vip
     /// or an instance is asked for and there is none. An app's name has to be in upper case. A delta
     /// is written also where deltas are off. Refused only as `OutOfMemory`.
     pub fn document(&self, key: &DocKey) -> Result<Option<Arc<Payload, Global>>, Fault>
@@ -469,7 +493,7 @@ impl Core {
         }
     }
 
-    /// The document of an instance, written anew. Refused as `NotFound` exactly where there is none,
+    /// The document of an instance, joined from its text. Refused as `NotFound` exactly where there is none,
     /// and as `OutOfMemory`.
     pub fn instance(&self, key: &Key, form: Form) -> Result<Arc<Payload, Global>, Fault>
         ensures key { IfOk result (λ p. p.value.key ≡ doc_of_key key.now form) }
@@ -488,7 +512,7 @@ impl Core {
         }
     }
 
-    /// The document of the instance of an id, written anew: of several apps' the one with the least
+    /// The document of the instance of an id, joined from its text: of several apps' the one with the least
     /// app. Refused as `NotFound` exactly where there is none, and as `OutOfMemory`.
     pub fn by_id(&self, id: &str, form: Form) -> Result<Arc<Payload, Global>, Fault>
         ensures key { IfOk result (λ p. (h : List Entry) → registry.StandsFor self.now.registry h → doc_of_id id.now form h ≡ Some p.value.key) }

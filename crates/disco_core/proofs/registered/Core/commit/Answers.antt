@@ -16,10 +16,10 @@ invariant_of-self c =
     let r = c.args.ready in
     let change = ap (λ (x : Prepared). x.change) c.ready.view_is in
     let takes = subst (λ (x : Option Entry). Takes c.self.inside.registry x c.commit.new.self) change c.commit.ensures.takes in
-    tied_after c.self.inside.registry c.commit.new.self r.change c.follow.new.counts c.follow.new.index c.self.inside.leases c.follow.new.book c.self.inside.queue c.remember.new.queue
+    tied_after c.self.inside.registry c.commit.new.self r.change c.follow.new.counts c.follow.new.index c.self.inside.leases c.follow.new.book c.self.inside.queue c.remember.new.queue c.self.inside.texts c.follow.new.texts
     c.self.invariant.few c.self.invariant.leased c.self.invariant.follows takes c.follow.ensures.counts c.follow.ensures.vips
     (leased_by r.change r.key r.renewal r.moment c.self.inside.leases c.follow.new.book c.follow.ensures.leases c.self.inside.registry.held)
-    (c.remember.ensures.version ∙ ap (version_after (version c.self.inside.queue)) (c.ready.invariant.0 ∙ change))
+    (c.remember.ensures.version ∙ ap (version_after (version c.self.inside.queue)) (c.ready.invariant.0 ∙ change)) c.self.invariant.written c.follow.ensures.written
 
 pub returns-clause-history : goal.returns-clause-history
 returns-clause-history c = λ p ask is stands.
@@ -30,6 +30,7 @@ returns-clause-history c = λ p ask is stands.
       registry = c.commit.new.self;
       vips = c.follow.new.index;
       leases = c.follow.new.book;
+      texts = c.follow.new.texts;
       queue = c.remember.new.queue;
       retention = c.self.inside.retention;
       delta = c.self.inside.delta;

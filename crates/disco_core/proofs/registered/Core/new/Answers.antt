@@ -5,7 +5,7 @@ use Rattle.disco_core.proofs.registered.Core.new.Goals as goal
 
 pub invariant_of-result : goal.invariant_of-result
 invariant_of-result c =
-    tied_new c.new.result c.new-2.result c.new-3.result c.new-4.result c.new-5.result c.new.ensures.empty c.new-2.ensures c.new-3.ensures c.new-4.ensures c.new-5.ensures.history
+    tied_new c.new.result c.new-2.result c.new-3.result c.new-4.result c.new-5.result c.new-6.result c.new.ensures.empty c.new-2.ensures c.new-3.ensures c.new-4.ensures c.new-5.ensures.history c.new-6.ensures
 
 pub returns-clause-empty : goal.returns-clause-empty
 returns-clause-empty c = record {
