@@ -1,10 +1,14 @@
 //! Runs the rows that lie where it runs, and compares every byte with what has to come out.
 //!
+//! Each document in them is compared too with one that is joined of the texts of its instances, as
+//! they are made of what it says of each.
+//!
 //! Of a row that is as it has to be the name is printed, of another one where it differs first, and
 //! then the exit status is 1. The README beside `src/` says what
 //! the files of a row hold.
 #![tactic(auto)]
 
+mod anew;
 mod difference;
 mod files;
 mod meanings;
@@ -28,7 +32,8 @@ where
 {
     let row = files::read_row(rt, name)?;
     let came = row::run(rt, &row)?;
-    match difference::first(&row.wanted, &came) {
+    let anew = came.anew(rt.alloc())?;
+    match difference::first(&row.wanted, &came).or(difference::first(&anew, &came)) {
         Some(difference) => {
             difference::write_difference(&mut io::writer(rt), name, &difference)?;
             Ok(false)
