@@ -54,20 +54,6 @@ went_on (Err e) k renewal now old new sets same none count closed = record {
 pub is_set : (k : Key) (o : Option Lease) (old new : Leases) → Sets k o old new → lease_at new k ≡ o
 is_set k o old new sets = sets k ∙ ap (λ b. cond b o (lease_at old k)) (itself k)
 
--- a lease that is set twice
-pub set_twice : (k : Key) (o p : Option Lease) (old mid new : Leases) → Sets k o old mid → Sets k p mid new → Sets k p old new
-set_twice k o p old mid new first then = λ q. then q ∙ ap (cond (same_key q k) p) (first q) ∙ one q (same_key q k)
-  where
-    one : (q : Key) (b : Bool) → cond b p (cond b o (lease_at old q)) ≡ cond b p (lease_at old q)
-    one q true = refl
-    one q false = refl
-
--- a lease that starts and goes on
-pub set_on : (k : Key) (l : Lease) (now : ℕ) (old mid new : Leases) → Sets k (Some l) old mid → Sets k (option_map (extended now) (lease_at mid k)) mid new → Sets k (Some (extended now l)) old new
-set_on k l now old mid new first then =
-    let on = ap (option_map (extended now)) (is_set k (Some l) old mid first) in
-    set_twice k (Some l) (Some (extended now l)) old mid new first (subst (λ (o : Option Lease). Sets k o mid new) on then)
-
 pub on_ok : {A : Type 0} (r : Result A Fault) (P : Type 0) → P → OnOk r P
 on_ok (Ok x) P p = p
 on_ok (Err e) P p = tt

@@ -39,8 +39,7 @@ fn keep_going(leases: &mut LeaseBook, rec: &Record, now: u64)
     ensures renewals { leases.new.renewals ≡ leases.old.renewals }
     ensures closed { leases.new.closed ≡ leases.old.closed }
 {
-    start(leases, rec, now);
-    keep(leases, &rec.key, false, now);
+    leases.register_touched(&rec.key, rec.lease.duration_secs, now);
 }
 
 /// Ends the lease of an instance that goes, and gives back its place.

@@ -74,6 +74,19 @@ impl LeaseBook {
         self.places.put(key, Lease::marked(duration_secs, now));
     }
 
+    /// The key has a new lease of `duration_secs` seconds, whose mark is one duration after `now`, in
+    /// milliseconds: what `register` and then `touch` leave, by one search. Takes no memory.
+    pub fn register_touched(&mut self, key: &Key, duration_secs: u32, now: u64)
+        requires { HasPlace self.old key.now }
+        ensures leases { Sets key.now (Some (extended now (marked duration_secs now))) self.old self.new }
+        ensures others { KeepsOthers key.now self.old self.new }
+        ensures renewals { self.new.renewals ≡ self.old.renewals }
+        ensures closed { self.new.closed ≡ self.old.closed }
+    {
+        let lease = Lease::marked(duration_secs, now);
+        self.places.put(key, lease.extended(now));
+    }
+
     /// The mark of the key's lease is one duration after `now`, in milliseconds, and a renewal is
     /// counted. Refused as `NotFound` exactly where the key has no lease. Takes no memory.
     pub fn renew(&mut self, key: &Key, now: u64) -> Result<(), Fault>
