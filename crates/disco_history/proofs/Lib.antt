@@ -8,6 +8,7 @@ pub mod Restrictions
 mod Runs
 pub mod Sets
 pub mod Slots
+mod Sought
 pub mod Sorted
 pub mod SortedBy
 pub mod Untouched

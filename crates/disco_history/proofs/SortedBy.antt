@@ -207,7 +207,7 @@ module _ {E K X : Type 0} {cmp : K → K → Ordering} (total : IsTotalOrder cmp
   rises (x ∷ hs) (suc i) zero d sorted lt inside = absurd (omega (arith, lt))
   rises (x ∷ hs) (suc i) (suc j) d sorted lt inside = rises hs i j d (both_second _ _ sorted) (omega (arith, lt)) (omega (arith, inside))
 
-  reversed : (a b : K) (o : Ordering) → cmp a b ≡ o → cmp b a ≡ ordering_reverse o
+  pub reversed : (a b : K) (o : Ordering) → cmp a b ≡ o → cmp b a ≡ ordering_reverse o
   reversed a b o e = total.antisymm b a ∙ ap ordering_reverse e
 
   module _ (hs : List E) (k : K) (sorted : AreSorted hs) where

@@ -1,5 +1,5 @@
 -- The hash code: how many records have each status (Eureka's apps__hashcode).
-use Rattle.std.specs.Prelude.{ℕ, ◌+◌, ◌==◌, List, [], ◌∷◌, ◌++◌, count_by, if◌then◌else◌}
+use Rattle.std.specs.Prelude.{ℕ, ◌==◌, List, [], ◌∷◌, ◌++◌, count_by, if◌then◌else◌}
 use Rattle.disco_digits.specs.Digits.{digits}
 use Rattle.disco_instance.specs.Row.{Row}
 use Rattle.disco_values.specs.Status.{is_same, status_name}

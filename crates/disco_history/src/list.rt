@@ -1,23 +1,28 @@
 //! Held records in the order of their keys.
-ghost use Rattle.std.specs.Prelude.{◌≡◌, ◌<◌, ◌≤◌, ◌+◌, IfOk, IfErr, IfSome, OnOk, None, filter, map, option_map};
+ghost use Rattle.std.specs.Prelude.{◌≡◌, ◌<◌, ◌≤◌, ◌+◌, IfOk, IfErr, IfSome, IsTrue, OnOk, None, filter, map, option_map};
 ghost use Rattle.std.specs.FinMap as finmap;
 ghost use Rattle.std.specs.FinMap.{values};
 ghost use Rattle.std.specs.List.{find};
 ghost use Rattle.disco_history.specs.Apps.{is_of_app, is_of_id};
 ghost use Rattle.disco_history.specs.Held.{entry_of, record_at, seen_record};
-ghost use Rattle.disco_history.specs.List.{AreSorted, IsAt, IsGap};
+ghost use Rattle.disco_history.specs.List.{AreSorted, ComesAfter, ComesBefore, IsAt, IsGap};
+ghost use Rattle.std.specs.declared.cmp.Ordering.TheVariants.{Equal, Greater};
 
 use crate::apps::{first_of_id, run_of_app};
 use crate::held::Held;
 use disco_instance::Record;
 use disco_values::{Key, Text};
 use std::alloc::{AllocError, Global};
+use std::cmp::Ordering;
 use std::marker::Model;
 
 /// Held records in the order of their keys, each key once.
 #[derive(Drop)]
 pub struct RecordList {
     records: Vec<Held>,
+    /// The place of the key that was sought last. It is looked at first, so a search may be saved,
+    /// and nothing else depends on it.
+    sought: usize,
 }
 
 impl Model for RecordList {
@@ -38,12 +43,50 @@ impl Model for RecordList {
 }
 
 /// Where the key is, or where it would go, among records in the order of their keys.
-fn place(records: &[Held], key: &Key) -> Result<usize, usize>
+fn search(records: &[Held], key: &Key) -> Result<usize, usize>
     requires { AreSorted records.now }
     ensures found { IfOk result (λ i. IsAt records.now key.now i) }
     ensures absent { IfErr result (λ i. IsGap records.now key.now i) }
 {
     records.binary_search_by(|held| held.rec.key.cmp(key))
+}
+
+/// How the key of the record at a place stands to a key. Where there is none, it counts as greater.
+fn order_at(records: &[Held], key: &Key, i: usize) -> Ordering
+    requires { AreSorted records.now }
+    ensures at { result ≡ Equal → IsAt records.now key.now i }
+    ensures before { result ≡ Greater → ComesBefore records.now key.now i }
+{
+    if i < records.len() {
+        records[i].rec.key.compare(key)
+    } else {
+        Ordering::Greater
+    }
+}
+
+/// Whether there is such a place, and the key comes after the record before it.
+fn is_after(records: &[Held], key: &Key, i: usize) -> bool
+    requires { AreSorted records.now }
+    ensures { IsTrue result → ComesAfter records.now key.now i }
+{
+    if i == 0 {
+        return true;
+    }
+    i <= records.len() && records[i - 1].rec.key.compare(key).is_lt()
+}
+
+/// Where the key is, or where it would go. Where that is the place that was sought last, it is found
+/// by no search.
+fn place(records: &[Held], key: &Key, sought: usize) -> Result<usize, usize>
+    requires { AreSorted records.now }
+    ensures found { IfOk result (λ i. IsAt records.now key.now i) }
+    ensures absent { IfErr result (λ i. IsGap records.now key.now i) }
+{
+    match order_at(records, key, sought) {
+        Ordering::Equal => Ok(sought),
+        Ordering::Greater if is_after(records, key, sought) => Err(sought),
+        _ => search(records, key),
+    }
 }
 
 impl RecordList {
@@ -53,7 +96,19 @@ impl RecordList {
     {
         RecordList {
             records: Vec::new(alloc),
+            sought: 0,
         }
+    }
+
+    /// Seeks the place of a key, so that calls about this key need no search of their own. No answer
+    /// shows it.
+    pub fn seek(&mut self, key: &Key)
+        ensures { self.new ≡ self.old }
+    {
+        self.sought = match search(&self.records, key) {
+            Ok(i) => i,
+            Err(i) => i,
+        };
     }
 
     /// The record of a key.
@@ -61,7 +116,7 @@ impl RecordList {
         ensures found { seen_record result ≡ record_at self.now.held key.now }
         ensures same_key { IfSome result (λ r. r.now.key ≡ key.now) }
     {
-        match place(&self.records, key) {
+        match place(&self.records, key, self.sought) {
             Ok(i) => Some(&*self.records[i].rec),
             Err(_) => None,
         }
@@ -72,7 +127,7 @@ impl RecordList {
         ensures found { option_map (λ h. entry_of h.now) result ≡ finmap.get self.now.held key.now }
         ensures same_key { IfSome result (λ h. h.now.rec.value.key ≡ key.now) }
     {
-        match place(&self.records, key) {
+        match place(&self.records, key, self.sought) {
             Ok(i) => Some(&self.records[i]),
             Err(_) => None,
         }
@@ -129,7 +184,7 @@ impl RecordList {
         ensures held { self.new.held ≡ finmap.insert self.old.held added.rec.value.key (entry_of added) }
         ensures room { self.old.room ≤ self.new.room + 1 }
     {
-        match place(&self.records, &added.rec.key) {
+        match place(&self.records, &added.rec.key, self.sought) {
             Ok(i) => self.records[i] = added,
             Err(i) => self.records.insert(i, added).unwrap(),
         }
@@ -140,7 +195,7 @@ impl RecordList {
         ensures held { self.new.held ≡ finmap.remove self.old.held key.now }
         ensures room { self.old.room ≤ self.new.room }
     {
-        if let Ok(i) = place(&self.records, key) {
+        if let Ok(i) = place(&self.records, key, self.sought) {
             let _ = self.records.remove(i);
         }
     }

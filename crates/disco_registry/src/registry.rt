@@ -231,6 +231,7 @@ impl Registry {
         ensures ready { IfOk result (λ r. accepts self.old (ask_of op) now ≡ Ok r × IsReady self.new r) }
         ensures refused { IfErr result (Refuses self.old (ask_of op) now) }
     {
+        self.seek(op.key());
         match op {
             Op::Register(posted) => self.ready_register(posted, now),
             Op::Cancel(key) => self.ready_cancel(&key, now),
@@ -239,6 +240,14 @@ impl Registry {
             Op::DropStatus(key, text) => self.ready_drop_status(&key, &text, now),
             Op::Metadata(key, entries) => self.ready_metadata(&key, &entries, now),
         }
+    }
+
+    /// Seeks the record of a key once, for all that is asked of the key until its change is made. No
+    /// answer shows it.
+    fn seek(&mut self, key: &Key)
+        ensures { self.new ≡ self.old }
+    {
+        self.records.seek(key);
     }
 
     fn has_no_place(&self, held: Option<&Record>) -> bool

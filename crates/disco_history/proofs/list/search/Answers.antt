@@ -6,7 +6,7 @@ use Rattle.disco_history.proofs.Keys.{keys_total, exact_keys}
 use Rattle.disco_history.specs.Held.{entry_of}
 use Rattle.disco_history.specs.List.{key_in}
 use Rattle.disco_history.proofs.SortedBy.{found, absent}
-use Rattle.disco_history.proofs.list.place.Goals as goal
+use Rattle.disco_history.proofs.list.search.Goals as goal
 
 pub returns-clause-found : goal.returns-clause-found
 returns-clause-found c = found keys_total exact_keys key_in entry_of c.args.records.now c.args.key.now c.binary_search_by.result c.requires c.binary_search_by.ensures.bound
