@@ -1,6 +1,7 @@
 -- What drops of documents come to.
-use Rattle.std.proofs.Common.{◌≡◌, ℕ, Bool, true, false, ◌&&◌, ◌||◌, cond, List, [], ◌∷◌, Option, None, refl, sym, ap, ◌∙◌}
+use Rattle.std.proofs.Common.{◌≡◌, ℕ, Bool, true, false, ◌&&◌, ◌||◌, cond, List, [], ◌∷◌, Option, Some, None, refl, sym, ap, ◌∙◌}
 use Rattle.std.specs.List.{list_any}
+use Rattle.std.specs.Option.{option_map_or}
 use Rattle.std.specs.declared.cmp.Ordering.{Ordering}
 use Rattle.std.specs.declared.cmp.Ordering.TheVariants.{Less, Equal, Greater}
 use Rattle.std.specs.Cmp.Lexicographic.{slice_cmp, nat_list_eq_equiv}
@@ -11,14 +12,14 @@ use Rattle.std.proofs.lemmas.Map.Text.{is_eq-slice_cmp}
 use Rattle.disco_instance.specs.Row.{Row}
 use Rattle.disco_values.specs.declared.form.Form.{Form}
 use Rattle.disco_values.specs.declared.form.Form.TheVariants.{Full, Compact}
-use Rattle.disco_history.specs.Query.{asks_for, vips}
+use Rattle.disco_history.specs.Query.{asks_for, is_named, vips}
 use Rattle.disco_history.proofs.Keys.{same_key-parts, same_key-sym}
 use Rattle.disco_documents.specs.Documents.{asked_by}
 use Rattle.disco_query.specs.declared.query.Query.{Query}
 use Rattle.disco_query.specs.declared.query.Query.TheVariants as query
 use Rattle.disco_cache.specs.Docs.{Docs, Drops}
-use Rattle.disco_query.specs.Keys.{kind_of, names_in, place_of, same_doc}
-use Rattle.disco_cache.specs.Kept.{doc_of, is_of, is_of_any, query_cmp, vip_query}
+use Rattle.disco_query.specs.Keys.{doc_cmp, kind_of, names_in, place_of, same_doc}
+use Rattle.disco_cache.specs.Kept.{AreAskedAlike, doc_of, is_of, is_of_any, query_cmp, vip_query}
 use Rattle.disco_query.specs.declared.key.DocKey.{DocKey}
 use Rattle.disco_query.proofs.Orders.{docs_total, then_then}
 
@@ -40,6 +41,17 @@ alike a b u v same drops = record { docs = λ k. drops.docs k ∙ ap (λ t. cond
 
 pub none : (u : Docs) → Drops (λ k. false) u u
 none u = record { docs = λ k. refl; max = refl }
+
+no_doc : {X : Type 0} (b : Bool) (x : Option X) → x ≡ None → x ≡ cond b None x
+no_doc true x e = e
+no_doc false x e = refl
+
+-- where there is none, whatever is dropped
+pub none_there : (of : DocKey → Bool) (u : Docs) → map.len u.docs ≡ 0 → Drops of u u
+none_there of u empty = record {
+  docs = λ k. no_doc (of k) (map.get u.docs k) (ap (λ m. map.get m k) (map.empty_of_len u.docs empty) ∙ map.get-empty doc_cmp k);
+  max = refl;
+}
 
 -- ---- a query in both forms
 
@@ -141,3 +153,21 @@ asked_at r (query.Instance key) f =
 
 pub asked : (r : Row) (k : DocKey) → is_asked r k ≡ asks_for (asked_by k.query) r
 asked r k = asked_at r k.query k.form
+
+twice_or_once : (b : Bool) → b ≡ (b || b)
+twice_or_once true = refl
+twice_or_once false = refl
+
+-- what a record is asked for by, for one of the same key and vips
+asked_as : (r s : Row) → AreAskedAlike (Some r) (Some s) → (k : DocKey) → asks_for (asked_by k.query) r ≡ asks_for (asked_by k.query) s
+asked_as r s same k =
+    sym (asked r k)
+    ∙ (λ i. is_of query.Apps k || (is_of query.Delta k || (is_of (query.App (same.0 i).app) k || (is_of (query.Instance (same.0 i)) k || (is_of_any false (vips (same.1 i)) k || is_of_any true (vips (same.2 i)) k)))))
+    ∙ asked s k
+
+-- the new record alone, where the old one is asked for by the same queries
+pub one_of_both : (r s : Option Row) (u v : Docs) → AreAskedAlike r s → Drops (λ k. option_map_or (asks_for (asked_by k.query)) s false) u v → Drops (λ k. is_named r s (asked_by k.query)) u v
+one_of_both None s u v same drops = absurd same
+one_of_both (Some r) None u v same drops = absurd same
+one_of_both (Some r) (Some s) u v same drops =
+    alike _ _ u v (λ k. twice_or_once (asks_for (asked_by k.query) s) ∙ (λ i. sym (asked_as r s same k) i || asks_for (asked_by k.query) s)) drops

@@ -1,5 +1,6 @@
 -- Kept documents as they are stored, and what names them. Nothing here is to be believed: no public contract rests on it.
-use Rattle.std.specs.Prelude.{ℕ, Bool, List, if◌then◌else◌}
+use Rattle.std.specs.Prelude.{◌≡◌, ℕ, Bool, List, if◌then◌else◌, Option, Some, None}
+use Rattle.disco_instance.specs.Row.{Row}
 use Rattle.std.specs.List.{list_any}
 use Rattle.std.specs.FinMap.{FinMap}
 use Rattle.std.specs.declared.alloc.Global.{Global}
@@ -68,3 +69,9 @@ vip_query secure vip = if secure then query.Svip vip else query.Vip vip
 -- the key is of one of these vips, or of these secure ones
 abbrev pub is_of_any : Bool → List (List ℕ) → DocKey → Bool
 is_of_any secure vips k = list_any (λ vip. is_of (vip_query secure vip) k) vips
+
+-- two records of one key, with the same vips
+abbrev pub AreAskedAlike : Option Row → Option Row → Type 0
+AreAskedAlike None s = ⊥
+AreAskedAlike (Some r) None = ⊥
+AreAskedAlike (Some r) (Some s) = (r.key ≡ s.key) × (r.vip_address ≡ s.vip_address) × (r.secure_vip_address ≡ s.secure_vip_address)

@@ -1,5 +1,5 @@
 //! The documents that are kept until a change names them.
-ghost use Rattle.std.specs.Prelude.{◌≡◌, ◌≤◌, ◌||◌, IfErr, IfOk, IfSome, OnErr, false, if◌then◌else◌, length, map, nat_lt, option_map};
+ghost use Rattle.std.specs.Prelude.{◌≡◌, ◌≤◌, ◌||◌, IfErr, IfOk, IfSome, IsTrue, OnErr, false, if◌then◌else◌, length, map, nat_lt, option_map};
 ghost use Rattle.std.specs.Option.{option_map_or};
 ghost use Rattle.std.specs.List as list;
 ghost use Rattle.std.specs.FinMap as finmap;
@@ -8,7 +8,7 @@ ghost use Rattle.disco_values.specs.declared.fault.Fault.TheVariants.{OutOfMemor
 ghost use Rattle.disco_history.specs.Query.{asks_for, is_named, vips};
 ghost use Rattle.disco_documents.specs.Documents.{asked_by};
 ghost use Rattle.disco_cache.specs.Docs.{Drops};
-ghost use Rattle.disco_cache.specs.Kept.{AreSorted, IsAt, IsGap, doc_of, is_of, is_of_any, key_in, map_of, query_of};
+ghost use Rattle.disco_cache.specs.Kept.{AreAskedAlike, AreSorted, IsAt, IsGap, doc_of, is_of, is_of_any, key_in, map_of, query_of};
 
 use crate::named::{Named, compare};
 use crate::payload::Payload;
@@ -91,6 +91,20 @@ fn keys_of(docs: &[Arc<Payload, Global>], alloc: Global) -> Result<Vec<&DocKey>,
     Ok(keys)
 }
 
+/// Whether both records have the same key and the same vips, so that the same queries ask for them.
+fn are_asked_alike(old: Option<&Record>, new: Option<&Record>) -> bool
+    ensures { IsTrue result → AreAskedAlike (option_map (λ r. row r.now) old.entry) (option_map (λ r. row r.now) new.entry) }
+{
+    match (old, new) {
+        (Some(old), Some(new)) => {
+            old.key == new.key
+                && old.vip_address == new.vip_address
+                && old.secure_vip_address == new.secure_vip_address
+        }
+        _ => false,
+    }
+}
+
 impl DocCache {
     /// No documents, and room for so many (`--entries`).
     pub fn new(alloc: Global, entries: u64) -> DocCache
@@ -152,6 +166,12 @@ impl DocCache {
     pub fn invalidate(&mut self, old: Option<&Record>, new: Option<&Record>)
         ensures { Drops (λ k. is_named (option_map (λ r. row r.now) old.entry) (option_map (λ r. row r.now) new.entry) (asked_by k.query)) self.old self.new }
     {
+        if self.docs.is_empty() {
+            return;
+        }
+        if are_asked_alike(old, new) {
+            return self.forget_any(new);
+        }
         self.forget_any(old);
         self.forget_any(new);
     }
