@@ -2,3 +2,4 @@ mod KeyLemmas
 pub mod Kept
 pub mod Rows
 pub mod SameRow
+mod Statuses

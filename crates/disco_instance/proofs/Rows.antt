@@ -1,23 +1,35 @@
 -- The member table, member by member and as one row.
-use Rattle.std.proofs.Common.{◌≡◌, List, ℕ, Option, Result, Ok, Err, sym, ap, ◌∙◌}
-use Rattle.serde_json.specs.Data.{Data}
+use Rattle.std.proofs.Common.{◌≡◌, List, [], ℕ, IfOk, Option, option_and_then, unwrap_or, Result, Ok, Err, sym, ap, ◌∙◌}
+use Rattle.serde_json.specs.Data.{Data, Members}
+use Rattle.serde_json.specs.Find.{as_str, get, get_member}
 use Rattle.disco_values.specs.declared.fault.Fault.{Fault}
+use Rattle.disco_instance.specs.declared.parts.Addresses.{Addresses}
+use Rattle.disco_instance.specs.declared.parts.Pages.{Pages}
 use Rattle.disco_instance.specs.declared.record.Record.{Record}
+use Rattle.disco_instance.specs.Members.{text_or_empty}
 use Rattle.disco_instance.specs.Row.{row}
 use Rattle.disco_instance.specs.Instance.{Gives, row_at, if_ok, key_at, told_by}
-use Rattle.disco_instance.specs.Steps.{Says, IfSays}
+use Rattle.disco_instance.specs.Steps.{HasTexts, SaysRest, SaysTexts, with_texts}
+use Rattle.disco_instance.specs.Taking.{text_in}
 
-pub same_rows : (d : Data) (r : Record) → Says d r → row r ≡ row_at d r.key
+-- the text at a name among the members of a value
+pub at_name : (ms : Members) (d : Data) → ((q : List ℕ) → get_member q ms ≡ get q d) → (name : List ℕ) → text_in ms name ≡ text_or_empty name d
+at_name ms d same name = ap (λ o. unwrap_or (option_and_then as_str o) []) (same name)
+
+abbrev SaysBoth : Data → Pages → Addresses → Type 0
+SaysBoth d p a = SaysTexts (λ name. text_or_empty name d) p a
+
+pub same_rows : (d : Data) (r : Record) (p : Pages) (a : Addresses) → SaysRest d r → SaysBoth d p a → with_texts (row r) p a ≡ row_at d r.key
 unfolding row_at
-same_rows d r s = λ i. record {
+same_rows d r p a s t = λ i. record {
   key = r.key;
   country_id = s.country i;
   data_center = s.data_center i;
-  health_check_url = s.health_check_url i;
-  home_page_url = s.home_page_url i;
-  status_page_url = s.status_page_url i;
-  host_name = s.host_name i;
-  ip_addr = s.ip_addr i;
+  health_check_url = t.health_check_url i;
+  home_page_url = t.home_page_url i;
+  status_page_url = t.status_page_url i;
+  host_name = t.host_name i;
+  ip_addr = t.ip_addr i;
   is_coordinating = s.is_coordinating i;
   last_dirty = s.last_dirty i;
   last_updated = s.last_updated i;
@@ -26,11 +38,27 @@ same_rows d r s = λ i. record {
   overridden_status = s.overridden_status i;
   port = s.port i;
   secure_port = s.secure_port i;
-  secure_vip_address = s.secure_vip_address i;
-  vip_address = s.vip_address i;
+  secure_vip_address = t.secure_vip_address i;
+  vip_address = t.vip_address i;
   status = s.status i;
 }
 
-pub told : (within : Option (List ℕ)) (d : Data) (r : Result Record Fault) → IfSays d r → Gives (λ x. x.key) r (key_at within d) → Gives row r (told_by within d)
-told within d (Ok r) s k = ap (λ o. if_ok o (λ q. Ok (row_at d q))) k ∙ ap Ok (sym (same_rows d r s))
-told within d (Err e) s k = λ other. ap (λ o. if_ok o (λ q. Ok (row_at d q))) (k other)
+has_them : (r : Record) (p : Pages) (a : Addresses) → HasTexts p a r → row r ≡ with_texts (row r) p a
+has_them r p a h = λ i. record (row r) {
+  health_check_url = h.health_check_url i;
+  home_page_url = h.home_page_url i;
+  status_page_url = h.status_page_url i;
+  host_name = h.host_name i;
+  ip_addr = h.ip_addr i;
+  secure_vip_address = h.secure_vip_address i;
+  vip_address = h.vip_address i;
+}
+
+pub told : (within : Option (List ℕ)) (d : Data) (p : Pages) (a : Addresses) (r : Result Record Fault)
+    → SaysBoth d p a → IfOk r (λ x. SaysRest d x) → IfOk r (λ x. HasTexts p a x) → Gives (λ x. x.key) r (key_at within d) → Gives row r (told_by within d)
+told within d p a (Ok r) t s h k = ap (λ o. if_ok o (λ q. Ok (row_at d q))) k ∙ ap Ok (sym (has_them r p a h ∙ same_rows d r p a s t))
+told within d p a (Err e) t s h k = λ other. ap (λ o. if_ok o (λ q. Ok (row_at d q))) (k other)
+
+-- a record whose pages and addresses come later
+pub told_later : (within : Option (List ℕ)) (d : Data) (p : Pages) (a : Addresses) (r new : Record) → SaysBoth d p a → SaysRest d r → key_at within d ≡ Ok r.key → row new ≡ with_texts (row r) p a → told_by within d ≡ Ok (row new)
+told_later within d p a r new t s k is = ap (λ o. if_ok o (λ q. Ok (row_at d q))) k ∙ ap Ok (sym (is ∙ same_rows d r p a s t))

@@ -6,3 +6,4 @@ pub mod Moments
 pub mod Row
 pub mod Since
 pub mod Steps
+pub mod Taking

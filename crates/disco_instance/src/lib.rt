@@ -13,6 +13,7 @@ mod parts;
 mod port;
 mod reading;
 mod record;
+mod taking;
 
 pub use data_center::DataCenter;
 pub use disco_values::{
@@ -24,3 +25,4 @@ pub use members::{non_empty_member, text_member, whole};
 pub use port::Port;
 pub use reading::action_from_value;
 pub use record::Record;
+pub use taking::members_of;

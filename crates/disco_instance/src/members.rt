@@ -1,6 +1,9 @@
 //! Members of one kind in a JSON value. A member of another kind counts as absent.
 ghost use Rattle.std.specs.Prelude.{◌≡◌, ◌≤◌, IfOk, option_map, unwrap_or};
 ghost use Rattle.serde_json.specs.View.{view};
+ghost use Rattle.disco_values.specs.Status.{status_named};
+ghost use Rattle.disco_values.specs.Text.{in_upper_case};
+ghost use Rattle.disco_values.specs.declared.status.Status.TheVariants.{Unknown};
 ghost use Rattle.disco_instance.specs.Members.{as_flag, as_whole, flag_at, non_empty_at, number_at, override_at, port_at, status_at, text_at, text_or_empty};
 
 use crate::port::Port;
@@ -87,6 +90,18 @@ pub(crate) fn port_member(value: &Value, name: &str, number: u16, enabled: bool)
     }
 }
 
+/// The status of a name in any case, Unknown where there is none. The exact name takes no memory.
+#[tactic(auto, using(crate::proofs::Statuses::named_exactly))]
+fn status_in_any_case(alloc: Global, text: &str) -> Result<Status, AllocError>
+    ensures { IfOk result (λ s. s ≡ unwrap_or (status_named (in_upper_case text.now)) Unknown) }
+{
+    if let Some(status) = status_of(text) {
+        return Ok(status);
+    }
+    let text = upper_text(alloc, text)?;
+    Ok(status_of(text.as_str()).unwrap_or(Status::Unknown))
+}
+
 /// The status at a name, in any case, where a text stands there.
 pub(crate) fn status_member(
     alloc: Global,
@@ -97,10 +112,7 @@ pub(crate) fn status_member(
     ensures { IfOk result (λ s. s ≡ status_at name.now default (view value.now)) }
 {
     match text_member(value, name) {
-        Some(text) => {
-            let text = upper_text(alloc, text)?;
-            Ok(status_of(text.as_str()).unwrap_or(Status::Unknown))
-        }
+        Some(text) => status_in_any_case(alloc, text),
         None => Ok(default),
     }
 }

@@ -1,12 +1,14 @@
 //! The parts of a record that are copied, and read, together.
 ghost use Rattle.std.specs.Prelude.{◌≡◌, codes, IfOk};
-ghost use Rattle.serde_json.specs.View.{view};
+ghost use Rattle.serde_json.specs.View.{members_view, view};
 ghost use Rattle.disco_instance.specs.Members.{text_or_empty};
+ghost use Rattle.disco_instance.specs.Taking.{text_in};
 
 use crate::members::text_or_empty;
 use crate::record::Record;
+use crate::taking::taken_text;
 use disco_values::Text;
-use serde_json::Value;
+use serde_json::{Map, Value};
 use std::alloc::{AllocError, Global};
 
 /// The pages of an instance.
@@ -40,6 +42,14 @@ impl Pages {
             home_page_url: text_or_empty(alloc, value, "homePageUrl")?,
             status_page_url: text_or_empty(alloc, value, "statusPageUrl")?,
         })
+    }
+
+    pub(crate) fn empty(alloc: Global) -> Pages {
+        Pages {
+            health_check_url: Text::empty(alloc),
+            home_page_url: Text::empty(alloc),
+            status_page_url: Text::empty(alloc),
+        }
     }
 }
 
@@ -80,4 +90,38 @@ impl Addresses {
             vip_address: text_or_empty(alloc, value, "vipAddress")?,
         })
     }
+
+    pub(crate) fn empty(alloc: Global) -> Addresses {
+        Addresses {
+            host_name: Text::empty(alloc),
+            ip_addr: Text::empty(alloc),
+            secure_vip_address: Text::empty(alloc),
+            vip_address: Text::empty(alloc),
+        }
+    }
+}
+
+/// The pages and the addresses among the members of an instance, whose texts are moved out. Takes no
+/// memory.
+pub(crate) fn taken(alloc: Global, members: &mut Map<String, Value>) -> (Pages, Addresses)
+    ensures health { result.0.health_check_url ≡ text_in (members_view members.old.entries) (codes "healthCheckUrl") }
+    ensures home { result.0.home_page_url ≡ text_in (members_view members.old.entries) (codes "homePageUrl") }
+    ensures status { result.0.status_page_url ≡ text_in (members_view members.old.entries) (codes "statusPageUrl") }
+    ensures host { result.1.host_name ≡ text_in (members_view members.old.entries) (codes "hostName") }
+    ensures ip { result.1.ip_addr ≡ text_in (members_view members.old.entries) (codes "ipAddr") }
+    ensures secure_vip { result.1.secure_vip_address ≡ text_in (members_view members.old.entries) (codes "secureVipAddress") }
+    ensures vip { result.1.vip_address ≡ text_in (members_view members.old.entries) (codes "vipAddress") }
+{
+    let pages = Pages {
+        health_check_url: taken_text(alloc, members, "healthCheckUrl"),
+        home_page_url: taken_text(alloc, members, "homePageUrl"),
+        status_page_url: taken_text(alloc, members, "statusPageUrl"),
+    };
+    let addresses = Addresses {
+        host_name: taken_text(alloc, members, "hostName"),
+        ip_addr: taken_text(alloc, members, "ipAddr"),
+        secure_vip_address: taken_text(alloc, members, "secureVipAddress"),
+        vip_address: taken_text(alloc, members, "vipAddress"),
+    };
+    (pages, addresses)
 }

@@ -1,9 +1,9 @@
 //! A record from a JSON value.
-ghost use Rattle.std.specs.Prelude.{◌≡◌, ◌<◌, ◌^◌, codes, IfOk};
+ghost use Rattle.std.specs.Prelude.{◌≡◌, ◌<◌, ◌^◌, codes, IfOk, None, option_map};
 ghost use Rattle.std.specs.Option.{option_copied};
 ghost use Rattle.serde_json.specs.View.{view};
-ghost use Rattle.disco_instance.specs.Instance.{Gives, action_at, data_center_at, key_at, lease_at, told_by};
-ghost use Rattle.disco_instance.specs.Steps.{IsRecordLease, Says};
+ghost use Rattle.disco_instance.specs.Instance.{Gives, action_at, data_center_at, id_at, key_at, lease_at, told_by};
+ghost use Rattle.disco_instance.specs.Steps.{HasTexts, IsRecordLease, SaysRest, with_texts};
 ghost use Rattle.disco_instance.specs.Members.{inner_at, number_at};
 ghost use Rattle.disco_instance.specs.Row.{row};
 
@@ -14,17 +14,27 @@ use crate::members::{
     text_member,
 };
 use crate::metadata::entries_member;
-use crate::parts::{Addresses, Pages};
+use crate::parts::{Addresses, Pages, taken};
 use crate::record::Record;
+use crate::taking::members_of;
 use disco_values::{Action, Fault, Field, Key, Status, Text, action_of, upper_text};
 use serde_json::Value;
 use std::alloc::{AllocError, Global};
 
+/// The id, for which the name of the host stands where there is none.
+fn id_member(value: &Value) -> Option<&str>
+    ensures { option_map (λ s. s.now) result ≡ id_at (view value.now) }
+{
+    match non_empty_member(value, "instanceId") {
+        Some(id) => Some(id),
+        None => non_empty_member(value, "hostName"),
+    }
+}
+
 fn key_from_value(alloc: Global, value: &Value, within: Option<&str>) -> Result<Key, Fault>
     ensures { Gives (λ k. k) result (key_at (option_copied within.entry) (view value.now)) }
 {
-    let Some(id) = non_empty_member(value, "instanceId").or(non_empty_member(value, "hostName"))
-    else {
+    let Some(id) = id_member(value) else {
         return Err(Fault::MissingField(Field::InstanceId));
     };
     let app = match non_empty_member(value, "app") {
@@ -101,14 +111,20 @@ pub fn action_from_value(value: &Value) -> Option<Action>
     action_of(text_member(value, "actionType")?)
 }
 
-fn read_record(alloc: Global, value: &Value, within: Option<&str>) -> Result<Record, Fault>
-    ensures table { IfOk result (λ r. Says (view value.now) r) }
+/// The record that a value says, but for its pages and addresses, which are given.
+fn read_record(
+    alloc: Global,
+    value: &Value,
+    within: Option<&str>,
+    pages: Pages,
+    addresses: Addresses,
+) -> Result<Record, Fault>
+    ensures table { IfOk result (λ r. SaysRest (view value.now) r) }
+    ensures texts { IfOk result (λ r. HasTexts pages addresses r) }
     ensures key { Gives (λ r. r.key) result (key_at (option_copied within.entry) (view value.now)) }
 {
     let key = key_from_value(alloc, value, within)?;
     let data_center = data_center_member(alloc, value)?;
-    let pages = Pages::read(alloc, value)?;
-    let addresses = Addresses::read(alloc, value)?;
     let overridden_status = override_member(alloc, value)?;
     let status = status_member(alloc, value, "status", Status::Up)?;
     let metadata = entries_member(alloc, value, "metadata")?;
@@ -136,6 +152,21 @@ fn read_record(alloc: Global, value: &Value, within: Option<&str>) -> Result<Rec
     })
 }
 
+/// The record with these pages and addresses.
+fn with_texts(rec: Record, pages: Pages, addresses: Addresses) -> Record
+    ensures { row result ≡ with_texts (row rec) pages addresses }
+{
+    let mut new = rec;
+    new.health_check_url = pages.health_check_url;
+    new.home_page_url = pages.home_page_url;
+    new.status_page_url = pages.status_page_url;
+    new.host_name = addresses.host_name;
+    new.ip_addr = addresses.ip_addr;
+    new.secure_vip_address = addresses.secure_vip_address;
+    new.vip_address = addresses.vip_address;
+    new
+}
+
 impl Record {
     /// The record that a JSON value says, within an application of that name. Refused as
     /// `MissingField` for no id and else for no app, and as `OutOfMemory`.
@@ -143,6 +174,25 @@ impl Record {
     pub fn from_value(alloc: Global, value: &Value, within: Option<&str>) -> Result<Record, Fault>
         ensures { Gives row result (told_by (option_copied within.entry) (view value.now)) }
     {
-        read_record(alloc, value, within)
+        let pages = Pages::read(alloc, value)?;
+        let addresses = Addresses::read(alloc, value)?;
+        read_record(alloc, value, within, pages, addresses)
+    }
+
+    /// The record that a JSON value says, outside of an application, as [`Record::from_value`] gives
+    /// it. The texts of its pages and addresses are moved out of the value, and not copied.
+    pub fn from_owned(alloc: Global, value: Value) -> Result<Record, Fault>
+        ensures { Gives row result (told_by None (view value)) }
+    {
+        let rec = read_record(
+            alloc,
+            &value,
+            None,
+            Pages::empty(alloc),
+            Addresses::empty(alloc),
+        )?;
+        let mut members = members_of(alloc, value);
+        let (pages, addresses) = taken(alloc, &mut members);
+        Ok(with_texts(rec, pages, addresses))
     }
 }

@@ -6,7 +6,7 @@ ghost use Rattle.disco_instance.specs.Members.{inner_at, non_empty_at};
 ghost use Rattle.disco_instance.specs.Row.{row};
 ghost use Rattle.disco_wire.specs.Registration.{missing_in, registered_by, registration_in, registration_of};
 
-use crate::tree::{object_member, tree_of};
+use crate::tree::{object_of, tree_of};
 use disco_instance::{Record, non_empty_member};
 use disco_values::{Fault, Field};
 use serde_json::Value;
@@ -20,24 +20,24 @@ pub fn read_registration(alloc: Global, bytes: &[u8]) -> Result<Record, Fault>
     ensures { Gives row result (registration_of bytes.now) }
 {
     let tree = tree_of(alloc, bytes)?;
-    registration_from_tree(alloc, &tree)
+    registration_from_tree(alloc, tree)
 }
 
-fn registration_from_tree(alloc: Global, tree: &Value) -> Result<Record, Fault>
-    ensures { Gives row result (registration_in (view tree.now)) }
+fn registration_from_tree(alloc: Global, tree: Value) -> Result<Record, Fault>
+    ensures { Gives row result (registration_in (view tree)) }
 {
-    match object_member(tree, "instance") {
+    match object_of(alloc, tree, "instance") {
         Some(instance) => registered(alloc, instance),
         None => Err(Fault::BadJson),
     }
 }
 
-fn registered(alloc: Global, instance: &Value) -> Result<Record, Fault>
-    ensures { Gives row result (registered_by (missing_in (view instance.now)) (view instance.now)) }
+fn registered(alloc: Global, instance: Value) -> Result<Record, Fault>
+    ensures { Gives row result (registered_by (missing_in (view instance)) (view instance)) }
 {
-    match missing_member(instance) {
+    match missing_member(&instance) {
         Some(field) => Err(Fault::MissingField(field)),
-        None => Record::from_value(alloc, instance, None),
+        None => Record::from_owned(alloc, instance),
     }
 }
 
