@@ -1,4 +1,1 @@
-pub mod Doors
-pub mod Draining
-pub mod Ending
 pub mod Serving

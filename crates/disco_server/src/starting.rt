@@ -3,9 +3,9 @@ ghost use Rattle.std.specs.Prelude.{◌≡◌, ◌⊎◌, IfErr};
 ghost use Rattle.disco_values.specs.declared.fault.Fault.TheVariants.{OutOfMemory, ReadFailed};
 
 use crate::desk_service::Shop;
-use crate::door::{Door, Refusal};
 use crate::gate::Gate;
 use crate::worker::{Worker, work};
+use disco_connections::{Door, Refusal};
 use disco_editions::Naming;
 use disco_message::Limits;
 use disco_press::{Desk, Seat};
@@ -14,8 +14,8 @@ use disco_values::Fault;
 use std::alloc::{AllocError, Global};
 use std::net::TcpListener;
 use std::sync::{Mutex, Wait};
-use std::thread;
 use std::thread::Threads;
+use std::{rt, thread};
 
 /// A worker for each seat.
 fn workers_for<'a, J: Naming, R, C: Clock + Copy, G>(
@@ -42,7 +42,7 @@ fn run<J, R, C, G>(
 )
 where
     J: Naming + Send + Sync,
-    R: Threads + Wait + Sync,
+    R: Threads + Wait + rt::Clock + Sync,
     C: Clock + Copy + Send,
     G: Gate + Sync,
 {
@@ -67,8 +67,8 @@ where
 ///
 /// Refused as `OutOfMemory` and as `ReadFailed`, once all workers have ended. Where the host refuses a
 /// worker, or there is no memory before they begin, none takes a connection; where it refuses a
-/// connection, or one of them finds no memory for its router, no more is taken, and those that were
-/// taken are served to their end.
+/// connection for good, or one of them finds no memory for its router, no more is taken, and those that
+/// were taken are served to their end.
 pub fn start<'a, J, R, C, G>(
     rt: &'a R,
     alloc: Global,
@@ -82,7 +82,7 @@ pub fn start<'a, J, R, C, G>(
 ) -> Result<(), Fault>
 where
     J: Naming + Send + Sync,
-    R: Threads + Wait + Sync,
+    R: Threads + Wait + rt::Clock + Sync,
     C: Clock + Copy + Send,
     G: Gate + Sync,
     ensures { IfErr result (λ fault. (fault ≡ OutOfMemory) ⊎ (fault ≡ ReadFailed)) }

@@ -1,9 +1,7 @@
 //! A worker, which serves one connection after another.
-use crate::attending::{Buffers, attend};
 use crate::desk_service::{DeskService, Shop};
-use crate::door::{Door, Refusal};
 use crate::gate::Gate;
-use crate::taking::next_connection;
+use disco_connections::{Buffers, Door, Refusal, attend, next_connection};
 use disco_editions::Naming;
 use disco_message::Limits;
 use disco_press::Seat;
@@ -11,6 +9,7 @@ use disco_routes::Routes;
 use disco_timers::Clock;
 use std::alloc::{AllocError, Global};
 use std::net::TcpListener;
+use std::rt;
 use std::sync::{Mutex, Wait};
 
 /// What a worker goes to its thread with.
@@ -44,7 +43,7 @@ impl<'a, J: Naming, R, C, G> Worker<'a, J, R, C, G> {
 }
 
 /// Serves one connection after another, until the door is shut.
-fn serve_all<J: Naming, R: Wait, C: Clock + Copy, G: Gate>(
+fn serve_all<J: Naming, R: Wait + rt::Clock, C: Clock + Copy, G: Gate>(
     rt: &R,
     alloc: Global,
     listener: &TcpListener,
@@ -63,7 +62,7 @@ fn serve_all<J: Naming, R: Wait, C: Clock + Copy, G: Gate>(
 
 /// Takes one connection after another through the door and serves it, until the door is shut. Shuts
 /// it where there is no memory for the worker's router.
-pub(crate) fn work<J: Naming, R: Wait, C: Clock + Copy, G: Gate>(
+pub(crate) fn work<J: Naming, R: Wait + rt::Clock, C: Clock + Copy, G: Gate>(
     rt: &R,
     alloc: Global,
     listener: &TcpListener,

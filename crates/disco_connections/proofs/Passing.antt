@@ -1,7 +1,7 @@
 -- What is gone past, read by read.
 use Rattle.std.proofs.Common.{arith, length-append, rules, ℕ, ◌+◌, ◌≤◌, List, [], ◌++◌, Option}
 use Rattle.disco_reader.proofs.Known.{Consumes-none, Consumes-then}
-use Rattle.disco_server.specs.Draining.{GoesPast}
+use Rattle.disco_connections.specs.Draining.{GoesPast}
 
 -- nothing is gone past yet
 pub nothing_gone : (a : Option (List ℕ)) → GoesPast 0 0 a a

@@ -6,7 +6,7 @@ use disco_values::Fault;
 
 /// Why no more connections are taken.
 #[derive(Clone, Copy, Debug)]
-pub(crate) enum Refusal {
+pub enum Refusal {
     /// A worker found no memory.
     NoMemory,
     /// The host refused a connection or a worker.
@@ -15,7 +15,7 @@ pub(crate) enum Refusal {
 
 /// How many connections were taken, and whether more may be.
 #[derive(Debug, Drop)]
-pub(crate) struct Door {
+pub struct Door {
     /// How many connections may be taken, where it isn't 0.
     most: u64,
     taken: u64,
@@ -24,10 +24,10 @@ pub(crate) struct Door {
 }
 
 impl Door {
-    ghost use Rattle.disco_server.specs.Doors.{IsOpen, fault_of};
+    ghost use Rattle.disco_connections.specs.Doors.{IsOpen, fault_of};
 
     /// A door for so many connections, and for any number where that is 0.
-    pub(crate) fn new(most: u64) -> Door
+    pub fn new(most: u64) -> Door
         ensures most { result.most ≡ most }
         ensures taken { result.taken ≡ 0 }
         ensures open { result.refused ≡ None }
@@ -57,14 +57,14 @@ impl Door {
     }
 
     /// From now on no connection is taken, since one was refused, or a worker.
-    pub(crate) fn refuse(&mut self, refusal: Refusal)
+    pub fn refuse(&mut self, refusal: Refusal)
         ensures { self.new ≡ record self.old { refused = Some refusal } }
     {
         self.refused = Some(refusal);
     }
 
     /// Why connections were refused, if they were: `OutOfMemory` or `ReadFailed`.
-    pub(crate) fn outcome(&self) -> Result<(), Fault>
+    pub fn outcome(&self) -> Result<(), Fault>
         ensures refused { MatchResult result (λ _. self.now.refused ≡ None) (λ e. option_map fault_of self.now.refused ≡ Some e) }
         ensures fault { IfErr result (λ fault. (fault ≡ OutOfMemory) ⊎ (fault ≡ ReadFailed)) }
     {

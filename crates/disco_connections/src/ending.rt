@@ -1,6 +1,6 @@
 //! How a connection ends.
 ghost use Rattle.std.specs.Prelude.{◌≡◌};
-ghost use Rattle.disco_server.specs.Ending.{has_last_reply};
+ghost use Rattle.disco_connections.specs.Ending.{has_last_reply};
 
 use crate::draining::drain;
 use disco_http::End;

@@ -2,9 +2,9 @@
 use Rattle.std.specs.Prelude.{◌≡◌, ◌<◌, ◌⊎◌, None}
 use Rattle.disco_values.specs.declared.fault.Fault.{Fault}
 use Rattle.disco_values.specs.declared.fault.Fault.TheVariants.{OutOfMemory, ReadFailed}
-use Rattle.disco_server.specs.declared.door.Door.{Door}
-use Rattle.disco_server.specs.declared.door.Refusal.{Refusal}
-use Rattle.disco_server.specs.declared.door.Refusal.TheVariants.{NoMemory, ByHost}
+use Rattle.disco_connections.specs.declared.door.Door.{Door}
+use Rattle.disco_connections.specs.declared.door.Refusal.{Refusal}
+use Rattle.disco_connections.specs.declared.door.Refusal.TheVariants.{NoMemory, ByHost}
 
 -- as what a refusal is told
 abbrev pub fault_of : Refusal → Fault

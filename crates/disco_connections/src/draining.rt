@@ -2,7 +2,7 @@
 ghost use Rattle.std.specs.Prelude.{◌≡◌, ◌⊎◌, IsFalse, IsTrue};
 ghost use Rattle.std.specs.Io.KnownBytes.{IsAtEnd};
 ghost use Rattle.disco_reader.specs.Causes.{Raises};
-ghost use Rattle.disco_server.specs.Draining.{GoesPast};
+ghost use Rattle.disco_connections.specs.Draining.{GoesPast};
 
 use disco_reader::{Failed, Source};
 

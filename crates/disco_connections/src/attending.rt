@@ -21,7 +21,7 @@ const WRITE_SECS: u64 = 30;
 
 /// The buffers of a worker, which go from connection to connection.
 #[derive(Drop)]
-pub(crate) struct Buffers {
+pub struct Buffers {
     reader: Reader<Counted<Empty>>,
     writer: Writer<Counted<Empty>>,
     ghost fresh: { IsFalse (is_spent reader) },
@@ -29,7 +29,7 @@ pub(crate) struct Buffers {
 
 impl Buffers {
     /// Buffers for connections within these limits.
-    pub(crate) fn new(alloc: Global, limits: Limits) -> Result<Buffers, AllocError> {
+    pub fn new(alloc: Global, limits: Limits) -> Result<Buffers, AllocError> {
         Ok(Buffers {
             reader: Reader::new(alloc, Counted::new(io::empty()), limits)?,
             writer: Writer::new(alloc, Counted::new(io::empty()))?,
@@ -63,7 +63,7 @@ fn converse<S: Service>(
 
 /// Answers the requests of a connection and ends it. One that the host doesn't let be prepared is
 /// left as it is.
-pub(crate) fn attend<S: Service>(
+pub fn attend<S: Service>(
     alloc: Global,
     buffers: Buffers,
     stream: &TcpStream,

@@ -1,6 +1,6 @@
 use Rattle.std.proofs.Common.{arith, rules, ◌*◌}
-use Rattle.disco_server.proofs.Passing.{gone_on, gone_within}
-use Rattle.disco_server.proofs.draining.drain.Goals as goal
+use Rattle.disco_connections.proofs.Passing.{gone_on, gone_within}
+use Rattle.disco_connections.proofs.draining.drain.Goals as goal
 
 pub returns-then-not-drain_piece-clause-within : goal.returns-then-not-drain_piece-clause-within
 returns-then-not-drain_piece-clause-within g c =

@@ -1,35 +1,22 @@
 //! How a worker takes its next connection.
 ghost use Rattle.std.specs.Prelude.{◌≡◌, ◌⊎◌, ◌+◌, ◌-◌, ◌^◌, IfSome, IsNone, Some, min};
-ghost use Rattle.disco_server.specs.Doors.{IsOpen};
-ghost use Rattle.disco_server.specs.declared.door.Refusal.TheVariants.{ByHost};
+ghost use Rattle.disco_connections.specs.Doors.{IsOpen};
+ghost use Rattle.disco_connections.specs.declared.door.Refusal.TheVariants.{ByHost};
 
+use crate::accepting::accept;
 use crate::door::{Door, Refusal};
 use disco_reader::Failed;
-use std::io::ErrorKind;
 use std::net::OpenListener;
+use std::rt;
 use std::sync::{Mutex, Wait};
-
-/// An accept that is interrupted, or whose connection is gone again, is tried again, so often at
-/// most.
-const TURNS: u64 = 1 << 32;
-
-/// The next connection, as soon as there is one. Fails where the host refuses it.
-fn accept<L: OpenListener>(listener: &L) -> Result<L::Stream, Failed> {
-    for _ in 0..TURNS {
-        match listener.accept() {
-            Ok((stream, _)) => return Ok(stream),
-            Err(error) => match error.kind() {
-                ErrorKind::Interrupted | ErrorKind::ConnectionAborted => {}
-                _ => break,
-            },
-        }
-    }
-    Err(Failed)
-}
 
 /// Takes the next connection through an open door, with its number. None where the door is shut, and
 /// where the host refuses a connection, which shuts it.
-fn admit<L: OpenListener>(listener: &L, door: &mut Door) -> Option<(L::Stream, u64)>
+fn admit<L: OpenListener, R: rt::Clock>(
+    rt: &R,
+    listener: &L,
+    door: &mut Door,
+) -> Option<(L::Stream, u64)>
     ensures open { IfSome result (λ _. IsOpen door.old) }
     ensures number { IfSome result (λ r. (r.1 ≡ min (door.old.taken + 1) (2 ^ 64 - 1)) × (door.new ≡ record door.old { taken = r.1 })) }
     ensures shut { IsNone result → ((IsOpen door.old → ⊥) × (door.new ≡ door.old)) ⊎ (IsOpen door.old × (door.new ≡ record door.old { refused = Some ByHost })) }
@@ -37,7 +24,7 @@ fn admit<L: OpenListener>(listener: &L, door: &mut Door) -> Option<(L::Stream, u
     if !door.is_open() {
         return None;
     }
-    match accept(listener) {
+    match accept(rt, listener) {
         Ok(stream) => Some((stream, door.take())),
         Err(Failed) => {
             door.refuse(Refusal::ByHost);
@@ -46,11 +33,12 @@ fn admit<L: OpenListener>(listener: &L, door: &mut Door) -> Option<(L::Stream, u
     }
 }
 
-/// Waits for the worker before it to have its connection, and takes the next one.
-pub(crate) fn next_connection<L: OpenListener, R: Wait>(
+/// Waits for the workers before it to have their connections, and takes the next one, with its
+/// number from 1. None where no connection more is taken.
+pub fn next_connection<L: OpenListener, R: Wait + rt::Clock>(
     rt: &R,
     listener: &L,
     door: &Mutex<Door>,
 ) -> Option<(L::Stream, u64)> {
-    admit(listener, &mut *door.lock(rt))
+    admit(rt, listener, &mut *door.lock(rt))
 }

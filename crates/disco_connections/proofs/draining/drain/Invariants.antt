@@ -1,6 +1,6 @@
 use Rattle.std.proofs.Common.{◌*◌, ◌≡◌}
-use Rattle.disco_server.specs.Draining.{GoesPast}
-use Rattle.disco_server.proofs.draining.drain.Given as goal
+use Rattle.disco_connections.specs.Draining.{GoesPast}
+use Rattle.disco_connections.proofs.draining.drain.Given as goal
 
 abbrev pub invariant-loop : goal.invariant-loop
 invariant-loop g l = record {

@@ -1,8 +1,0 @@
-//! Listening on this host.
-use std::io;
-use std::net::{Ipv4Addr, Net, SocketAddr, TcpListener};
-
-/// A listener on a port of 127.0.0.1; on a free one where it is 0.
-pub fn listen<N: Net>(rt: &N, port: u16) -> io::Result<N::Listener> {
-    TcpListener::bind(rt, SocketAddr::from((Ipv4Addr::LOCALHOST, port)))
-}
