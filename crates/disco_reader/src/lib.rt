@@ -13,4 +13,4 @@ mod taking;
 
 pub use reader::Reader;
 pub use replies::ReceivedReply;
-pub use source::{Counted, Failed, Sink, Source};
+pub use source::{Counted, Failed, Sink, Source, Stage};

@@ -8,7 +8,7 @@ ghost use Rattle.disco_reader.specs.Causes.{Cause, is_of_reply, is_of_request};
 
 use crate::looking::{Found, Part};
 use crate::reader::Reader;
-use crate::source::Source;
+use crate::source::{Source, Stage};
 use disco_message::{Framing, Head, HeadRoom, Request};
 use disco_values::Fault;
 use httparse::spans::RequestSpans;
@@ -98,6 +98,15 @@ impl<R: Source> Reader<R> {
     ghost use Rattle.disco_reader.specs.Requests.{HasNone, Takes, Refused};
     ghost use Rattle.disco_reader.specs.Streams.{ahead, limits_of, source_of, is_spent, Came};
 
+    /// What was read of the next request.
+    fn stage(&self) -> Stage {
+        if self.start == self.end {
+            Stage::Between
+        } else {
+            Stage::Head
+        }
+    }
+
     /// Reads a request, refused or not.
     fn try_request(&mut self, alloc: Global) -> Result<Option<Request>, Fault>
         ensures request { IfOk result (λ found. IfSome found (λ request. IfSome (ahead R.remaining self.old) (λ stream.
@@ -115,6 +124,7 @@ impl<R: Source> Reader<R> {
         };
         let mut empty = mem::replace(&mut self.body, Vec::new(alloc));
         empty.clear();
+        self.source.expect(Stage::Body);
         let body = self.read_body(empty, head.framing())?;
         Ok(Some(Request::new(head, body)))
     }
@@ -140,6 +150,7 @@ impl<R: Source> Reader<R> {
         ensures none_failed { OnOk result (R.failed (source_of self.new) ≡ R.failed (source_of self.old)) }
         ensures spent { is_spent self.new ≡ is_err result }
     {
+        self.source.expect(self.stage());
         let result = self.try_request(alloc);
         self.spent = result.is_err();
         result

@@ -13,6 +13,17 @@ pub struct Failed;
 /// A read or a write that is interrupted is tried again, so often at most.
 const TURNS: u64 = 1 << 32;
 
+/// What has come of the message that is read next.
+#[derive(Clone, Copy, Debug, PartialEq, Eq)]
+pub enum Stage {
+    /// Nothing of it: the last one is over.
+    Between,
+    /// Some of its head, and not all.
+    Head,
+    /// Its head, and not all of its body.
+    Body,
+}
+
 /// What a connection reads from.
 pub trait Source {
     // The bytes that reads will give from here on, where they are known.
@@ -30,6 +41,10 @@ pub trait Source {
     /// How often a read has failed.
     fn failures(&self) -> u64
         ensures { result ≡ failed self.now };
+
+    /// Is told what has come of the next request before it is read on: a source may wait longer for
+    /// one than for another. What reads give stays the same.
+    fn expect(&self, _stage: Stage) {}
 }
 
 /// What a connection writes to.
