@@ -1,3 +1,4 @@
 pub mod Doors
 pub mod Draining
 pub mod Ending
+pub mod Waits

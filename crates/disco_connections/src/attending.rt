@@ -3,18 +3,18 @@ ghost use Rattle.std.specs.Prelude.{IsFalse};
 ghost use Rattle.disco_reader.specs.Streams.{is_spent};
 
 use crate::ending::end_connection;
+use crate::post::Post;
+use crate::timed_source::TimedSource;
+use crate::waiting::Waiting;
+use crate::waits::Waits;
 use disco_http::{End, Service, Writer, serve};
 use disco_message::Limits;
 use disco_reader::{Counted, Reader};
 use std::alloc::{AllocError, Global};
-use std::io;
 use std::io::Empty;
 use std::net::TcpStream;
 use std::time::Duration;
-
-/// How many seconds a read of a connection waits at most. Then it has failed, so that no silent
-/// client keeps a worker.
-const READ_SECS: u64 = 30;
+use std::{io, rt};
 
 /// How many seconds a write of a connection waits at most.
 const WRITE_SECS: u64 = 30;
@@ -37,21 +37,22 @@ impl Buffers {
     }
 }
 
-/// Sets how a connection sends, and how long it waits.
-fn prepare(stream: &TcpStream) -> io::Result<()> {
+/// Sets how a connection sends, and how long a read and a write of it wait.
+fn prepare(stream: &TcpStream, waits: &Waits) -> io::Result<()> {
     stream.set_nodelay(true)?;
-    stream.set_read_timeout(Some(Duration::from_secs(READ_SECS)))?;
+    stream.set_read_timeout(Some(Duration::from_millis(waits.slice)))?;
     stream.set_write_timeout(Some(Duration::from_secs(WRITE_SECS)))
 }
 
 /// Answers the requests of a connection. Gives the buffers back, and says why it ended.
-fn converse<S: Service>(
+fn converse<S: Service, R: rt::Clock>(
     alloc: Global,
     buffers: Buffers,
     stream: &TcpStream,
+    waiting: Waiting<'_, '_, R>,
     service: &mut S,
 ) -> (Buffers, End) {
-    let mut reader = buffers.reader.over(Counted::new(stream));
+    let mut reader = buffers.reader.over(TimedSource::new(stream, waiting));
     let mut writer = buffers.writer.over(Counted::new(stream));
     let served = serve(alloc, &mut reader, &mut writer, service);
     let buffers = Buffers {
@@ -61,18 +62,22 @@ fn converse<S: Service>(
     (buffers, served.end)
 }
 
-/// Answers the requests of a connection and ends it. One that the host doesn't let be prepared is
-/// left as it is.
-pub fn attend<S: Service>(
+/// Answers the requests of a connection and ends it: as the requests ask, and where it is waited for
+/// no longer or gives way to another. One that the host doesn't let be prepared is left as it is.
+pub fn attend<S: Service, R: rt::Clock>(
+    rt: &R,
     alloc: Global,
     buffers: Buffers,
     stream: &TcpStream,
+    waits: &Waits,
+    post: &mut Post<'_>,
     service: &mut S,
 ) -> Buffers {
-    if prepare(stream).is_err() {
+    if prepare(stream, waits).is_err() {
         return buffers;
     }
-    let (buffers, end) = converse(alloc, buffers, stream, service);
+    let waiting = Waiting::new(rt, post, waits);
+    let (buffers, end) = converse(alloc, buffers, stream, waiting, service);
     end_connection(stream, end);
     buffers
 }

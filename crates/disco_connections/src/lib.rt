@@ -1,5 +1,6 @@
 //! Connections of sockets, and the workers that serve them: [`listen`] opens a listener,
-//! [`next_connection`] takes a connection through the [`Door`], and [`attend`] serves it to its end.
+//! [`next_connection`] takes a connection through the [`Door`], and [`attend`] serves it to its end. A
+//! connection that is silent gives way to one that waits: what [`Workers`] know of one another.
 #![tactic(auto)]
 
 mod accepting;
@@ -8,10 +9,19 @@ mod door;
 mod draining;
 mod ending;
 mod listening;
+mod post;
+mod queue;
 mod taking;
+mod timed_source;
+mod waiting;
+mod waits;
+mod workers;
 
 pub use attending::{Buffers, attend};
 pub use door::{Door, Refusal};
 pub use draining::drain;
 pub use listening::listen;
+pub use post::Post;
 pub use taking::next_connection;
+pub use waits::{Waits, gives_way, is_over};
+pub use workers::Workers;

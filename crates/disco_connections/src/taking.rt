@@ -5,6 +5,7 @@ ghost use Rattle.disco_connections.specs.declared.door.Refusal.TheVariants.{ByHo
 
 use crate::accepting::accept;
 use crate::door::{Door, Refusal};
+use crate::post::Post;
 use disco_reader::Failed;
 use std::net::OpenListener;
 use std::rt;
@@ -39,6 +40,16 @@ pub fn next_connection<L: OpenListener, R: Wait + rt::Clock>(
     rt: &R,
     listener: &L,
     door: &Mutex<Door>,
+    post: &mut Post<'_>,
 ) -> Option<(L::Stream, u64)> {
-    admit(rt, listener, &mut *door.lock(rt))
+    post.come();
+    let mut entry = door.lock(rt);
+    let taken = admit(rt, listener, &mut *entry);
+    if taken.is_some() {
+        post.go();
+    }
+    if !entry.is_open() {
+        post.shut();
+    }
+    taken
 }

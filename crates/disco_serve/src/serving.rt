@@ -49,7 +49,7 @@ fn run<J: Naming + Send + Sync, R>(
     seats: Vec<Seat<J>>,
 ) -> Result<(), Fault>
 where
-    R: Threads + Wait + rt::Clock + Sync,
+    R: Net<Listener = TcpListener, Stream = TcpStream> + Threads + Wait + rt::Clock + Sync,
 {
     let limits = Limits::of_server();
     let stop = AtomicBool::new(false);
@@ -101,7 +101,7 @@ fn open_and_serve<J: Naming + Send + Sync, R, W: Sink>(
     out: &mut W,
 ) -> Result<(), Fault>
 where
-    R: Threads + Wait + rt::Clock + Sync,
+    R: Net<Listener = TcpListener, Stream = TcpStream> + Threads + Wait + rt::Clock + Sync,
     requires opening { Opens J.list J.name J.parts opening }
     ensures said { OnOk result (Appends (W.contents out.old) (W.contents out.new) (listening_line service.now.port)) }
 {

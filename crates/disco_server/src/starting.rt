@@ -4,15 +4,15 @@ ghost use Rattle.disco_values.specs.declared.fault.Fault.TheVariants.{OutOfMemor
 
 use crate::desk_service::Shop;
 use crate::gate::Gate;
-use crate::worker::{Worker, work};
-use disco_connections::{Door, Refusal};
+use crate::worker::{Entrance, Worker, work};
+use disco_connections::{Door, Refusal, Waits, Workers};
 use disco_editions::Naming;
 use disco_message::Limits;
 use disco_press::{Desk, Seat};
 use disco_timers::Clock;
 use disco_values::Fault;
 use std::alloc::{AllocError, Global};
-use std::net::TcpListener;
+use std::net::{Net, TcpListener, TcpStream};
 use std::sync::{Mutex, Wait};
 use std::thread::Threads;
 use std::{rt, thread};
@@ -26,7 +26,8 @@ fn workers_for<'a, J: Naming, R, C: Clock + Copy, G>(
 ) -> Result<Vec<Worker<'a, J, R, C, G>>, AllocError> {
     let mut workers = Vec::new(shop.alloc);
     for seat in seats {
-        workers.push(Worker::new(shop, seat, clock, limits)?)?;
+        let number = workers.len();
+        workers.push(Worker::new(shop, number, seat, clock, limits)?)?;
     }
     Ok(workers)
 }
@@ -36,22 +37,21 @@ fn workers_for<'a, J: Naming, R, C: Clock + Copy, G>(
 fn run<J, R, C, G>(
     rt: &R,
     alloc: Global,
-    listener: &TcpListener,
-    door: &Mutex<Door>,
+    entrance: Entrance<'_>,
     workers: Vec<Worker<'_, J, R, C, G>>,
 )
 where
     J: Naming + Send + Sync,
-    R: Threads + Wait + rt::Clock + Sync,
+    R: Net<Listener = TcpListener, Stream = TcpStream> + Threads + Wait + rt::Clock + Sync,
     C: Clock + Copy + Send,
     G: Gate + Sync,
 {
     thread::scope(thread::scope_env(), rt, move |scope| {
         // No connection is taken before all workers are there.
-        let mut entry = door.lock(rt);
+        let mut entry = entrance.door.lock(rt);
         for worker in workers {
             if scope
-                .spawn(move || work(rt, alloc, listener, door, worker))
+                .spawn(move || work(rt, alloc, entrance, worker))
                 .is_err()
             {
                 entry.refuse(Refusal::ByHost);
@@ -65,10 +65,13 @@ where
 /// takes the next connection as soon as it is free. Returns after so many connections in all, and
 /// never where that is 0; with no seat none is taken.
 ///
+/// A connection is waited for as a server does ([`Waits::of_server`]): one that has sent nothing of a
+/// next request gives way to one that waits while no worker is free.
+///
 /// Refused as `OutOfMemory` and as `ReadFailed`, once all workers have ended. Where the host refuses a
 /// worker, or there is no memory before they begin, none takes a connection; where it refuses a
-/// connection for good, or one of them finds no memory for its router, no more is taken, and those that
-/// were taken are served to their end.
+/// connection for good, or one of them finds no memory or no descriptor for what it needs, no more is
+/// taken, and those that were taken are served to their end.
 pub fn start<'a, J, R, C, G>(
     rt: &'a R,
     alloc: Global,
@@ -82,19 +85,27 @@ pub fn start<'a, J, R, C, G>(
 ) -> Result<(), Fault>
 where
     J: Naming + Send + Sync,
-    R: Threads + Wait + rt::Clock + Sync,
+    R: Net<Listener = TcpListener, Stream = TcpStream> + Threads + Wait + rt::Clock + Sync,
     C: Clock + Copy + Send,
     G: Gate + Sync,
     ensures { IfErr result (λ fault. (fault ≡ OutOfMemory) ⊎ (fault ≡ ReadFailed)) }
 {
+    let waits = Waits::of_server();
     let shop = Shop {
         rt,
         alloc,
         desk,
         gate,
     };
+    let known = Workers::new(alloc, seats.len())?;
     let workers = workers_for(&shop, seats, *limits, clock)?;
     let door = Mutex::new(Door::new(connections));
-    run(rt, alloc, &listener, &door, workers);
+    let entrance = Entrance {
+        listener: &listener,
+        door: &door,
+        workers: &known,
+        waits: &waits,
+    };
+    run(rt, alloc, entrance, workers);
     door.into_inner().outcome()
 }

@@ -1,21 +1,33 @@
 //! A worker, which serves one connection after another.
 use crate::desk_service::{DeskService, Shop};
 use crate::gate::Gate;
-use disco_connections::{Buffers, Door, Refusal, attend, next_connection};
+use disco_connections::{Buffers, Door, Post, Refusal, Waits, Workers, attend, next_connection};
 use disco_editions::Naming;
 use disco_message::Limits;
 use disco_press::Seat;
 use disco_routes::Routes;
 use disco_timers::Clock;
 use std::alloc::{AllocError, Global};
-use std::net::TcpListener;
+use std::io::ErrorKind;
+use std::net::{Net, TcpListener, TcpStream};
 use std::rt;
 use std::sync::{Mutex, Wait};
+
+/// What all workers take connections by.
+#[derive(Clone, Copy)]
+pub(crate) struct Entrance<'a> {
+    pub(crate) listener: &'a TcpListener,
+    pub(crate) door: &'a Mutex<Door>,
+    pub(crate) workers: &'a Workers,
+    pub(crate) waits: &'a Waits,
+}
 
 /// What a worker goes to its thread with.
 #[derive(Drop)]
 pub(crate) struct Worker<'a, J: Naming, R, C, G> {
     shop: &'a Shop<'a, J, R, G>,
+    /// Which worker it is, from 0.
+    number: usize,
     seat: Seat<J>,
     clock: C,
     buffers: Buffers,
@@ -25,6 +37,7 @@ impl<'a, J: Naming, R, C, G> Worker<'a, J, R, C, G> {
     /// A worker with its buffers.
     pub(crate) fn new(
         shop: &'a Shop<'a, J, R, G>,
+        number: usize,
         seat: Seat<J>,
         clock: C,
         limits: Limits,
@@ -35,6 +48,7 @@ impl<'a, J: Naming, R, C, G> Worker<'a, J, R, C, G> {
         let buffers = Buffers::new(shop.alloc, limits)?;
         Ok(Worker {
             shop,
+            number,
             seat,
             clock,
             buffers,
@@ -46,40 +60,73 @@ impl<'a, J: Naming, R, C, G> Worker<'a, J, R, C, G> {
 fn serve_all<J: Naming, R: Wait + rt::Clock, C: Clock + Copy, G: Gate>(
     rt: &R,
     alloc: Global,
-    listener: &TcpListener,
-    door: &Mutex<Door>,
+    entrance: Entrance<'_>,
+    mut post: Post<'_>,
     service: &mut DeskService<'_, J, R, C, G>,
     mut buffers: Buffers,
 ) {
     for _ in rt.forever() {
-        let Some((stream, number)) = next_connection(rt, listener, door) else {
+        let Some((stream, number)) = next_connection(
+            rt,
+            entrance.listener,
+            entrance.door,
+            &mut post,
+        ) else {
             return;
         };
         service.begin(number);
-        buffers = attend(alloc, buffers, &stream, service);
+        buffers = attend(
+            rt,
+            alloc,
+            buffers,
+            &stream,
+            entrance.waits,
+            &mut post,
+            service,
+        );
+    }
+}
+
+/// The worker's post among the others, and its router. Refused where there is no memory for them, or
+/// the host has no descriptor.
+fn equip<'a, R: Net>(
+    rt: &R,
+    alloc: Global,
+    number: usize,
+    entrance: Entrance<'a>,
+) -> Result<(Post<'a>, Routes), Refusal> {
+    let Ok(routes) = Routes::new(alloc) else {
+        return Err(Refusal::NoMemory);
+    };
+    match Post::new(rt, alloc, entrance.workers, number, entrance.listener) {
+        Ok(post) => Ok((post, routes)),
+        Err(error) => match error.kind() {
+            ErrorKind::OutOfMemory => Err(Refusal::NoMemory),
+            _ => Err(Refusal::ByHost),
+        },
     }
 }
 
 /// Takes one connection after another through the door and serves it, until the door is shut. Shuts
-/// it where there is no memory for the worker's router.
-pub(crate) fn work<J: Naming, R: Wait + rt::Clock, C: Clock + Copy, G: Gate>(
-    rt: &R,
-    alloc: Global,
-    listener: &TcpListener,
-    door: &Mutex<Door>,
-    worker: Worker<'_, J, R, C, G>,
-) {
+/// it where the worker can't be equipped.
+pub(crate) fn work<
+    J: Naming,
+    R: Net<Listener = TcpListener, Stream = TcpStream> + Wait + rt::Clock,
+    C: Clock + Copy,
+    G: Gate,
+>(rt: &R, alloc: Global, entrance: Entrance<'_>, worker: Worker<'_, J, R, C, G>) {
     let Worker {
         shop,
+        number,
         seat,
         clock,
         buffers,
     } = worker;
-    match Routes::new(alloc) {
-        Ok(routes) => {
+    match equip(rt, alloc, number, entrance) {
+        Ok((post, routes)) => {
             let mut service = DeskService::new(shop, routes, seat, clock);
-            serve_all(rt, alloc, listener, door, &mut service, buffers);
+            serve_all(rt, alloc, entrance, post, &mut service, buffers);
         }
-        Err(_) => door.lock(rt).refuse(Refusal::NoMemory),
+        Err(refusal) => entrance.door.lock(rt).refuse(refusal),
     }
 }
