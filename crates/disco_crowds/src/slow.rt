@@ -1,0 +1,144 @@
+//! Clients that send slowly, or nothing.
+use crate::client::{BEAT, hears, is_at_end, send, visit};
+use crate::server::WORKERS;
+use std::alloc::Global;
+use std::net::{Net, SocketAddr, TcpListener, TcpStream};
+use std::sync::atomic::{AtomicBool, Ordering};
+use std::thread::{Threads, join, sleep};
+use std::time::{Duration, Instant};
+use std::{io, rt};
+
+/// The front of a head.
+const HALF: &[u8] = b"PUT /eureka/v2/apps/A/1 HTTP/1.1\r\nHost: a\r\nX-";
+
+/// The rest of it.
+const REST: &[u8] = b"A: b\r\nContent-Length: 0\r\n\r\n";
+
+/// A head whose body is still to come.
+const HEAD: &[u8] = b"PUT /eureka/v2/apps/A/1 HTTP/1.1\r\nHost: a\r\nContent-Length: 10000\r\n\r\n";
+
+/// How many clients send byte by byte.
+const SLOW: usize = 24;
+
+/// How many milliseconds are between two bytes of each.
+const DRIP_MILLIS: u64 = 10;
+
+/// How often each sends a byte, at most.
+const DRIPS: u64 = 2_000;
+
+/// How many milliseconds a client waits behind them, at most: six times the 300 of a head or a body,
+/// and as much again.
+const MOST_MILLIS: u128 = 3_600;
+
+/// How many milliseconds a client is silent.
+const SILENT_MILLIS: u64 = 300;
+
+/// Connections to the server over each of which this was sent.
+fn visits<R: Net<Stream = TcpStream>>(
+    rt: &R,
+    alloc: Global,
+    server: SocketAddr,
+    count: usize,
+    bytes: &[u8],
+) -> io::Result<Vec<TcpStream>> {
+    let mut streams = Vec::new(alloc);
+    for _ in 0..count {
+        let stream = visit(rt, server)?;
+        send(&stream, bytes)?;
+        streams.push(stream)?;
+    }
+    Ok(streams)
+}
+
+/// Requests of which half came are answered when the rest comes, though another client waits
+/// meanwhile, and that one is answered behind them.
+pub(crate) fn are_answered_late<R: Net<Stream = TcpStream> + rt::Clock>(
+    rt: &R,
+    alloc: Global,
+    server: SocketAddr,
+) -> io::Result<bool> {
+    let halves = visits(rt, alloc, server, WORKERS, HALF)?;
+    sleep(rt, Duration::from_millis(SILENT_MILLIS));
+    let waits = visit(rt, server)?;
+    send(&waits, BEAT)?;
+    sleep(rt, Duration::from_millis(SILENT_MILLIS));
+    let mut well = true;
+    for stream in &halves {
+        let answered = send(stream, REST).is_ok() && hears(alloc, stream);
+        well = well && answered;
+    }
+    Ok(hears(alloc, &waits) && well)
+}
+
+/// Sends a byte over each connection again and again, until it is told to end.
+fn drip<R: rt::Clock>(rt: &R, streams: &[TcpStream], ended: &AtomicBool) {
+    for _ in 0..DRIPS {
+        if ended.load(Ordering::SeqCst) {
+            return;
+        }
+        for stream in streams {
+            let _ = send(stream, b"x");
+        }
+        sleep(rt, Duration::from_millis(DRIP_MILLIS));
+    }
+}
+
+/// Whether a client is answered in time behind many that send byte by byte, behind this.
+fn is_let_in<R: Net<Listener = TcpListener, Stream = TcpStream> + Threads + rt::Clock + Sync>(
+    rt: &R,
+    alloc: Global,
+    server: SocketAddr,
+    bytes: &[u8],
+) -> io::Result<bool> {
+    let slow = visits(rt, alloc, server, SLOW, bytes)?;
+    let (slow, ended) = (slow.as_slice(), AtomicBool::new(false));
+    let ended = &ended;
+    let (_, answered) = join(
+        rt,
+        move || drip(rt, slow, ended),
+        move || {
+            let answered = is_answered_in_time(rt, alloc, server);
+            ended.store(true, Ordering::SeqCst);
+            answered
+        },
+    );
+    answered
+}
+
+/// Whether a new client is answered in time.
+fn is_answered_in_time<R: Net<Stream = TcpStream> + rt::Clock>(
+    rt: &R,
+    alloc: Global,
+    server: SocketAddr,
+) -> io::Result<bool> {
+    let begun = Instant::now(rt)?;
+    let stream = visit(rt, server)?;
+    send(&stream, BEAT)?;
+    Ok(hears(alloc, &stream) && begun.elapsed(rt)?.as_millis() <= MOST_MILLIS)
+}
+
+/// Clients that send a head or a body byte by byte keep another one out for no longer than heads and
+/// bodies may take.
+pub(crate) fn are_kept_out<
+    R: Net<Listener = TcpListener, Stream = TcpStream> + Threads + rt::Clock + Sync,
+>(rt: &R, alloc: Global, server: SocketAddr) -> io::Result<bool> {
+    let heads = is_let_in(rt, alloc, server, HALF)?;
+    let bodies = is_let_in(rt, alloc, server, HEAD)?;
+    Ok(heads && bodies)
+}
+
+/// A connection that is silent for a while is served on where nobody waits, and ends when it is
+/// silent for longer than it may be.
+pub(crate) fn is_kept<R: Net<Stream = TcpStream> + rt::Clock>(
+    rt: &R,
+    alloc: Global,
+    server: SocketAddr,
+) -> io::Result<bool> {
+    let stream = visit(rt, server)?;
+    sleep(rt, Duration::from_millis(SILENT_MILLIS));
+    send(&stream, BEAT)?;
+    let answered = hears(alloc, &stream);
+    let begun = Instant::now(rt)?;
+    let ends = is_at_end(&stream);
+    Ok(answered && ends && begun.elapsed(rt)?.as_millis() >= u128::from(SILENT_MILLIS))
+}
