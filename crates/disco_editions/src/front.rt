@@ -1,6 +1,6 @@
 //! Beginnings of a press list that end with a publish. They exist in proofs alone, but for their
 //! length.
-ghost use Rattle.std.specs.Prelude.{◌≡◌, ℕ, ◌-◌, ◌<◌, ◌^◌, [], length, true};
+ghost use Rattle.std.specs.Prelude.{◌≡◌, ℕ, ◌-◌, ◌<◌, ◌^◌, ◌⊎◌, [], false, length, true};
 ghost use mathlib.Core.List.{IsPrefix};
 ghost use Rattle.disco_editions.specs.Rolls.{rolled};
 
@@ -39,6 +39,20 @@ impl Page {
             len: self.len,
             leaf: self.leaf.again(),
         }
+    }
+
+    /// Whether the other one goes on from this one: it does where it isn't shorter. Of one with
+    /// 2^64 - 1 marks it isn't known.
+    pub fn is_before(&self, other: &Page) -> bool
+        requires { other.now.leaf.name ≡ self.now.leaf.name }
+        ensures begins { result ≡ true → IsPrefix self.now.leaf.items other.now.leaf.items }
+        ensures known { result ≡ false → (other.now.len < self.now.len) ⊎ (other.now.len ≡ 2 ^ 64 - 1) }
+    {
+        if self.len > other.len || other.len == u64::MAX {
+            return false;
+        }
+        self.leaf.begins(&other.leaf);
+        true
     }
 }
 
@@ -79,11 +93,7 @@ impl<J: Naming> Front<J> {
     pub fn is_before(&self, other: &Front<J>) -> bool
         ensures { result ≡ true → IsPrefix self.now other.now }
     {
-        if self.page.len > other.page.len || other.page.len == u64::MAX {
-            return false;
-        }
-        self.page.leaf.begins(&other.page.leaf);
-        true
+        self.page.is_before(&other.page)
     }
 
     pub fn page(&self) -> &Page

@@ -5,6 +5,6 @@ use Rattle.disco_editions.proofs.Publications.{begins_too}
 use Rattle.disco_editions.proofs.front.Front.is_before.Goals as goal
 
 pub returns : goal.returns
-returns g c _ =
+returns g c e =
     let P : List (List Note) × List (List Note) → Type 0 = λ t. IsPrefix t.0 t.1 in
-    subst P (λ i. (c.self.view_is i, c.other.view_is i)) (begins_too c.self.inside.page.leaf.items c.other.inside.page.leaf.items c.begins.ensures)
+    subst P (λ i. (c.self.view_is i, c.other.view_is i)) (begins_too c.self.inside.page.leaf.items c.other.inside.page.leaf.items (c.is_before.ensures.begins e))
