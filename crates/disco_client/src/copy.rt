@@ -1,10 +1,11 @@
 //! The copy.
 ghost use Rattle.std.specs.Prelude.{◌≡◌, ◌≢◌, ◌↔◌, Err, IfOk, IfErr, IsTrue, OnOk, OnErr, filter, map};
-ghost use Rattle.std.specs.FinMap.{empty, len, values};
+ghost use Rattle.std.specs.FinMap.{empty, get, len, values};
 ghost use Rattle.std.specs.Str.{bytes_eq};
 ghost use Rattle.disco_instance.specs.Row.{row};
 ghost use Rattle.disco_values.specs.declared.fault.Fault.TheVariants.{BadDocument, OutOfMemory};
 ghost use Rattle.disco_history.specs.Hash.{hash};
+ghost use Rattle.disco_history.specs.Held.{seen_record};
 ghost use Rattle.disco_history.specs.Mentions.{copied, overlay};
 ghost use Rattle.disco_wire.specs.Wire.{tell_all};
 ghost use Rattle.disco_wire.specs.declared.wire.Shape.TheVariants.{Many};
@@ -16,7 +17,7 @@ use crate::taken::{all, known};
 use crate::vip::is_up_under;
 use disco_history::Held;
 use disco_instance::Record;
-use disco_values::{Fault, Text};
+use disco_values::{Fault, Key, Text};
 use disco_wire::{Shape, Wire};
 use std::alloc::Global;
 use std::marker::Model;
@@ -145,6 +146,25 @@ impl Copy {
         ensures { result ≡ bytes_eq text.now (hash (values self.now)) }
     {
         self.counted.hash_is(text)
+    }
+
+    /// The record of a key. Takes no memory.
+    pub fn get(&self, key: &Key) -> Option<&Record>
+        ensures { seen_record result ≡ get self.now key.now }
+    {
+        self.counted.get(key)
+    }
+
+    /// The same copy once more, which stays as it is while this one goes on. The records are shared,
+    /// not copied. Refused only as `OutOfMemory`.
+    pub fn share(&self, alloc: Global) -> Result<Copy, Fault>
+        ensures same { IfOk result (λ c. c ≡ self.now) }
+        ensures memory { IfErr result (λ e. e ≡ OutOfMemory) }
+    {
+        Ok(Copy {
+            alloc,
+            counted: self.counted.share(alloc)?,
+        })
     }
 
     /// The records in the order of their keys. Takes no memory. The action beside each is only what

@@ -4,12 +4,13 @@ ghost use Rattle.std.specs.FinMap.{empty, get, insert, len, remove, values};
 ghost use Rattle.std.specs.Str.{bytes_eq};
 ghost use Rattle.disco_values.specs.declared.fault.Fault.TheVariants.{OutOfMemory};
 ghost use Rattle.disco_history.specs.Hash.{hash};
-ghost use Rattle.disco_history.specs.Held.{entry_of};
+ghost use Rattle.disco_history.specs.Held.{entry_of, record_at, seen_record};
 ghost use Rattle.disco_index.specs.Tally.{rows_of, tally_in, without};
 ghost use Rattle.disco_client.specs.Steps.{after, after_all};
 
 use disco_history::{Held, RecordList};
 use disco_index::Counts;
+use disco_instance::Record;
 use disco_values::{Action, Fault, Key, Text};
 use std::alloc::{AllocError, Global};
 use std::marker::Model;
@@ -110,6 +111,23 @@ impl Counted {
         for change in changes {
             self.follow(change);
         }
+    }
+
+    /// The record of a key.
+    pub(crate) fn get(&self, key: &Key) -> Option<&Record>
+        ensures { seen_record result ≡ record_at self.now.held key.now }
+    {
+        self.records.get(key)
+    }
+
+    /// The same once more. The records are shared, not copied.
+    pub(crate) fn share(&self, alloc: Global) -> Result<Counted, AllocError>
+        ensures { IfOk result (λ c. c.held ≡ self.now.held) }
+    {
+        Ok(Counted {
+            records: self.records.share(alloc)?,
+            counts: self.counts.again(),
+        })
     }
 
     /// The records in the order of their keys.

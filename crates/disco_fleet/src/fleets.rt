@@ -4,7 +4,6 @@ ghost use Rattle.clap.specs.Words.{found_of, rows_of};
 ghost use Rattle.disco_fleet.specs.Fleets.{IsGiven, faults_of_fleet, faults_of_restart, is_last};
 ghost use Rattle.disco_options.specs.Ending.{EndsBy};
 
-mod comparing;
 mod following;
 mod line;
 mod plan;

@@ -3,6 +3,7 @@ pub mod HashLemmas
 pub mod Keys
 mod LastOf
 pub mod Lasts
+mod Lists
 pub mod Overlays
 pub mod Restrictions
 mod Runs

@@ -162,6 +162,17 @@ impl RecordList {
         &self.records
     }
 
+    /// The same records once more. They are shared, not copied.
+    pub fn share(&self, alloc: Global) -> Result<RecordList, AllocError>
+        ensures { IfOk result (λ r. r.held ≡ self.now.held) }
+    {
+        let mut records = Vec::new(alloc);
+        for held in self.records.as_slice() {
+            records.push(held.share()?)?;
+        }
+        Ok(RecordList { records })
+    }
+
     /// Makes room for one more record.
     pub fn reserve(&mut self) -> Result<(), AllocError>
         ensures same { self.new.held ≡ self.old.held }

@@ -51,6 +51,19 @@ impl Counts {
         }
     }
 
+    /// The same numbers once more. Takes no memory.
+    pub fn again(&self) -> Counts
+        ensures { result ≡ self.now }
+    {
+        Counts {
+            down: self.down,
+            out_of_service: self.out_of_service,
+            starting: self.starting,
+            unknown: self.unknown,
+            up: self.up,
+        }
+    }
+
     /// One more instance has the status. Takes no memory.
     pub fn add(&mut self, status: Status)
         requires { count_in self.old status < 2 ^ 64 - 1 }

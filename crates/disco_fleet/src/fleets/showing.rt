@@ -3,9 +3,9 @@ ghost use Rattle.std.specs.Prelude.{IsTrue};
 ghost use Rattle.disco_fleet.specs.Fleets.{IsExact};
 ghost use Rattle.disco_reconcile.specs.State.{copy_of};
 
-use crate::fleets::comparing::are_same;
 use disco_client::Copy;
 use disco_editions::Naming;
+use disco_follow::are_same;
 use disco_press::Desk;
 use disco_query::{DocKey, Query};
 use disco_reconcile::{Client, Fetch};

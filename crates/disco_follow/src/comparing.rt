@@ -1,5 +1,5 @@
 //! Whether records are the same, member by member.
-ghost use Rattle.std.specs.Prelude.{◌≡◌, IsTrue, map};
+ghost use Rattle.std.specs.Prelude.{◌≡◌, ◌↔◌, IsTrue, map};
 ghost use Rattle.disco_instance.specs.Row.{row};
 
 use disco_history::Held;
@@ -7,42 +7,38 @@ use disco_instance::{DataCenter, Lease, Port, Record};
 use disco_values::{Entries, Key, Text};
 
 fn same_texts(one: &Text, other: &Text) -> bool
-    ensures { IsTrue result → one.now ≡ other.now }
+    ensures { IsTrue result ↔ (one.now ≡ other.now) }
 {
     one == other
 }
 
 fn same_keys(one: &Key, other: &Key) -> bool
-    ensures { IsTrue result → one.now ≡ other.now }
+    ensures { IsTrue result ↔ (one.now ≡ other.now) }
 {
     same_texts(&one.app, &other.app) && same_texts(&one.id, &other.id)
 }
 
 fn same_data_centers(one: &DataCenter, other: &DataCenter) -> bool
-    ensures { IsTrue result → one.now ≡ other.now }
+    ensures { IsTrue result ↔ (one.now ≡ other.now) }
 {
     same_texts(&one.class, &other.class) && same_texts(&one.name, &other.name)
 }
 
 fn same_ports(one: Port, other: Port) -> bool
-    ensures { IsTrue result → one ≡ other }
+    ensures { IsTrue result ↔ (one ≡ other) }
 {
     one.number == other.number && one.enabled == other.enabled
 }
 
 fn same_spans(one: Lease, other: Lease) -> bool
-    ensures duration { IsTrue result → one.duration_secs ≡ other.duration_secs }
-    ensures interval { IsTrue result → one.renewal_interval_secs ≡ other.renewal_interval_secs }
+    ensures { IsTrue result ↔ ((one.duration_secs ≡ other.duration_secs) × (one.renewal_interval_secs ≡ other.renewal_interval_secs)) }
 {
     one.duration_secs == other.duration_secs
         && one.renewal_interval_secs == other.renewal_interval_secs
 }
 
 fn same_moments(one: Lease, other: Lease) -> bool
-    ensures eviction { IsTrue result → one.eviction ≡ other.eviction }
-    ensures last_renewal { IsTrue result → one.last_renewal ≡ other.last_renewal }
-    ensures registration { IsTrue result → one.registration ≡ other.registration }
-    ensures service_up { IsTrue result → one.service_up ≡ other.service_up }
+    ensures { IsTrue result ↔ ((one.eviction ≡ other.eviction) × (one.last_renewal ≡ other.last_renewal) × (one.registration ≡ other.registration) × (one.service_up ≡ other.service_up)) }
 {
     one.eviction == other.eviction
         && one.last_renewal == other.last_renewal
@@ -51,13 +47,13 @@ fn same_moments(one: Lease, other: Lease) -> bool
 }
 
 fn same_leases(one: Lease, other: Lease) -> bool
-    ensures { IsTrue result → one ≡ other }
+    ensures { IsTrue result ↔ (one ≡ other) }
 {
     same_spans(one, other) && same_moments(one, other)
 }
 
 fn same_pairs(ones: &[(Text, Text)], others: &[(Text, Text)]) -> bool
-    ensures { IsTrue result → ones.now ≡ others.now }
+    ensures { IsTrue result ↔ (ones.now ≡ others.now) }
 {
     if ones.len() != others.len() {
         return false;
@@ -72,15 +68,13 @@ fn same_pairs(ones: &[(Text, Text)], others: &[(Text, Text)]) -> bool
 }
 
 fn same_entries(ones: &Entries, others: &Entries) -> bool
-    ensures { IsTrue result → ones.now ≡ others.now }
+    ensures { IsTrue result ↔ (ones.now ≡ others.now) }
 {
     same_pairs(ones.as_slice(), others.as_slice())
 }
 
 fn same_pages(one: &Record, other: &Record) -> bool
-    ensures health { IsTrue result → one.now.health_check_url ≡ other.now.health_check_url }
-    ensures home { IsTrue result → one.now.home_page_url ≡ other.now.home_page_url }
-    ensures status { IsTrue result → one.now.status_page_url ≡ other.now.status_page_url }
+    ensures { IsTrue result ↔ ((one.now.health_check_url ≡ other.now.health_check_url) × (one.now.home_page_url ≡ other.now.home_page_url) × (one.now.status_page_url ≡ other.now.status_page_url)) }
 {
     same_texts(&one.health_check_url, &other.health_check_url)
         && same_texts(&one.home_page_url, &other.home_page_url)
@@ -88,10 +82,7 @@ fn same_pages(one: &Record, other: &Record) -> bool
 }
 
 fn same_addresses(one: &Record, other: &Record) -> bool
-    ensures host { IsTrue result → one.now.host_name ≡ other.now.host_name }
-    ensures ip { IsTrue result → one.now.ip_addr ≡ other.now.ip_addr }
-    ensures vip { IsTrue result → one.now.vip_address ≡ other.now.vip_address }
-    ensures secure_vip { IsTrue result → one.now.secure_vip_address ≡ other.now.secure_vip_address }
+    ensures { IsTrue result ↔ ((one.now.host_name ≡ other.now.host_name) × (one.now.ip_addr ≡ other.now.ip_addr) × (one.now.vip_address ≡ other.now.vip_address) × (one.now.secure_vip_address ≡ other.now.secure_vip_address)) }
 {
     same_texts(&one.host_name, &other.host_name)
         && same_texts(&one.ip_addr, &other.ip_addr)
@@ -100,10 +91,7 @@ fn same_addresses(one: &Record, other: &Record) -> bool
 }
 
 fn same_numbers(one: &Record, other: &Record) -> bool
-    ensures country { IsTrue result → one.now.country_id ≡ other.now.country_id }
-    ensures coordinating { IsTrue result → one.now.is_coordinating ≡ other.now.is_coordinating }
-    ensures dirty { IsTrue result → one.now.last_dirty ≡ other.now.last_dirty }
-    ensures updated { IsTrue result → one.now.last_updated ≡ other.now.last_updated }
+    ensures { IsTrue result ↔ ((one.now.country_id ≡ other.now.country_id) × (one.now.is_coordinating ≡ other.now.is_coordinating) × (one.now.last_dirty ≡ other.now.last_dirty) × (one.now.last_updated ≡ other.now.last_updated)) }
 {
     one.country_id == other.country_id
         && one.is_coordinating == other.is_coordinating
@@ -112,17 +100,13 @@ fn same_numbers(one: &Record, other: &Record) -> bool
 }
 
 fn same_statuses(one: &Record, other: &Record) -> bool
-    ensures status { IsTrue result → one.now.status ≡ other.now.status }
-    ensures overridden { IsTrue result → one.now.overridden_status ≡ other.now.overridden_status }
+    ensures { IsTrue result ↔ ((one.now.status ≡ other.now.status) × (one.now.overridden_status ≡ other.now.overridden_status)) }
 {
     one.status == other.status && one.overridden_status == other.overridden_status
 }
 
 fn same_places(one: &Record, other: &Record) -> bool
-    ensures key { IsTrue result → one.now.key ≡ other.now.key }
-    ensures data_center { IsTrue result → one.now.data_center ≡ other.now.data_center }
-    ensures port { IsTrue result → one.now.port ≡ other.now.port }
-    ensures secure_port { IsTrue result → one.now.secure_port ≡ other.now.secure_port }
+    ensures { IsTrue result ↔ ((one.now.key ≡ other.now.key) × (one.now.data_center ≡ other.now.data_center) × (one.now.port ≡ other.now.port) × (one.now.secure_port ≡ other.now.secure_port)) }
 {
     same_keys(&one.key, &other.key)
         && same_data_centers(&one.data_center, &other.data_center)
@@ -130,8 +114,9 @@ fn same_places(one: &Record, other: &Record) -> bool
         && same_ports(one.secure_port, other.secure_port)
 }
 
-fn same_records(one: &Record, other: &Record) -> bool
-    ensures { IsTrue result → row one.now ≡ row other.now }
+/// Whether two records are the same.
+pub(crate) fn same_records(one: &Record, other: &Record) -> bool
+    ensures { IsTrue result ↔ (row one.now ≡ row other.now) }
 {
     same_places(one, other)
         && same_pages(one, other)
@@ -143,7 +128,7 @@ fn same_records(one: &Record, other: &Record) -> bool
 }
 
 /// Whether the records are the same, in the same order.
-pub(super) fn are_same(ones: &[Held], others: &[Held]) -> bool
+pub fn are_same(ones: &[Held], others: &[Held]) -> bool
     ensures { IsTrue result → map (λ h. row h.rec.value) ones.now ≡ map (λ h. row h.rec.value) others.now }
 {
     if ones.len() != others.len() {
