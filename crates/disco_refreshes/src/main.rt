@@ -11,6 +11,7 @@ mod certifying;
 mod connections;
 mod copies;
 mod failing;
+mod following;
 mod refreshing;
 mod samples;
 mod script;
@@ -19,7 +20,7 @@ mod streams;
 use disco_values::Fault;
 use std::alloc::Global;
 use std::process::ExitCode;
-use std::rt::Env;
+use std::rt::{Clock, Env};
 use std::{env, io};
 
 /// Prints what came of a trial, and tells whether it went well.
@@ -38,9 +39,10 @@ fn try_script<R: Print>(rt: &R, alloc: Global) -> io::Result<bool> {
     Ok(plain && certified)
 }
 
-fn try_all<R: Print>(rt: &R, alloc: Global) -> io::Result<bool> {
+fn try_all<R: Print + Clock>(rt: &R, alloc: Global) -> io::Result<bool> {
     let all = [
         try_script(rt, alloc)?,
+        told(rt, "lines of refreshes", following::is_told(rt, alloc))?,
         told(rt, "fetches to the end", connections::go_to_the_end(alloc))?,
         told(
             rt,
@@ -58,7 +60,7 @@ fn words_given<R: Env + AllocGlobal>(rt: &R) -> io::Result<Vec<String>> {
     Ok(env::args(rt)?.skip(1).collect(rt.alloc())?)
 }
 
-fn run<R: Env + AllocGlobal + Print>(rt: &R) -> io::Result<bool> {
+fn run<R: Env + AllocGlobal + Print + Clock>(rt: &R) -> io::Result<bool> {
     let words = words_given(rt)?;
     match words.as_slice() {
         [word] if word.as_str() == "script" => try_script(rt, rt.alloc()),

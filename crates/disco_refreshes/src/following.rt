@@ -1,0 +1,98 @@
+//! Refreshes that are told as lines.
+ghost use Rattle.std.specs.Prelude.{◌≡◌, ◌≤◌, IfErr};
+ghost use Rattle.disco_values.specs.declared.fault.Fault.TheVariants.{NotFetched, OutOfMemory};
+ghost use Rattle.disco_reader.specs.Causes.{Raises};
+
+use crate::samples::{GONE, ONE};
+use disco_follow::follow;
+use disco_query::DocKey;
+use disco_reader::Counted;
+use disco_reconcile::{Client, Fetch, Fetched};
+use disco_values::{Bytes, Cert, Fault, Form, Text};
+use std::alloc::Global;
+use std::rt::Clock;
+
+/// A document with its certificate: its run, its base and its version.
+type Answer = (&'static str, u64, u64, u64);
+
+/// What is answered to one fetch after another; `None` is a fetch that fails.
+const ANSWERS: [Option<Answer>; 5] = [
+    Some((ONE, 7, 1, 1)),
+    None,
+    None,
+    Some((GONE, 7, 1, 3)),
+    Some((GONE, 7, 3, 3)),
+];
+
+/// What is told of them: a refusal once, and a copy where it changed.
+const TOLD: &str = "copy 7 1 +ORDERS/h1:orders:8080=UP\nvip ORDERS h1:8080\nfault 22\ncopy 7 3 -ORDERS/h1:orders:8080\nvip ORDERS\n";
+
+/// Answers in turn, and fails behind the last answer.
+#[derive(Drop)]
+struct Answers<'a> {
+    alloc: Global,
+    left: &'a [Option<Answer>],
+    failures: u64,
+}
+
+impl Answers<'_> {
+    fn next(&mut self) -> Option<Answer>
+        ensures { self.new.failures ≡ self.old.failures }
+    {
+        let (first, left) = self.left.split_first()?;
+        self.left = left;
+        *first
+    }
+
+    fn fail(&mut self) -> Fault
+        ensures error { result ≡ NotFetched }
+        ensures count { self.old.failures ≤ self.new.failures }
+        ensures cause { Raises self.old.failures self.new.failures }
+    {
+        self.failures = self.failures.saturating_add(1);
+        Fault::NotFetched
+    }
+}
+
+fn certified(alloc: Global, answer: Answer) -> Result<Fetched, Fault>
+    ensures { IfErr result (λ e. e ≡ OutOfMemory) }
+{
+    let (body, run, base, version) = answer;
+    Ok(Fetched {
+        status: 200,
+        body: Bytes::from_vec(body.as_bytes().to_vec(alloc)?),
+        cert: Some(Cert { run, base, version }),
+    })
+}
+
+impl Fetch for Answers<'_> {
+    ghost gives = { λ _ _ _ _. Unit {0} };
+
+    ghost failed = { λ s. s.failures };
+
+    fn fetch(&mut self, _key: &DocKey) -> Result<Fetched, Fault> {
+        match self.next() {
+            Some(answer) => certified(self.alloc, answer),
+            None => Err(self.fail()),
+        }
+    }
+
+    fn failures(&self) -> u64 {
+        self.failures
+    }
+}
+
+/// Whether so many refreshes are told so.
+pub(crate) fn is_told<R: Clock>(rt: &R, alloc: Global) -> Result<bool, Fault> {
+    let answers = Answers {
+        alloc,
+        left: &ANSWERS,
+        failures: 0,
+    };
+    let mut client = Client::certified(alloc, answers, Form::Full);
+    let vip = Some(Text::new(alloc, "ORDERS")?);
+    let mut told = Vec::new(alloc);
+    let mut out = Counted::new(&mut told);
+    follow(rt, alloc, &mut client, &vip, 5, 1, &mut out)?;
+    Ok(told.as_slice() == TOLD.as_bytes())
+}
