@@ -39,9 +39,13 @@ impl Answers<'_> {
     fn next(&mut self) -> Option<Answer>
         ensures { self.new.failures ≡ self.old.failures }
     {
-        let (first, left) = self.left.split_first()?;
-        self.left = left;
-        *first
+        match self.left.split_first() {
+            Some((first, left)) => {
+                self.left = left;
+                *first
+            }
+            None => None,
+        }
     }
 
     fn fail(&mut self) -> Fault
