@@ -170,7 +170,10 @@ impl RecordList {
         for held in self.records.as_slice() {
             records.push(held.share()?)?;
         }
-        Ok(RecordList { records })
+        Ok(RecordList {
+            records,
+            sought: self.sought,
+        })
     }
 
     /// Makes room for one more record.

@@ -25,7 +25,8 @@ const ANSWERS: [Option<Answer>; 5] = [
 ];
 
 /// What is told of them: a refusal once, and a copy where it changed.
-const TOLD: &str = "copy 7 1 +ORDERS/h1:orders:8080=UP\nvip ORDERS h1:8080\nfault 22\ncopy 7 3 -ORDERS/h1:orders:8080\nvip ORDERS\n";
+const TOLD: &str =
+    "copy 7 1 +ORDERS/h1:orders:8080=UP\nvip ORDERS h1:8080\nfault 22\ncopy 7 3 -ORDERS/h1:orders:8080\nvip ORDERS\n";
 
 /// Answers in turn, and fails behind the last answer.
 #[derive(Drop)]
