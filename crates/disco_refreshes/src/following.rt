@@ -32,7 +32,9 @@ const TOLD: &str =
 #[derive(Drop)]
 struct Answers<'a> {
     alloc: Global,
-    left: &'a [Option<Answer>],
+    all: &'a [Option<Answer>],
+    /// How many were given.
+    given: usize,
     failures: u64,
 }
 
@@ -40,13 +42,12 @@ impl Answers<'_> {
     fn next(&mut self) -> Option<Answer>
         ensures { self.new.failures ≡ self.old.failures }
     {
-        match self.left.split_first() {
-            Some((first, left)) => {
-                self.left = left;
-                *first
-            }
-            None => None,
+        if self.given >= self.all.len() {
+            return None;
         }
+        let answer = self.all[self.given];
+        self.given += 1;
+        answer
     }
 
     fn fail(&mut self) -> Fault
@@ -91,7 +92,8 @@ impl Fetch for Answers<'_> {
 pub(crate) fn is_told<R: Clock>(rt: &R, alloc: Global) -> Result<bool, Fault> {
     let answers = Answers {
         alloc,
-        left: &ANSWERS,
+        all: &ANSWERS,
+        given: 0,
         failures: 0,
     };
     let mut client = Client::certified(alloc, answers, Form::Full);
