@@ -88,8 +88,20 @@ impl Fetch for Answers<'_> {
     }
 }
 
-/// Whether so many refreshes are told so.
-pub(crate) fn is_told<R: Clock>(rt: &R, alloc: Global) -> Result<bool, Fault> {
+/// Tells of five refreshes.
+fn tell<R: Clock, F: Fetch>(
+    rt: &R,
+    alloc: Global,
+    client: &mut Client<F>,
+    told: &mut Vec<u8>,
+) -> Result<(), Fault> {
+    let vip = Some(Text::new(alloc, "ORDERS")?);
+    let mut out = Counted::new(told);
+    follow(rt, alloc, client, &vip, 5, 1, &mut out)
+}
+
+/// What is told of a client's refreshes.
+fn told_of<R: Clock>(rt: &R, alloc: Global, told: &mut Vec<u8>) -> Result<(), Fault> {
     let answers = Answers {
         alloc,
         all: &ANSWERS,
@@ -97,9 +109,12 @@ pub(crate) fn is_told<R: Clock>(rt: &R, alloc: Global) -> Result<bool, Fault> {
         failures: 0,
     };
     let mut client = Client::certified(alloc, answers, Form::Full);
-    let vip = Some(Text::new(alloc, "ORDERS")?);
+    tell(rt, alloc, &mut client, told)
+}
+
+/// Whether it is told so.
+pub(crate) fn is_told<R: Clock>(rt: &R, alloc: Global) -> Result<bool, Fault> {
     let mut told = Vec::new(alloc);
-    let mut out = Counted::new(&mut told);
-    follow(rt, alloc, &mut client, &vip, 5, 1, &mut out)?;
+    told_of(rt, alloc, &mut told)?;
     Ok(told.as_slice() == TOLD.as_bytes())
 }
