@@ -4,10 +4,10 @@ ghost use Rattle.disco_values.specs.declared.fault.Fault.TheVariants.{NotFetched
 ghost use Rattle.disco_reader.specs.Causes.{Raises};
 
 use crate::samples::{GONE, ONE};
-use disco_follow::follow;
 use disco_query::DocKey;
 use disco_reader::Counted;
 use disco_reconcile::{Client, Fetch, Fetched};
+use disco_telling::follow_client;
 use disco_values::{Bytes, Cert, Fault, Form, Text};
 use std::alloc::Global;
 use std::rt::Clock;
@@ -97,7 +97,7 @@ fn tell<R: Clock, F: Fetch>(
 ) -> Result<(), Fault> {
     let vip = Some(Text::new(alloc, "ORDERS")?);
     let mut out = Counted::new(told);
-    follow(rt, alloc, client, &vip, 5, 1, &mut out)
+    follow_client(rt, alloc, client, &vip, 5, 1, &mut out)
 }
 
 /// What is told of a client's refreshes.

@@ -5,11 +5,11 @@ ghost use Rattle.disco_reconcile.specs.State.{copy_of};
 
 use disco_client::Copy;
 use disco_editions::Naming;
-use disco_follow::are_same;
 use disco_press::Desk;
 use disco_query::{DocKey, Query};
 use disco_reconcile::{Client, Fetch};
 use disco_streams::{Failed, Sink, write_all};
+use disco_telling::are_same;
 use disco_values::{Fault, Form};
 use disco_wire::read_document;
 use std::alloc::Global;
