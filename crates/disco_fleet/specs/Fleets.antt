@@ -10,7 +10,7 @@ use Rattle.disco_instance.specs.Row.{Row}
 use Rattle.disco_settings.specs.Limits.{most_instances}
 use Rattle.disco_options.specs.Options.{AreGiven, faults_of, flag_given, matches_for, number_given, options_of, within}
 use Rattle.disco_options.specs.declared.verb.Verb.{Verb}
-use Rattle.disco_options.specs.declared.verb.Verb.TheVariants.{Replay, Serve, Fleet}
+use Rattle.disco_options.specs.declared.verb.Verb.TheVariants.{Replay, Serve, Fleet, Follow}
 use Rattle.disco_fleet.specs.declared.fleets.plan.Plan.{Plan}
 
 -- the settings, the writers, the clients, the instances and the two flags are those given; words without one of the three numbers are refused
@@ -43,6 +43,7 @@ abbrev pub faults_of_running : Verb → List Text → Kinds
 faults_of_running Fleet words = faults_of_fleet words
 faults_of_running Replay words = faults_of Replay words
 faults_of_running Serve words = faults_of Serve words
+faults_of_running Follow words = faults_of Follow words
 
 -- there is a copy, and it has exactly the records of the registry, in the order of their keys
 abbrev pub IsExact : Option (FinMap key_cmp Row) → FinMap key_cmp Row → Type 0

@@ -13,7 +13,9 @@ mod running;
 mod showing;
 
 use clap::ArgMatches;
-use disco_options::{Verb, count, flag_given, read_words, refused, report, settings_from};
+use disco_options::{
+    MOST_THREADS, Verb, count, flag_given, read_words, refused, report, settings_from,
+};
 use disco_press::Opening;
 use disco_settings::{MOST_INSTANCES, Settings};
 use disco_streams::{Sink, write_all};
@@ -35,8 +37,8 @@ fn plan_from(matches: &ArgMatches<'_>) -> Plan
 {
     Plan {
         settings: settings_from(matches, 0),
-        writers: count(matches, "writers", 64, 1),
-        clients: count(matches, "clients", 64, 1),
+        writers: count(matches, "writers", MOST_THREADS, 1),
+        clients: count(matches, "clients", MOST_THREADS, 1),
         instances: count(matches, "instances", MOST_INSTANCES, 1),
         certified: flag_given(matches, "certified"),
         restart: flag_given(matches, "restart"),

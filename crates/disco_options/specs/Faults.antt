@@ -25,6 +25,10 @@ Says fault old new before now = Appends old new (report_line fault) ⊎ (Appends
 abbrev pub SaysAny : Option (List ℕ) → Option (List ℕ) → ℕ → ℕ → Type 0
 SaysAny old new before now = (fault : Fault) × (first : List ℕ) × Says fault (append_known old first) new before now
 
+-- some text is written, or a front of it, where a write failed; the numbers count failures before and after
+abbrev pub Adds : Option (List ℕ) → Option (List ℕ) → ℕ → ℕ → Type 0
+Adds old new before now = (text : List ℕ) × Appends old new text × ((now ≡ before) ⊎ Raises before now)
+
 -- the status for words that give no settings: 0 for help, 1 for want of memory, 2 for a mistake
 abbrev pub status_of_kind : ErrorKind → ℕ
 status_of_kind kind.OutOfMemory = 1

@@ -3,7 +3,7 @@ use Rattle.std.specs.Prelude.{◌≡◌, ◌&&◌, ℕ, Bool, List, [], ◌∷�
 use Rattle.std.specs.Option.{option_map_or}
 use Rattle.std.specs.Str.{bytes_eq}
 use Rattle.std.specs.Str.Parse.{without_leading_plus}
-use Rattle.clap.specs.Words.{App, Kinds, Row, Rule, Text, fault_of, matches_of, new_app, new_rule, one_of, with_rule, with_subcommand}
+use Rattle.clap.specs.Words.{App, Kinds, Row, Rule, Text, fault_of, first_of, matches_of, new_app, new_rule, one_of, with_rule, with_subcommand}
 use Rattle.clap.specs.Kinds.{or_else}
 use Rattle.clap.specs.Simple.{on_top}
 use Rattle.clap.specs.declared.builder.ArgAction.TheVariants.{Set, SetTrue}
@@ -13,7 +13,7 @@ use Rattle.disco_digits.specs.Digits.{digits_number}
 use Rattle.disco_settings.specs.Limits.{most_versions, most_instances, most_queue, most_entries, retention}
 use Rattle.disco_settings.specs.declared.settings.Settings.{Settings}
 use Rattle.disco_options.specs.declared.verb.Verb.{Verb}
-use Rattle.disco_options.specs.declared.verb.Verb.TheVariants.{Replay, Serve, Fleet}
+use Rattle.disco_options.specs.declared.verb.Verb.TheVariants.{Replay, Serve, Fleet, Follow}
 
 -- `--NAME N`, of a whole number in these bounds
 abbrev pub number_rule : Text → ℕ → ℕ → Rule
@@ -23,6 +23,10 @@ number_rule name least most = record (new_rule name) {
   value_names = 1;
   parser = Some (Unsigned least most);
 }
+
+-- `--NAME TEXT`
+abbrev pub text_rule : Text → Rule
+text_rule name = record (new_rule name) { long = Some name; action = Some Set; value_names = 1 }
 
 -- `--NAME`
 abbrev pub flag_rule : Text → Rule
@@ -53,10 +57,19 @@ replay_app = with_settings (new_app (codes "replay"))
 
 abbrev pub serve_app : App
 serve_app =
-    with_rule (with_rule (with_rule (with_settings (new_app (codes "serve")))
+    with_settings (with_rule (with_rule (with_rule (new_app (codes "serve"))
     (needed (number_rule (codes "port") 1 65535)))
     (number_rule (codes "workers") 1 64))
-    (any_number (codes "connections"))
+    (any_number (codes "connections")))
+
+abbrev pub follow_app : App
+follow_app =
+    with_rule (with_rule (with_rule (with_rule (with_rule (new_app (codes "follow"))
+    (needed (number_rule (codes "port") 1 65535)))
+    (text_rule (codes "vip")))
+    (flag_rule (codes "compact")))
+    (number_rule (codes "every") 1 18446744073709551615))
+    (any_number (codes "times"))
 
 abbrev pub fleet_app : App
 fleet_app =
@@ -72,11 +85,13 @@ abbrev pub app_for : Verb → App
 app_for Replay = replay_app
 app_for Serve = serve_app
 app_for Fleet = fleet_app
+app_for Follow = follow_app
 
 abbrev pub name_of : Verb → Text
 name_of Replay = codes "replay"
 name_of Serve = codes "serve"
 name_of Fleet = codes "fleet"
+name_of Follow = codes "follow"
 
 -- the same, where no word stands for the program
 abbrev pub options_app : Verb → App
@@ -93,9 +108,9 @@ matches_for verb words = matches_of (options_app verb) words
 -- the program's own words: a command has to stand among them
 abbrev pub program_app : App
 program_app =
-    with_subcommand (with_subcommand (with_subcommand
+    with_subcommand (with_subcommand (with_subcommand (with_subcommand
     (on_top (λ s. record s { no_binary_name = true; subcommand_required = true }) (new_app (codes "discovery")))
-    replay_app.top) serve_app.top) fleet_app.top
+    serve_app.top) follow_app.top) replay_app.top) fleet_app.top
 
 -- the words behind a command's word, where that stands first
 abbrev pub options_of : Verb → List Text → Option (List Text)
@@ -105,7 +120,9 @@ options_of verb (word ∷ words) = if bytes_eq word (name_of verb) then Some wor
 -- the command that the words name first, and `replay` where they name none
 abbrev pub verb_of : List Text → Verb
 verb_of [] = Replay
-verb_of (word ∷ words) = if bytes_eq word (codes "serve") then Serve else (if bytes_eq word (codes "fleet") then Fleet else Replay)
+verb_of (word ∷ words) =
+    if bytes_eq word (codes "serve") then Serve
+    else (if bytes_eq word (codes "fleet") then Fleet else (if bytes_eq word (codes "follow") then Follow else Replay))
 
 -- what is wrong with words that do not begin with a command's word: no such command is among them at least
 abbrev pub faults_of_others : List Text → Kinds
@@ -119,6 +136,10 @@ faults_of verb words = option_map_or (faults_of_options verb) (options_of verb w
 abbrev pub number_given : Text → List Row → Option ℕ
 number_given name rows = option_and_then (λ text. digits_number (without_leading_plus text)) (one_of name rows)
 
+-- the text that is given for a name
+abbrev pub text_given : Text → List Row → Option Text
+text_given name rows = first_of name rows
+
 -- the number given from 1 to `most`, and else the other one
 abbrev pub within : ℕ → ℕ → Option ℕ → ℕ
 within most otherwise None = otherwise
@@ -126,6 +147,10 @@ within most otherwise (Some given) = if nat_lt 0 given && nat_le given most then
 
 abbrev pub flag_given : Text → List Row → Bool
 flag_given name rows = option_map_or (λ text. bytes_eq text (codes "true")) (one_of name rows) false
+
+-- the port that is given; words without one are refused
+abbrev pub port_in : List Row → ℕ
+port_in rows = within 65535 1 (number_given (codes "port") rows)
 
 -- the settings are those given, with defaults for the others, of which that of the run is handed in
 pub record AreGiven (otherwise : ℕ) (rows : List Row) (s : Settings) : Type 0 where

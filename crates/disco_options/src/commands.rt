@@ -1,9 +1,13 @@
 //! The command line.
 ghost use Rattle.std.specs.Prelude.{◌≡◌, IfOk, map, string_bytes};
 ghost use Rattle.clap.specs.Words.{FailsBy, HasKind, app_of, found_of, rows_of};
-ghost use Rattle.disco_options.specs.Options.{AreMatches, app_for, faults_of, faults_of_options, faults_of_others, matches_for, program_app, fleet_app, replay_app, serve_app};
+ghost use Rattle.disco_options.specs.Options.{AreMatches, app_for, faults_of, faults_of_options, faults_of_others, matches_for, program_app, fleet_app, follow_app, replay_app, serve_app};
 
-use crate::options::{flag, needed, number, with_settings};
+use crate::limits::{
+    MOST_PORT, MOST_THREADS, MOST_WORKERS, bounds_and_default, most_port, most_threads, pause,
+    workers,
+};
+use crate::options::{flag, needed, number, text, with_settings};
 use crate::verb::Verb;
 use clap::error::ErrorKind;
 use clap::{ArgMatches, Command, Error};
@@ -26,34 +30,55 @@ fn replay_command<'a>(alloc: Global) -> Result<Command<'a>, AllocError>
 fn serve_command<'a>(alloc: Global) -> Result<Command<'a>, AllocError>
     ensures { IfOk result (λ c. app_of c ≡ serve_app) }
 {
-    let port = "The port of 127.0.0.1 to listen on, 1 to 65535";
-    let workers =
-        "How many connections are served at once, 1 to 64; a silent one is closed after 30 seconds [default: 4]";
+    let port = most_port!(up_to, "The port of 127.0.0.1 to listen on");
+    let workers = workers!(
+        bounds_and_default,
+        "How many connections are served at once; a silent one gives way to one that waits"
+    );
     let connections = "After how many connections the server ends; 0 is no end [default: 0]";
     let run =
         "The number of the server's run, greater than that of each earlier one [default: the moment of the start, in milliseconds]";
-    let command = Command::new(alloc, "serve").about(
-        "Serves Eureka's REST operations at /eureka/v2",
+    let command = Command::new(alloc, "serve")
+        .about("Serves Eureka's REST operations at /eureka/v2")
+        .arg(needed(number(alloc, "port", "P", 1, MOST_PORT, port)))?
+        .arg(number(alloc, "workers", "N", 1, MOST_WORKERS, workers))?
+        .arg(number(alloc, "connections", "N", 0, u64::MAX, connections))?;
+    with_settings(alloc, command, run)
+}
+
+fn follow_command<'a>(alloc: Global) -> Result<Command<'a>, AllocError>
+    ensures { IfOk result (λ c. app_of c ≡ follow_app) }
+{
+    let port = most_port!(up_to, "The port of 127.0.0.1 at which the server listens");
+    let vip = "Tells where the instances are reached that are UP under this vip address, too";
+    let compact = "Fetches compact documents";
+    let every = pause!(
+        by_default,
+        "The pause between two refreshes, in milliseconds"
     );
-    with_settings(alloc, command, run)?
-        .arg(needed(number(alloc, "port", "P", 1, 65_535, port)))?
-        .arg(number(alloc, "workers", "N", 1, 64, workers))?
-        .arg(number(alloc, "connections", "N", 0, u64::MAX, connections))
+    let times = "How many refreshes are made; 0 is no end [default: 0]";
+    Command::new(alloc, "follow")
+        .about("Keeps a certified copy of a server's registry, and tells what changes in it")
+        .arg(needed(number(alloc, "port", "P", 1, MOST_PORT, port)))?
+        .arg(text(alloc, "vip", "VIP", vip))?
+        .arg(flag(alloc, "compact", compact))?
+        .arg(number(alloc, "every", "MS", 1, u64::MAX, every))?
+        .arg(number(alloc, "times", "N", 0, u64::MAX, times))
 }
 
 fn fleet_command<'a>(alloc: Global) -> Result<Command<'a>, AllocError>
     ensures { IfOk result (λ c. app_of c ≡ fleet_app) }
 {
-    let writers = "How many threads register, 1 to 64";
-    let clients = "How many clients keep a copy, 1 to 64";
+    let writers = most_threads!(up_to, "How many threads register");
+    let clients = most_threads!(up_to, "How many clients keep a copy");
     let instances = most_instances!(up_to, "How many instances are registered");
     let run = "The number of the server's run [default: 0]";
     let certified = "Lets the clients go by the certificates of documents";
     let restart = "Starts the server again in the next run, and shows all once more";
     Command::new(alloc, "fleet")
         .about("Shows writers, a server and clients at work in one process")
-        .arg(needed(number(alloc, "writers", "W", 1, 64, writers)))?
-        .arg(needed(number(alloc, "clients", "C", 1, 64, clients)))?
+        .arg(needed(number(alloc, "writers", "W", 1, MOST_THREADS, writers)))?
+        .arg(needed(number(alloc, "clients", "C", 1, MOST_THREADS, clients)))?
         .arg(needed(number(alloc, "instances", "N", 1, MOST_INSTANCES, instances)))?
         .arg(number(alloc, "run", "N", 0, u64::MAX, run))?
         .arg(flag(alloc, "certified", certified))?
@@ -67,6 +92,7 @@ fn command_of<'a>(alloc: Global, verb: Verb) -> Result<Command<'a>, AllocError>
         Verb::Replay => replay_command(alloc),
         Verb::Serve => serve_command(alloc),
         Verb::Fleet => fleet_command(alloc),
+        Verb::Follow => follow_command(alloc),
     }
 }
 
@@ -78,8 +104,9 @@ fn program_command<'a>(alloc: Global) -> Result<Command<'a>, AllocError>
         .about("A registry of instances, after Netflix Eureka")
         .no_binary_name(true)
         .subcommand_required(true)
-        .subcommand(replay_command(alloc)?)?
         .subcommand(serve_command(alloc)?)?
+        .subcommand(follow_command(alloc)?)?
+        .subcommand(replay_command(alloc)?)?
         .subcommand(fleet_command(alloc)?)
 }
 
@@ -89,6 +116,7 @@ fn shown(verb: Verb) -> &'static str {
         Verb::Replay => "discovery replay",
         Verb::Serve => "discovery serve",
         Verb::Fleet => "discovery fleet",
+        Verb::Follow => "discovery follow",
     }
 }
 

@@ -3,7 +3,7 @@ ghost use Rattle.std.specs.Prelude.{◌≡◌, ◌≢◌, ◌⊎◌, ◌++◌, I
 ghost use Rattle.std.specs.Io.KnownBytes.{Appends};
 ghost use Rattle.std.specs.IoError.{error_kind};
 ghost use Rattle.clap.specs.Words.{kind_of};
-ghost use Rattle.disco_options.specs.Faults.{Says, SaysAny, report_line, status_of_kind, status_without_words};
+ghost use Rattle.disco_options.specs.Faults.{Adds, Says, SaysAny, report_line, status_of_kind, status_without_words};
 ghost use Rattle.disco_streams.specs.Writes.{Writes};
 ghost use Rattle.disco_values.specs.declared.fault.Fault.TheVariants.{OutOfMemory};
 
@@ -62,6 +62,35 @@ pub fn report<E: Sink>(fault: &Fault, errors: &mut E) -> u8
         Ok(()) => 1,
         Err(Failed) => 1,
     }
+}
+
+/// Tells why the host refuses an address of 127.0.0.1.
+fn explain<E: Sink>(alloc: Global, what: &str, port: u16, error: &io::Error, errors: &mut E)
+    ensures { Adds (E.contents errors.old) (E.contents errors.new) (E.failed errors.old) (E.failed errors.new) }
+{
+    let Ok(text) = format!(in alloc; "discovery: {what} 127.0.0.1:{port}: {error}\n") else {
+        return;
+    };
+    let _ = write_all(errors, text.as_bytes());
+}
+
+/// Tells what the host refuses at a port of 127.0.0.1, and why, where there is memory for it. Writes
+/// the line of the fault `ReadFailed` behind it, and gives the status 1.
+pub fn report_address<E: Sink>(
+    alloc: Global,
+    what: &str,
+    port: u16,
+    error: &io::Error,
+    errors: &mut E,
+) -> u8
+    ensures status { result ≡ 1 }
+    ensures told { SaysAny (E.contents errors.old) (E.contents errors.new) (E.failed errors.old) (E.failed errors.new) }
+{
+    explain(alloc, what, port, error, errors);
+    let status = report(&Fault::ReadFailed, errors);
+    // No effect at run time: the proof reads from it how far failures are counted.
+    let _failures = errors.failures();
+    status
 }
 
 /// The status for a command line that gave no settings: 0 where help was asked for, 1 for want of

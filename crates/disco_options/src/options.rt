@@ -1,7 +1,7 @@
 //! Options of commands.
-ghost use Rattle.std.specs.Prelude.{◌≡◌, ◌<◌, ◌≤◌, IfOk, codes, false, true};
+ghost use Rattle.std.specs.Prelude.{◌≡◌, ◌<◌, ◌≤◌, IfOk, codes, false, option_map, true};
 ghost use Rattle.clap.specs.Words.{app_of, found_of, rows_of, rule_of};
-ghost use Rattle.disco_options.specs.Options.{flag_given, flag_rule, number_given, number_rule, within, with_settings};
+ghost use Rattle.disco_options.specs.Options.{flag_given, flag_rule, number_given, number_rule, text_given, text_rule, within, with_settings};
 
 use clap::builder::ValueParser;
 use clap::{Arg, ArgAction, ArgMatches, Command};
@@ -28,6 +28,18 @@ pub(crate) fn number<'a>(
         .value_name(unit)
         .action(ArgAction::Set)
         .value_parser(ValueParser::unsigned(least, most))
+        .help(help)
+}
+
+/// An option that is a text.
+pub(crate) fn text<'a>(alloc: Global, name: &'a str, unit: &'a str, help: &'a str) -> Arg<'a>
+    ensures rule { rule_of result ≡ text_rule name.entry.now }
+    ensures local { result.global ≡ false }
+{
+    Arg::new(alloc, name)
+        .long(name)
+        .value_name(unit)
+        .action(ArgAction::Set)
         .help(help)
 }
 
@@ -84,6 +96,13 @@ pub fn number_given(matches: &ArgMatches<'_>, name: &str) -> Option<u64>
     ensures { result ≡ number_given name.now (rows_of (found_of matches.now)) }
 {
     matches.get_one::<u64>(name)
+}
+
+/// The text given for a name.
+pub fn text_given<'a>(matches: &ArgMatches<'a>, name: &str) -> Option<&'a str>
+    ensures { option_map (λ t. t.now) result ≡ text_given name.now (rows_of (found_of matches.now)) }
+{
+    matches.get_str(name)
 }
 
 /// Whether a flag is given.

@@ -11,6 +11,8 @@ pub enum Verb {
     Serve,
     /// Serves clients and writers in its own process.
     Fleet,
+    /// Tells what changes in the registry of a server.
+    Follow,
 }
 
 impl Verb {
@@ -21,6 +23,7 @@ impl Verb {
         match words.first() {
             Some(word) if word.as_str() == "serve" => Verb::Serve,
             Some(word) if word.as_str() == "fleet" => Verb::Fleet,
+            Some(word) if word.as_str() == "follow" => Verb::Follow,
             _ => Verb::Replay,
         }
     }
@@ -33,6 +36,7 @@ impl Verb {
             Verb::Replay => "replay",
             Verb::Serve => "serve",
             Verb::Fleet => "fleet",
+            Verb::Follow => "follow",
         }
     }
 

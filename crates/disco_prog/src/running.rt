@@ -1,10 +1,11 @@
 //! The program.
 ghost use Rattle.std.specs.Prelude.{◌≡◌, [], map, string_bytes};
 ghost use Rattle.disco_fleet.specs.Fleets.{faults_of_running};
+ghost use Rattle.disco_follow.specs.Following.{TellsFor};
 ghost use Rattle.disco_options.specs.Ending.{EndsBy};
 ghost use Rattle.disco_options.specs.Faults.{Says};
 ghost use Rattle.disco_options.specs.Options.{faults_of, verb_of};
-ghost use Rattle.disco_options.specs.declared.verb.Verb.TheVariants.{Replay, Serve};
+ghost use Rattle.disco_options.specs.declared.verb.Verb.TheVariants.{Replay, Serve, Follow};
 ghost use Rattle.disco_press.specs.Openings.{Opens};
 ghost use Rattle.disco_reader.specs.Causes.{Raises};
 ghost use Rattle.disco_replay.specs.Replay.{IsFailed, IsReplayed};
@@ -12,6 +13,7 @@ ghost use Rattle.disco_serve.specs.Serving.{SaysListening};
 
 use disco_editions::Naming;
 use disco_fleet::fleet;
+use disco_follow::follow;
 use disco_options::Verb;
 use disco_press::Opening;
 use disco_replay::replay;
@@ -52,10 +54,15 @@ where
     // `serve` with status 0 has said where it listens.
     ensures listening { verb_of (map string_bytes words.now) ≡ Serve → faults_of Serve (map string_bytes words.now) ≡ [] → result ≡ 0
         → SaysListening (map string_bytes words.now) (W.contents out.old) (W.contents out.new) }
+
+    // `follow` with status 0 has told all that was asked for.
+    ensures followed { verb_of (map string_bytes words.now) ≡ Follow → faults_of Follow (map string_bytes words.now) ≡ [] → result ≡ 0
+        → TellsFor (map string_bytes words.now) (W.contents out.old) (W.contents out.new) }
 {
     match Verb::of(words) {
         Verb::Replay => replay(alloc, input, out, errors, words),
         Verb::Serve => serve::<J, R, W, E>(rt, alloc, opening, out, errors, words),
         Verb::Fleet => fleet(rt, alloc, out, errors, words),
+        Verb::Follow => follow(rt, alloc, out, errors, words),
     }
 }

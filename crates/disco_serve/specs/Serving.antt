@@ -1,15 +1,10 @@
 -- What the words of `serve` name, and what it writes.
-use Rattle.std.specs.Prelude.{◌≡◌, ◌⊎◌, ℕ, List, Option, ◌++◌, codes, decimal, unwrap_or}
+use Rattle.std.specs.Prelude.{◌≡◌, ℕ, List, Option, ◌++◌, codes, decimal, unwrap_or}
 use Rattle.std.specs.Io.KnownBytes.{Appends}
 use Rattle.clap.specs.Words.{Row, Text}
-use Rattle.disco_options.specs.Options.{AreGiven, AreMatches, number_given, within}
+use Rattle.disco_options.specs.Options.{AreGiven, AreMatches, number_given, port_in, within}
 use Rattle.disco_options.specs.declared.verb.Verb.TheVariants.{Serve}
-use Rattle.disco_reader.specs.Causes.{Raises}
 use Rattle.disco_serve.specs.declared.service.Service.{Service}
-
--- the port that is given; words without one are refused
-abbrev pub port_in : List Row → ℕ
-port_in rows = within 65535 1 (number_given (codes "port") rows)
 
 -- the settings, of which the run is this one where none is given, the port, the workers (4 where none are given) and the connections (0, which is no end) are those given
 pub record IsGiven (run : ℕ) (rows : List Row) (s : Service) : Type 0 where
@@ -25,7 +20,3 @@ listening_line port = codes "listening 127.0.0.1:" ++ decimal port ++ codes "\n"
 -- the words are `serve` and options, and it is said that connections are taken on the port that these give
 unfoldable pub SaysListening : List Text → Option (List ℕ) → Option (List ℕ) → Type 0
 SaysListening words old new = (rows : List Row) × AreMatches Serve words rows × Appends old new (listening_line (port_in rows))
-
--- some text is written, or a front of it, where a write failed; the numbers count failures before and after
-abbrev pub Adds : Option (List ℕ) → Option (List ℕ) → ℕ → ℕ → Type 0
-Adds old new before now = (text : List ℕ) × Appends old new text × ((now ≡ before) ⊎ Raises before now)

@@ -3,18 +3,20 @@ ghost use Rattle.std.specs.Prelude.{◌≡◌, ◌⊎◌, [], IfErr, OnOk, map, 
 ghost use Rattle.std.specs.Io.KnownBytes.{Appends};
 ghost use Rattle.clap.specs.Words.{found_of, rows_of};
 ghost use Rattle.disco_options.specs.Ending.{EndsBy};
-ghost use Rattle.disco_options.specs.Faults.{SaysAny};
 ghost use Rattle.disco_options.specs.Options.{faults_of};
 ghost use Rattle.disco_press.specs.Openings.{Opens};
 ghost use Rattle.disco_reader.specs.Causes.{Cause};
-ghost use Rattle.disco_serve.specs.Serving.{Adds, IsGiven, SaysListening, listening_line};
+ghost use Rattle.disco_serve.specs.Serving.{IsGiven, SaysListening, listening_line};
 ghost use Rattle.disco_values.specs.declared.fault.Fault.TheVariants.{OutOfMemory, WriteFailed};
 
 use crate::service::Service;
 use clap::ArgMatches;
 use disco_editions::Naming;
 use disco_message::Limits;
-use disco_options::{Verb, count, number_given, read_words, refused, report, settings_from};
+use disco_options::{
+    MOST_PORT, MOST_WORKERS, Verb, WORKERS, count, number_given, read_words, refused, report,
+    report_address, settings_from,
+};
 use disco_press::{Desk, Opening, Seat, open};
 use disco_server::{Open, listen, start};
 use disco_streams::{Failed, Sink, write_all};
@@ -22,10 +24,10 @@ use disco_timers::{Clock, SystemClock, timers};
 use disco_values::Fault;
 use std::alloc::Global;
 use std::net::{Net, TcpListener, TcpStream};
+use std::rt;
 use std::sync::atomic::{AtomicBool, Ordering};
 use std::sync::{Mutex, Wait};
 use std::thread::{Threads, join};
-use std::{io, rt};
 
 /// What the words of `serve` name; the run is `run` where they name none.
 fn service_from(matches: &ArgMatches<'_>, run: u64) -> Service
@@ -33,8 +35,8 @@ fn service_from(matches: &ArgMatches<'_>, run: u64) -> Service
 {
     Service {
         settings: settings_from(matches, run),
-        port: count(matches, "port", 65_535, 1) as u16,
-        workers: count(matches, "workers", 64, 4) as usize,
+        port: count(matches, "port", MOST_PORT, 1) as u16,
+        workers: count(matches, "workers", MOST_WORKERS, WORKERS) as usize,
         connections: number_given(matches, "connections").unwrap_or(0),
     }
 }
@@ -115,30 +117,6 @@ where
     served
 }
 
-/// Tells why the host lets nobody listen on a port.
-fn explain<E: Sink>(alloc: Global, port: u16, error: &io::Error, errors: &mut E)
-    ensures { Adds (E.contents errors.old) (E.contents errors.new) (E.failed errors.old) (E.failed errors.new) }
-{
-    let Ok(text) = format!(in alloc; "discovery: no listening on 127.0.0.1:{port}: {error}\n")
-    else {
-        return;
-    };
-    let _ = write_all(errors, text.as_bytes());
-}
-
-/// Tells why the host lets nobody listen on a port, where there is memory for it, and gives the
-/// status.
-fn unheard<E: Sink>(alloc: Global, port: u16, error: &io::Error, errors: &mut E) -> u8
-    ensures status { result ≡ 1 }
-    ensures told { SaysAny (E.contents errors.old) (E.contents errors.new) (E.failed errors.old) (E.failed errors.new) }
-{
-    explain(alloc, port, error, errors);
-    let status = report(&Fault::ReadFailed, errors);
-    // No effect at run time: the proof reads from it how far failures are counted.
-    let _failures = errors.failures();
-    status
-}
-
 /// Runs the command `serve` on the words behind the program's name, and gives the exit status.
 ///
 /// It listens on a port of 127.0.0.1, writes `listening 127.0.0.1:PORT` to `out`, and serves
@@ -171,7 +149,9 @@ where
     };
     let listener = match listen(rt, service.port) {
         Ok(listener) => listener,
-        Err(error) => return unheard(alloc, service.port, &error, errors),
+        Err(error) => {
+            return report_address(alloc, "no listening on", service.port, &error, errors);
+        }
     };
     match open_and_serve::<J, R, W>(rt, alloc, &service, listener, opening, out) {
         Ok(()) => 0,

@@ -1,19 +1,12 @@
 //! Clients that keep a copy over connections of their own.
-use crate::fleets::line::{Connected, Line};
+use crate::fleets::line::Line;
 use crate::fleets::plan::Plan;
-use disco_http::Writer;
-use disco_message::Limits;
-use disco_reader::{Counted, Reader};
-use disco_reconcile::{Client, HttpFetch};
+use disco_follow::{Connected, connect, fetcher};
+use disco_reconcile::Client;
 use disco_values::{Fault, Form};
 use std::alloc::{AllocError, Global};
-use std::io;
 use std::net::{Net, SocketAddr, TcpListener, TcpStream};
 use std::thread::{Threads, map_vec};
-use std::time::Duration;
-
-/// How long a client waits for bytes of a reply, in seconds.
-const PATIENCE: u64 = 60;
 
 /// A client over a line.
 pub(super) type Follower = Client<Line>;
@@ -36,18 +29,6 @@ pub(super) fn followers(alloc: Global, plan: &Plan) -> Result<Vec<Follower>, All
     Ok(clients)
 }
 
-/// A connection to that address, and once more the same.
-fn connect<N: Net<Stream = TcpStream>>(
-    rt: &N,
-    address: SocketAddr,
-) -> io::Result<(TcpStream, TcpStream)> {
-    let stream = TcpStream::connect(rt, address)?;
-    stream.set_nodelay(true)?;
-    stream.set_read_timeout(Some(Duration::from_secs(PATIENCE)))?;
-    let other = stream.try_clone()?;
-    Ok((stream, other))
-}
-
 /// Fetches over a new connection to that address.
 fn connected<N: Net<Stream = TcpStream>>(
     rt: &N,
@@ -57,9 +38,8 @@ fn connected<N: Net<Stream = TcpStream>>(
     let Ok((source, sink)) = connect(rt, address) else {
         return Err(Fault::ReadFailed);
     };
-    let reader = Reader::new(alloc, Counted::new(source), Limits::of_client())?;
-    let writer = Writer::new(alloc, Counted::new(sink))?;
-    Ok(HttpFetch::new(alloc, reader, writer))
+    let connected = fetcher(alloc, source, sink)?;
+    Ok(connected)
 }
 
 /// A client goes on over a connection.

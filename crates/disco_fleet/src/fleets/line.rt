@@ -4,14 +4,10 @@ ghost use Rattle.disco_values.specs.declared.fault.Fault.TheVariants.{OutOfMemor
 ghost use Rattle.disco_query.specs.declared.query.Query.TheVariants.{Apps, Delta};
 ghost use Rattle.disco_reader.specs.Causes.{Raises};
 
+use disco_follow::Connected;
 use disco_query::DocKey;
-use disco_reader::Counted;
-use disco_reconcile::{Fetch, Fetched, HttpFetch};
+use disco_reconcile::{Fetch, Fetched};
 use disco_values::Fault;
-use std::net::TcpStream;
-
-/// Fetches over a connection.
-pub(super) type Connected = HttpFetch<Counted<TcpStream>, Counted<TcpStream>>;
 
 /// A client's line to a server: between two runs of it there is no connection. It counts the fetches
 /// that failed over all its connections.

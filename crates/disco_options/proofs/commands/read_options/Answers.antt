@@ -5,7 +5,7 @@ use Rattle.clap.specs.Simple.{app_of_fields, on_top}
 use Rattle.clap.proofs.OnLiterals.{clap_on_literals}
 use Rattle.disco_options.specs.Options.{options_app}
 use Rattle.disco_options.specs.declared.verb.Verb.{Verb}
-use Rattle.disco_options.specs.declared.verb.Verb.TheVariants.{Replay, Serve, Fleet}
+use Rattle.disco_options.specs.declared.verb.Verb.TheVariants.{Replay, Serve, Fleet, Follow}
 use Rattle.disco_options.proofs.commands.read_options.Goals as goal
 
 is_plain : (verb : Verb) → is_simple_and_free (options_app verb) ≡ true
@@ -13,12 +13,14 @@ unfolding clap_on_literals
 is_plain Replay = refl
 is_plain Serve = refl
 is_plain Fleet = refl
+is_plain Follow = refl
 
 has_matches : (verb : Verb) → is_simple (options_app verb) ≡ true
 unfolding clap_on_literals
 has_matches Replay = refl
 has_matches Serve = refl
 has_matches Fleet = refl
+has_matches Follow = refl
 
 pub returns : goal.returns
 returns c =

@@ -1,7 +1,7 @@
 use Rattle.std.proofs.Common.{◌<◌, ◌^◌, rules}
 use Rattle.disco_values.specs.declared.fault.Fault.TheVariants.{ReadFailed}
 use Rattle.disco_options.proofs.Said.{says_behind}
-use Rattle.disco_serve.proofs.serving.unheard.Goals as goal
+use Rattle.disco_options.proofs.faults.report_address.Goals as goal
 
 pub returns-clause-told : goal.returns-clause-told
 returns-clause-told g c =

@@ -1,0 +1,72 @@
+//! The bounds and the defaults of what commands are given beside settings. Each number stands here
+//! once for code, in the way of `disco_settings`, and once for contracts, in `specs/Options.antt`.
+
+/// The upper bound of a number that has a default too.
+macro_rules! most {
+    ($most:literal, $default:literal) => {
+        $most
+    };
+}
+
+/// The default of a number that has an upper bound too.
+macro_rules! default {
+    ($most:literal, $default:literal) => {
+        $default
+    };
+}
+
+/// A help text with the bounds of a number and its default.
+macro_rules! bounds_and_default {
+    ($most:literal, $default:literal, $text:literal) => {
+        concat!($text, ", 1 to ", $most, " [default: ", $default, "]")
+    };
+}
+
+/// A port.
+macro_rules! most_port {
+    ($with:ident $(, $text:literal)?) => {
+        disco_settings::$with!(65535 $(, $text)?)
+    };
+}
+
+/// Workers of a server.
+macro_rules! workers {
+    ($with:ident $(, $text:literal)?) => {
+        $with!(64, 4 $(, $text)?)
+    };
+}
+
+/// Threads that register, and clients, of a fleet.
+macro_rules! most_threads {
+    ($with:ident $(, $text:literal)?) => {
+        disco_settings::$with!(64 $(, $text)?)
+    };
+}
+
+/// The pause between two refreshes, in milliseconds: that of Eureka's clients by default.
+macro_rules! pause {
+    ($with:ident $(, $text:literal)?) => {
+        disco_settings::$with!(30000 $(, $text)?)
+    };
+}
+
+pub(crate) use bounds_and_default;
+pub(crate) use most_port;
+pub(crate) use most_threads;
+pub(crate) use pause;
+pub(crate) use workers;
+
+/// The greatest port.
+pub const MOST_PORT: u64 = most_port!(number);
+
+/// How many workers a server has at most.
+pub const MOST_WORKERS: u64 = workers!(most);
+
+/// How many workers a server has by default.
+pub const WORKERS: u64 = workers!(default);
+
+/// How many threads of one kind a fleet has at most: writers, and clients.
+pub const MOST_THREADS: u64 = most_threads!(number);
+
+/// The pause between two refreshes by default, in milliseconds.
+pub const PAUSE: u64 = pause!(number);
