@@ -7,6 +7,7 @@
 mod client;
 mod dial;
 mod fleets;
+mod following;
 mod holding;
 mod program;
 mod serving;
@@ -15,6 +16,7 @@ mod told;
 mod trials;
 
 use disco_press::Opening;
+use program::Guest;
 use std::marker::Brand;
 use std::process::ExitCode;
 use told::is_told;
@@ -25,10 +27,17 @@ fn main(rt: HostRuntime) -> ExitCode {
     let timed = matches!(timed::run::<Brand, _>(&rt, alloc, Opening::new()), Ok(true));
     let timed = is_told(&rt, "timed workers at their periods", timed);
     let serves = matches!(
-        program::serves::<Brand, _>(&rt, alloc, Opening::new()),
+        program::serves::<Brand, _>(&rt, alloc, Opening::new(), Guest::Asks),
         Ok(true)
     );
     let serves = is_told(&rt, "the program serves a connection", serves);
+    let followed = matches!(
+        program::serves::<Brand, _>(&rt, alloc, Opening::new(), Guest::Follows),
+        Ok(true)
+    );
+    let followed = is_told(&rt, "the program follows a server", followed);
+    let unreached = matches!(following::is_refused(&rt, alloc), Ok(true));
+    let unreached = is_told(&rt, "the program follows where nobody listens", unreached);
     let refused = matches!(
         program::is_refused::<Brand, _>(&rt, alloc, Opening::new()),
         Ok(true)
@@ -36,7 +45,7 @@ fn main(rt: HostRuntime) -> ExitCode {
     let refused = is_told(&rt, "the program on a port that is taken", refused);
     let fleet = matches!(fleets::are_told_apart(alloc), Ok(true));
     let fleet = is_told(&rt, "copies that are not the registry", fleet);
-    if [server, timed, serves, refused, fleet]
+    if [server, timed, serves, followed, unreached, refused, fleet]
         .iter()
         .all(|well| *well)
     {

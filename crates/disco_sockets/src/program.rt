@@ -2,6 +2,7 @@
 ghost use Rattle.disco_press.specs.Openings.{Opens};
 
 use crate::client::{hears, is_at_end, send, visit};
+use crate::following::register_and_follow;
 use disco_editions::Naming;
 use disco_press::Opening;
 use disco_prog::run;
@@ -51,41 +52,83 @@ fn address(port: u16) -> SocketAddr {
     SocketAddr::from((Ipv4Addr::LOCALHOST, port))
 }
 
-/// The words that have the program serve one connection on a port.
-fn words(alloc: Global, port: u16) -> io::Result<Vec<String>> {
+/// Who visits the program while it serves.
+#[derive(Clone, Copy)]
+pub(crate) enum Guest {
+    /// Asks once, over one connection.
+    Asks,
+    /// Registers over one connection, and follows over another one.
+    Follows,
+}
+
+impl Guest {
+    fn connections(self) -> &'static str {
+        match self {
+            Guest::Asks => "1",
+            Guest::Follows => "2",
+        }
+    }
+}
+
+/// The words that have the program serve so many connections on a port.
+fn words(alloc: Global, port: u16, connections: &str) -> io::Result<Vec<String>> {
     let mut words = Vec::new(alloc);
-    for word in ["serve", "--connections", "1", "--port"] {
+    for word in [
+        "serve",
+        "--run",
+        "5",
+        "--connections",
+        connections,
+        "--port",
+    ] {
         words.push(String::from_str(alloc, word)?)?;
     }
     words.push(format!(in alloc; "{port}")?)?;
     Ok(words)
 }
 
-/// Makes one request once the program has said that it listens. Whether it is answered, and the
-/// connection ends.
-fn ask<R: Net<Stream = TcpStream> + Clock>(
-    rt: &R,
-    alloc: Global,
-    port: u16,
-    whole: &AtomicBool,
-) -> io::Result<bool> {
+/// Makes one request. Whether it is answered, and the connection ends.
+fn ask<R: Net<Stream = TcpStream>>(rt: &R, alloc: Global, port: u16) -> io::Result<bool> {
+    let stream = visit(rt, address(port))?;
+    send(&stream, LAST_APPS)?;
+    Ok(hears(alloc, &stream, 200) && is_at_end(&stream))
+}
+
+/// Waits until the program has said that it listens. Whether it has.
+fn is_listening<R: Clock>(rt: &R, whole: &AtomicBool) -> bool {
     for _ in 0..LOOKS {
         if whole.load(Ordering::SeqCst) {
-            let stream = visit(rt, address(port))?;
-            send(&stream, LAST_APPS)?;
-            return Ok(hears(alloc, &stream, 200) && is_at_end(&stream));
+            return true;
         }
         sleep(rt, Duration::from_millis(NAP_MILLIS));
     }
-    Ok(false)
+    false
 }
 
-/// Runs the program on the words, beside a client. Whether it says where it listens and nothing else,
-/// answers the client, and ends with 0 behind its one connection.
-fn serve_one<J: Naming + Send + Sync, R>(
+/// Visits the program once it has said that it listens. Whether all is as it has to be.
+fn visit_program<R: Net<Stream = TcpStream> + Clock>(
+    rt: &R,
+    alloc: Global,
+    guest: Guest,
+    port: u16,
+    whole: &AtomicBool,
+) -> io::Result<bool> {
+    if !is_listening(rt, whole) {
+        return Ok(false);
+    }
+    match guest {
+        Guest::Asks => ask(rt, alloc, port),
+        Guest::Follows => register_and_follow(rt, alloc, port),
+    }
+}
+
+/// Runs the program on the words, beside a guest. Whether it says where it listens and nothing else,
+/// serves the guest, and ends with 0 behind the guest's connections.
+fn serve_guest<J: Naming + Send + Sync, R>(
     rt: &R,
     alloc: Global,
     opening: Opening,
+    guest: Guest,
     port: u16,
     words: &[String],
 ) -> io::Result<bool>
@@ -119,16 +162,17 @@ where
             );
             status == 0 && out.inner.bytes.as_slice() == said && errors.inner.is_empty()
         },
-        move || ask(rt, alloc, port, whole),
+        move || visit_program(rt, alloc, guest, port, whole),
     );
     Ok(served && asked?)
 }
 
-/// The program serves one connection on a port that was free just before, and ends.
+/// The program serves a guest on a port that was free just before, and ends.
 pub(crate) fn serves<J: Naming + Send + Sync, R>(
     rt: &R,
     alloc: Global,
     opening: Opening,
+    guest: Guest,
 ) -> io::Result<bool>
 where
     R: Net<Listener = TcpListener, Stream = TcpStream> + Threads + Wait + Clock + Sync,
@@ -137,8 +181,8 @@ where
     let listener = TcpListener::bind(rt, address(0))?;
     let port = listener.local_addr()?.port();
     drop(listener);
-    let words = words(alloc, port)?;
-    serve_one::<J, R>(rt, alloc, opening, port, words.as_slice())
+    let words = words(alloc, port, guest.connections())?;
+    serve_guest::<J, R>(rt, alloc, opening, guest, port, words.as_slice())
 }
 
 /// On a port that another listens on, the program says so and ends with 1.
@@ -153,7 +197,7 @@ where
 {
     let listener = TcpListener::bind(rt, address(0))?;
     let port = listener.local_addr()?.port();
-    let words = words(alloc, port)?;
+    let words = words(alloc, port, "1")?;
     let (mut input, mut out) = (Counted::new(io::empty()), Counted::new(Vec::new(alloc)));
     let mut errors = Counted::new(Vec::new(alloc));
     let status = run::<J, R, _, _, _>(

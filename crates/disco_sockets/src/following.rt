@@ -1,0 +1,71 @@
+//! The command `follow` of the program, beside a server.
+use crate::client::{hears, send, visit};
+use disco_prog::follow;
+use disco_streams::Counted;
+use std::alloc::Global;
+use std::io;
+use std::net::{Ipv4Addr, Net, SocketAddr, TcpListener, TcpStream};
+use std::rt::Clock;
+
+/// Registers an instance, and asks for the connection's end.
+const REGISTRATION: &[u8] =
+    b"POST /eureka/v2/apps/A HTTP/1.1\r\nHost: a\r\nContent-Type: application/json\r\nContent-Length: 177\r\nConnection: close\r\n\r\n{\"instance\":{\"instanceId\":\"1\",\"hostName\":\"h\",\"app\":\"A\",\"ipAddr\":\"10.0.0.1\",\"status\":\"UP\",\"port\":{\"$\":8080,\"@enabled\":\"true\"},\"vipAddress\":\"v\",\"dataCenterInfo\":{\"name\":\"MyOwn\"}}}";
+
+/// What is told of it in two refreshes, where the server's run is 5.
+const TOLD: &[u8] = b"copy 5 1 +A/1=UP\nvip v h:8080\n";
+
+/// The words that have the program refresh twice.
+fn words(alloc: Global, port: u16) -> io::Result<Vec<String>> {
+    let mut words = Vec::new(alloc);
+    for word in [
+        "follow", "--vip", "v", "--every", "1", "--times", "2", "--port",
+    ] {
+        words.push(String::from_str(alloc, word)?)?;
+    }
+    words.push(format!(in alloc; "{port}")?)?;
+    Ok(words)
+}
+
+/// Follows what a server on a port has. Whether the instance and its vip are told, once and alone.
+fn is_followed<R: Net<Stream = TcpStream> + Clock>(
+    rt: &R,
+    alloc: Global,
+    port: u16,
+) -> io::Result<bool> {
+    let words = words(alloc, port)?;
+    let (mut out, mut errors) = (Counted::new(Vec::new(alloc)), Counted::new(Vec::new(alloc)));
+    let status = follow(rt, alloc, &mut out, &mut errors, words.as_slice());
+    Ok(status == 0 && out.inner.as_slice() == TOLD && errors.inner.is_empty())
+}
+
+/// Registers an instance, and follows the registry.
+pub(crate) fn register_and_follow<R: Net<Stream = TcpStream> + Clock>(
+    rt: &R,
+    alloc: Global,
+    port: u16,
+) -> io::Result<bool> {
+    let stream = visit(rt, SocketAddr::from((Ipv4Addr::LOCALHOST, port)))?;
+    send(&stream, REGISTRATION)?;
+    Ok(hears(alloc, &stream, 204) && is_followed(rt, alloc, port)?)
+}
+
+/// Where nobody listens the program says so and ends with 1.
+pub(crate) fn is_refused<R: Net<Listener = TcpListener, Stream = TcpStream> + Clock>(
+    rt: &R,
+    alloc: Global,
+) -> io::Result<bool> {
+    let listener = TcpListener::bind(rt, SocketAddr::from((Ipv4Addr::LOCALHOST, 0)))?;
+    let port = listener.local_addr()?.port();
+    drop(listener);
+    let words = words(alloc, port)?;
+    let (mut out, mut errors) = (Counted::new(Vec::new(alloc)), Counted::new(Vec::new(alloc)));
+    let status = follow(rt, alloc, &mut out, &mut errors, words.as_slice());
+    let why = format!(in alloc; "discovery: no connection to 127.0.0.1:{port}: ")?;
+    let told = errors.inner.as_slice();
+    Ok(
+        status == 1
+            && out.inner.is_empty()
+            && told.starts_with(why.as_bytes())
+            && told.ends_with(b"\ndiscovery: fault 20\n"),
+    )
+}
