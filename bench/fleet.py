@@ -170,8 +170,8 @@ def with_server(program, workers, todo):
         stdout=subprocess.PIPE,
     )
     try:
-        while not server.stdout.readline().startswith(b"listening"):
-            pass
+        if not server.stdout.readline().startswith(b"listening"):
+            sys.exit("the server doesn't listen")
         asyncio.run(todo)
     finally:
         server.terminate()

@@ -116,9 +116,10 @@ class Row:
         self.others = {}
 
     def is_tried(self):
-        """Rows of other commands aren't, and neither are those with a take, whose line numbers would move."""
-        return self.words[:1] not in (["serve"], ["fleet"]) and not any(
-            urllib.parse.unquote_to_bytes(line.split(b" ")[0]) == b"take" for line in self.lines()
+        """Rows of other commands aren't, and neither are those with an event that names the line of an
+        earlier one, which would move."""
+        return self.words[:1] not in (["serve"], ["follow"], ["fleet"]) and not any(
+            urllib.parse.unquote_to_bytes(line.split(b" ")[0]) in (b"take", b"certified") for line in self.lines()
         )
 
     def lines(self):

@@ -1,10 +1,10 @@
 #!/bin/sh
 # Refuses each growth of the proved programs in turn, one in each run: of `discovery replay` on each row
-# without a take, and of the programs that ask a desk and a client again where memory was refused. Of two
-# rows with thousands of events it refuses one growth of 17. It says of each how many growths were refused
-# and what came of it, and ends with 0 only where each run came to what it may come to, as
-# `bench/refusals.py` says. With `--quick` it takes three rows and the two programs. It needs a C
-# compiler, `cc`, for what refuses.
+# in which no event names an earlier one, and of the programs that ask a desk and a client again where
+# memory was refused. Of two rows with thousands of events it refuses one growth of 17. It says of each
+# how many growths were refused and what came of it, and ends with 0 only where each run came to what it
+# may come to, as `bench/refusals.py` says. With `--quick` it takes three rows and the two programs. It
+# needs a C compiler, `cc`, for what refuses.
 set -eu
 root=$(CDPATH='' cd -- "$(dirname -- "$0")/.." && pwd)
 work=$(mktemp -d)

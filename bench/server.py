@@ -115,7 +115,8 @@ def started(program):
     server = subprocess.Popen(
         [program, "serve", "--port", str(PORT), "--workers", "8"], stdout=subprocess.PIPE
     )
-    server.stdout.readline()
+    if not server.stdout.readline().startswith(b"listening"):
+        sys.exit("the server doesn't listen")
     return server
 
 
