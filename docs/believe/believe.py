@@ -1,4 +1,4 @@
-"""Writes beside itself, for each main theorem, the definitions that its contract reaches, in the order in which they can be read.
+"""Writes beside itself, for each main theorem, its contract and the definitions that this reaches, in the order in which they can be read.
 
 Run it at the top of the repository: `python3 docs/believe/believe.py`. It prints how many lines each theorem makes a reader believe, and ends
 with status 1 where one of the definitions stands in a file that is marked as not to be believed.
@@ -9,6 +9,7 @@ import glob
 import os
 import re
 import sys
+import textwrap
 
 HERE = os.path.dirname(os.path.abspath(__file__))
 
@@ -24,6 +25,25 @@ THEOREMS = [
 ]
 
 MARK = "Nothing here is to be believed"
+
+READING = """## How to read it
+
+| Written | Read |
+|---|---|
+| `f : A → B`, and lines `f x = y` below it | a function; the first line that fits counts |
+| `f a b` | the function `f` of `a` and `b` |
+| `x ≡ y`, `x ≢ y`, `A × B`, `A ⊎ B`, `A → B`, `⊥` | equal, not equal, and, or, if then, never |
+| `(x : A) → B`, `(x : A) × B` | for each x, there is an x |
+| `record` with members | plain data; of a statement: all of its members hold |
+| `λ x. e`, `[]`, `x ∷ xs`, `xs ++ ys`, `p.0` | a function, the empty list, a list by its first element, two lists one behind the other, the first part of a pair |
+| `ℕ`, `List ℕ`, `codes "UP"` | a whole number without a bound; a list of these, as of the bytes of a text; the bytes of UP |
+| `FinMap key_cmp V` | a finite map from keys in the order `key_cmp` to values of `V` |
+| `IfOk r P`, `IfErr r P`, `IfSome o P` | `P` holds of the value, where there is one |
+| `x.now`, `x.old`, `x.new` | in a contract: what an argument refers to; before the call; after it |
+| `abbrev`, `unfoldable`, `pub`, `Type 0` | words for the checker; `Type 0` is the type of statements and of types |
+
+Types that stand in no file below, as `Key`, `Status`, `Query`, `Fault` or `Reply`, are those of the code, in `src/` of the crates. Lists, maps, texts and JSON trees (`Data`, `Members`) are the kit's. Other words are those of [the glossary](../GLOSSARY.md).
+"""
 IMPORT = re.compile(r"use Rattle\.(\w+)\.specs\.([\w.]+?)(?:\.\{(.*)\})?(?: as (\w+))?;?$")
 HEADER = re.compile(r"(?:(?:abbrev|unfoldable|opaque)\s+)*(?:pub\s+)?(?:(record|data)\s+)?([^\W\d][\w-]*)\b")
 WORD = re.compile(r"(?<![\w.-])[^\W\d][\w-]*(?:\.[^\W\d][\w-]*)?")
@@ -140,6 +160,20 @@ def contract_words(path, function):
     return Names(text), set(WORD.findall(body[: body.index("\n{\n") if "\n{\n" in body else body.index("\n    {\n")]))
 
 
+def contract_text(path, function):
+    """A function's contract as it stands, with the comment in front of it, or the contracts and ghosts of a file."""
+    text = read("crates/" + path)
+    if function is None:
+        return "\n".join(re.findall(r"ghost (?!use)[\w ]+[=:].*|(?:ensures|requires).*", text))
+    lines = text.split("\n")
+    at = next(i for i, line in enumerate(lines) if re.match(r"\s*pub fn %s\b" % function, line))
+    start = at
+    while lines[start - 1].strip().startswith("///"):
+        start -= 1
+    end = next(i for i in range(at, len(lines)) if lines[i].strip() == "{")
+    return textwrap.dedent("\n".join(lines[start:end]))
+
+
 def closure(roots, found, names_at):
     """The definitions that are reached, each behind all that it names, where that can be."""
     order, seen = [], set()
@@ -163,7 +197,7 @@ def by_file(order):
     files = collections.defaultdict(list)
     for definition in order:
         files[definition.place].append(definition)
-    crates = [line.split(":")[0] for line in read("crates.txt").split("\n") if ":" in line]
+    crates = [line.split(":")[0] for line in read("crates.txt").split("\n") if ":" in line and not line.startswith("#")]
     last = {place: order.index(made[-1]) for place, made in files.items()}
     return [(place, files[place]) for place in sorted(files, key=lambda it: (crates.index(it[0]), last[it]))]
 
@@ -172,10 +206,13 @@ def count(made):
     return sum(is_code(line) for definition in made for line in definition.lines)
 
 
-def page(title, order):
+def page(title, functions, order):
     lines = ["# What has to be believed of %s" % title, ""]
-    lines.append("%d definitions, %d lines, in %d files. Lowest crate first; each definition stands behind those that it names, but for files that name one another's." % (
+    lines.append("The contract comes first, then %d definitions that it reaches, %d lines without comments, in %d files. Lowest crate first; each definition stands behind those that it names, but for files that name one another's." % (
         len(order), count(order), len({it.place for it in order})))
+    lines += ["", READING.rstrip("\n"), "", "## The contract"]
+    for path, function in functions:
+        lines += ["", "`%s`%s:" % (path, ", `%s`" % function if function else ""), "", "```", contract_text(path, function), "```"]
     for (crate, name), made in by_file(order):
         lines += ["", "## `%s/specs/%s.antt`" % (crate, name), "", "```"]
         for at, definition in enumerate(made):
@@ -199,7 +236,7 @@ def main():
                 print("  marked as not to be believed: %s of %s/specs/%s.antt" % (definition.name, *definition.place))
                 status = 1
         with open(os.path.join(HERE, name + ".md"), "w", encoding="utf-8") as file:
-            file.write(page(title, order))
+            file.write(page(title, functions, order))
     return status
 
 
