@@ -84,17 +84,26 @@ impl<N: Net<Stream = TcpStream>> Line<'_, N> {
         Ok(())
     }
 
-    /// Asks over the connection, and over another one where that has ended. To ask twice does no
-    /// more than to ask once (RFC 9110, 9.2.2).
+    /// Asks over another connection.
+    fn ask_anew(&mut self, key: &DocKey) -> Result<Fetched, Fault>
+        requires { (key.now.query ≡ Apps) ⊎ (key.now.query ≡ Delta) }
+        ensures { self.new ≡ self.old }
+    {
+        self.connect()?;
+        self.ask(key)
+    }
+
+    /// Asks over the connection, and where that fails otherwise than for want of memory, over another
+    /// one. To ask twice does no more than to ask once (RFC 9110, section 9.2.2).
     fn ask_again(&mut self, key: &DocKey) -> Result<Fetched, Fault>
         requires { (key.now.query ≡ Apps) ⊎ (key.now.query ≡ Delta) }
         ensures { self.new ≡ self.old }
     {
-        if let Ok(fetched) = self.ask(key) {
-            return Ok(fetched);
+        match self.ask(key) {
+            Ok(fetched) => Ok(fetched),
+            Err(Fault::OutOfMemory) => Err(Fault::OutOfMemory),
+            Err(_) => self.ask_anew(key),
         }
-        self.connect()?;
-        self.ask(key)
     }
 }
 
