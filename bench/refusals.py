@@ -26,7 +26,7 @@ from collections import Counter
 from concurrent.futures import ThreadPoolExecutor
 
 # The rows that `--quick` takes.
-QUICK = ("registered_served_and_cancelled", "an_override_is_removed", "vips_of_an_instance_that_changes")
+QUICK = ("registration_served_and_cancelled", "override_is_removed", "vips_of_an_instance_that_changes")
 
 # A row with more events than this has each growth refused whose number is one more than a multiple of
 # STEP, and of its other growths none: its events are alike.

@@ -12,20 +12,9 @@ mod server;
 mod slow;
 mod trial;
 
-use std::io;
+use disco_trials::is_told;
 use std::process::ExitCode;
 use trial::{Trial, run};
-
-/// Prints what came of a trial, and answers whether it went well and that could be printed.
-fn is_told<R: Print>(rt: &R, name: &str, came: io::Result<bool>) -> bool {
-    let well = matches!(came, Ok(true));
-    let printed = if well {
-        println!(rt; "{name}: yes")
-    } else {
-        println!(rt; "{name}: no")
-    };
-    well && printed.is_ok()
-}
 
 fn main(rt: HostRuntime) -> ExitCode {
     let alloc = rt.alloc();

@@ -17,21 +17,11 @@ mod samples;
 mod script;
 mod streams;
 
-use disco_values::Fault;
+use disco_trials::told;
 use std::alloc::Global;
 use std::process::ExitCode;
 use std::rt::{Clock, Env};
 use std::{env, io};
-
-/// Prints what came of a trial, and tells whether it went well.
-fn told<R: Print>(rt: &R, name: &str, came: Result<bool, Fault>) -> io::Result<bool> {
-    match came {
-        Ok(true) => println!(rt; "{name}: yes")?,
-        Ok(false) => println!(rt; "{name}: no")?,
-        Err(fault) => println!(rt; "{name}: {fault}")?,
-    }
-    Ok(matches!(came, Ok(true)))
-}
 
 fn try_script<R: Print>(rt: &R, alloc: Global) -> io::Result<bool> {
     let plain = told(rt, "refreshes", refreshing::refreshes(alloc))?;

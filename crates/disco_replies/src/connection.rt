@@ -11,7 +11,7 @@ use disco_reader::{Counted, Reader};
 use disco_routes::Routes;
 use disco_server::{DeskService, HubService, Open, Shop};
 use disco_settings::Settings;
-use disco_trials::Ticks;
+use disco_ticks::Ticks;
 use std::alloc::{AllocError, Global};
 use std::io;
 use std::sync::{Mutex, Wait};

@@ -5,13 +5,15 @@ use crate::outcome::Outcome;
 use std::io;
 use std::io::Write;
 
-/// The first line in which what came differs from what was wanted. A text that has ended has no
-/// such line.
+/// The first line in which what came differs from what was wanted, and where in it. A text that has
+/// ended has no such line.
 #[derive(Debug, Drop)]
 pub(crate) struct Difference<'a> {
     what: &'static str,
     /// The lines before this one, which are the same.
     same: usize,
+    /// The bytes of this line that are the same in both.
+    bytes: usize,
     wanted: Option<&'a [u8]>,
     came: Option<&'a [u8]>,
 }
@@ -28,6 +30,17 @@ fn same_lines(wanted: &[u8], came: &[u8]) -> usize {
         .count()
 }
 
+fn same_bytes(wanted: Option<&[u8]>, came: Option<&[u8]>) -> usize {
+    let (Some(wanted), Some(came)) = (wanted, came) else {
+        return 0;
+    };
+    wanted
+        .iter()
+        .zip(came.iter())
+        .take_while(|(wanted, came)| wanted == came)
+        .count()
+}
+
 fn line(text: &[u8], before: usize) -> Option<&[u8]> {
     text.split(is_feed).nth(before)
 }
@@ -39,11 +52,13 @@ fn first_in<'a>(what: &'static str, wanted: &'a [u8], came: &'a [u8]) -> Option<
         return None;
     }
     let same = same_lines(wanted, came);
+    let (wanted, came) = (line(wanted, same), line(came, same));
     Some(Difference {
         what,
         same,
-        wanted: line(wanted, same),
-        came: line(came, same),
+        bytes: same_bytes(wanted, came),
+        wanted,
+        came,
     })
 }
 
@@ -73,14 +88,19 @@ fn write_line<W: Write>(out: &mut W, head: &str, line: Option<&[u8]>) -> io::Res
     }
 }
 
-/// Writes the row's name with the number of the line, what was wanted there and what came.
+/// Writes the row's name with the numbers of the line and of the byte in it, and that line as it was
+/// wanted and as it came.
 pub(crate) fn write_difference<W: Write>(
     out: &mut W,
     name: &str,
     difference: &Difference<'_>,
 ) -> io::Result<()> {
     let (what, line) = (difference.what, difference.same.saturating_add(1));
-    writeln!(out, "{name}: line {line} of its {what}")?;
+    let byte = difference.bytes.saturating_add(1);
+    writeln!(
+        out,
+        "{name}: line {line} of its {what}, from byte {byte} on"
+    )?;
     write_line(out, "wanted", difference.wanted)?;
     write_line(out, "came  ", difference.came)
 }

@@ -82,6 +82,24 @@ fn documents<R: Files + AllocGlobal>(rt: &R, name: &str, given: Vec<u8>) -> io::
     })
 }
 
+/// Writes what came of a row beside the files of what was wanted: `NAME.KIND.came` for each kind.
+pub(crate) fn write_outcome<R: Files + AllocGlobal>(
+    rt: &R,
+    name: &str,
+    came: &Outcome,
+) -> io::Result<()> {
+    let kinds = [
+        ("answers", &came.answers),
+        ("faults", &came.faults),
+        ("status", &came.status),
+    ];
+    for (kind, bytes) in kinds {
+        let path = format!(in rt.alloc(); "{name}.{kind}.came")?;
+        fs::write(rt, path.as_str(), bytes.as_slice())?;
+    }
+    Ok(())
+}
+
 /// Reads the row of a name: `NAME.documents` with `NAME.meanings`, or else `NAME.events` with
 /// `NAME.answers`, and `NAME.words`, `NAME.status` and `NAME.faults` where there are such.
 pub(crate) fn read_row<R: Files + AllocGlobal>(rt: &R, name: &str) -> io::Result<Row> {

@@ -12,38 +12,28 @@ mod holding;
 mod program;
 mod serving;
 mod timed;
-mod told;
 mod trials;
 
 use disco_press::Opening;
+use disco_trials::is_told;
 use program::Guest;
 use std::marker::Brand;
 use std::process::ExitCode;
-use told::is_told;
 
 fn main(rt: HostRuntime) -> ExitCode {
     let alloc = rt.alloc();
     let server = matches!(serving::run::<Brand, _>(&rt, Opening::new()), Ok(true));
-    let timed = matches!(timed::run::<Brand, _>(&rt, alloc, Opening::new()), Ok(true));
+    let timed = timed::run::<Brand, _>(&rt, alloc, Opening::new());
     let timed = is_told(&rt, "timed workers at their periods", timed);
-    let serves = matches!(
-        program::serves::<Brand, _>(&rt, alloc, Opening::new(), Guest::Asks),
-        Ok(true)
-    );
+    let serves = program::serves::<Brand, _>(&rt, alloc, Opening::new(), Guest::Asks);
     let serves = is_told(&rt, "the program serves a connection", serves);
-    let followed = matches!(
-        program::serves::<Brand, _>(&rt, alloc, Opening::new(), Guest::Follows),
-        Ok(true)
-    );
+    let followed = program::serves::<Brand, _>(&rt, alloc, Opening::new(), Guest::Follows);
     let followed = is_told(&rt, "the program follows a server", followed);
-    let unreached = matches!(following::is_refused(&rt, alloc), Ok(true));
+    let unreached = following::is_refused(&rt, alloc);
     let unreached = is_told(&rt, "the program follows where nobody listens", unreached);
-    let refused = matches!(
-        program::is_refused::<Brand, _>(&rt, alloc, Opening::new()),
-        Ok(true)
-    );
+    let refused = program::is_refused::<Brand, _>(&rt, alloc, Opening::new());
     let refused = is_told(&rt, "the program on a port that is taken", refused);
-    let fleet = matches!(fleets::are_told_apart(alloc), Ok(true));
+    let fleet = fleets::are_told_apart(alloc);
     let fleet = is_told(&rt, "copies that are not the registry", fleet);
     if [server, timed, serves, followed, unreached, refused, fleet]
         .iter()

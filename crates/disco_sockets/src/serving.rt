@@ -2,7 +2,6 @@
 ghost use Rattle.disco_press.specs.Openings.{Opens};
 
 use crate::holding::Holding;
-use crate::told::told;
 use crate::trials;
 use crate::trials::CONNECTIONS;
 use disco_editions::Naming;
@@ -10,8 +9,9 @@ use disco_message::Limits;
 use disco_press::{Desk, Opening, Seat, open};
 use disco_server::start;
 use disco_settings::Settings;
+use disco_ticks::Ticks;
 use disco_timers::timers;
-use disco_trials::Ticks;
+use disco_trials::told;
 use disco_values::Fault;
 use std::alloc::Global;
 use std::net::{Net, SocketAddr, TcpListener, TcpStream};
@@ -35,21 +35,34 @@ fn try_all<J: Naming, R: Net<Stream = TcpStream> + Wait + rt::Clock + Print>(
     desk: &Mutex<Desk<J>>,
     seat: &mut Seat<J>,
 ) -> io::Result<bool> {
-    let at_once = trials::two_at_once(rt, alloc, server)?;
-    let bytes = trials::byte_by_byte(rt, alloc, server)?;
-    let half = trials::half_a_head(rt, alloc, server)?;
-    let unread = trials::unread_behind(rt, alloc, server)?;
-    let many = trials::many_requests(rt, alloc, server)?;
-    let seen = trials::seen_in_time(rt, alloc, server, seat)?;
-    let beside = trials::served_beside_the_lock(rt, alloc, server, desk)?;
     let all = [
-        told(rt, "two clients at once", at_once)?,
-        told(rt, "byte by byte", bytes)?,
-        told(rt, "half a head", half)?,
-        told(rt, "unread behind the last request", unread)?,
-        told(rt, "as many requests as there may be", many)?,
-        told(rt, "seen in time", seen)?,
-        told(rt, "served beside the lock", beside)?,
+        told(
+            rt,
+            "two clients at once",
+            trials::two_at_once(rt, alloc, server),
+        )?,
+        told(rt, "byte by byte", trials::byte_by_byte(rt, alloc, server))?,
+        told(rt, "half a head", trials::half_a_head(rt, alloc, server))?,
+        told(
+            rt,
+            "unread behind the last request",
+            trials::unread_behind(rt, alloc, server),
+        )?,
+        told(
+            rt,
+            "as many requests as there may be",
+            trials::many_requests(rt, alloc, server),
+        )?,
+        told(
+            rt,
+            "seen in time",
+            trials::seen_in_time(rt, alloc, server, seat),
+        )?,
+        told(
+            rt,
+            "served beside the lock",
+            trials::served_beside_the_lock(rt, alloc, server, desk),
+        )?,
     ];
     Ok(all.iter().all(|well| *well))
 }
@@ -98,7 +111,7 @@ where
         ),
     );
     let well = served.is_ok() && timed.is_ok() && gate.was_kept();
-    Ok(told(rt, "all workers ended well", well)? && tried?)
+    Ok(told::<R, Fault>(rt, "all workers ended well", Ok(well))? && tried?)
 }
 
 /// Tries a server over a new desk, and tells whether all is as it has to be.
@@ -112,7 +125,7 @@ where
     let listener = TcpListener::bind(rt, "127.0.0.1:0")?;
     let Ok((desk, mut seats)) = open::<J, R>(rt, alloc, &Settings::standard(), SEATS, opening)
     else {
-        return told(rt, "memory", false);
+        return told(rt, "a desk", Err(Fault::OutOfMemory));
     };
     let desk = Mutex::new(desk);
     let tried = match seats.pop() {

@@ -14,22 +14,12 @@ mod rounds;
 mod serving;
 
 use disco_press::Opening;
+use disco_trials::told;
 use disco_values::Fault;
 use std::alloc::Global;
 use std::io;
 use std::marker::Brand;
 use std::process::ExitCode;
-
-/// Prints what came of a trial, and tells whether it went well.
-fn told<R: Print>(rt: &R, name: &str, came: Result<bool, Fault>) -> io::Result<bool> {
-    let well = matches!(came, Ok(true));
-    if well {
-        println!(rt; "{name}: yes")?;
-    } else {
-        println!(rt; "{name}: no")?;
-    }
-    Ok(well)
-}
 
 fn try_registry<R: Print>(rt: &R, alloc: Global) -> io::Result<bool> {
     let all = [

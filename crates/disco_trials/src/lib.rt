@@ -1,8 +1,9 @@
-//! What the programs of trials share: a clock, and the names of the trials that are files.
+//! What the programs of trials share: the names of the trials that are files, and how what came of one
+//! is printed.
 #![tactic(auto)]
 
 mod files;
-mod ticks;
+mod printing;
 
 pub use files::names;
-pub use ticks::Ticks;
+pub use printing::{is_told, told};

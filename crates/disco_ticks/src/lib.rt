@@ -1,0 +1,6 @@
+//! The clock of trials.
+#![tactic(auto)]
+
+mod ticks;
+
+pub use ticks::Ticks;

@@ -1,0 +1,28 @@
+//! What came of a trial.
+use std::fmt::Display;
+use std::io;
+
+/// Prints the name of a trial with what came of it: `yes`, `no`, or why it ended early. Answers
+/// whether it went well.
+///
+/// # Errors
+///
+/// What the host says where nothing can be printed.
+pub fn told<R: Print, E: Display + Drop>(
+    rt: &R,
+    name: &str,
+    came: Result<bool, E>,
+) -> io::Result<bool> {
+    match &came {
+        Ok(true) => println!(rt; "{name}: yes")?,
+        Ok(false) => println!(rt; "{name}: no")?,
+        Err(error) => println!(rt; "{name}: {error}")?,
+    }
+    Ok(matches!(came, Ok(true)))
+}
+
+/// Prints the name of a trial with what came of it, as [`told`] does. Answers whether it went well and
+/// that could be printed.
+pub fn is_told<R: Print, E: Display + Drop>(rt: &R, name: &str, came: Result<bool, E>) -> bool {
+    matches!(told(rt, name, came), Ok(true))
+}
