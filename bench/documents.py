@@ -9,10 +9,10 @@ from runs import adopt, median_seconds, print_growth
 # How often each run is made. The median counts.
 TIMES = 5
 
-# How many instances an app and a vip have, and how many changed of late.
+# How many instances an app and a vip have, and how many changed of late beside that in the middle.
 OF_APP = 200
 OF_VIP = 20
-RECENT = 20
+RECENT = 19
 
 # When they changed, in milliseconds: long after the registrations.
 LATE = 1_000_000_000
@@ -39,6 +39,12 @@ def recent_changes():
     return ["clean %d\n" % LATE] + changed
 
 
+def change(size, number):
+    """A change of the instance in the middle, so that what is loaded next is joined anew."""
+    i, status = middle(size), "DOWN" if number % 2 == 0 else "UP"
+    return "status %d APP%06d i%06d %s\n" % (LATE, i // OF_APP, i, status)
+
+
 def app_load(size):
     return "load full app APP%06d\n" % (middle(size) // OF_APP)
 
@@ -60,7 +66,7 @@ KINDS = (
     ("an app of %d" % OF_APP, app_load, 1),
     ("a vip with %d" % OF_VIP, vip_load, 10),
     ("one instance", one_load, 100),
-    ("a delta of %d" % RECENT, delta_load, 10),
+    ("a delta of %d" % (RECENT + 1), delta_load, 10),
 )
 
 
@@ -70,12 +76,13 @@ def main():
     path = os.path.join(folder, "documents.events")
     sizes = [int(word) for word in sys.argv[4:]]
     starts = {size: [registration(i) for i in range(size)] + recent_changes() for size in sizes}
-    alone = {size: median_seconds(program, path, starts[size], TIMES) for size in sizes}
     for name, line_of, times in KINDS:
 
         def seconds_of_one(size):
-            lines = [line_of(size)] * (count * times)
-            return (median_seconds(program, path, starts[size] + lines, TIMES) - alone[size]) / len(lines)
+            changes = [change(size, number) for number in range(count * times)]
+            loads = [line + line_of(size) for line in changes]
+            alone = median_seconds(program, path, starts[size] + changes, TIMES)
+            return (median_seconds(program, path, starts[size] + loads, TIMES) - alone) / len(loads)
 
         print_growth(sizes, seconds_of_one, "%d loads of %s" % (count * times, name))
 

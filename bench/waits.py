@@ -1,0 +1,114 @@
+"""How long writes wait for the publisher of `discovery serve`, on loopback."""
+
+import socket
+import subprocess
+import sys
+import time
+
+PORT = 18781
+BASE = "/eureka/v2"
+APPS = 100
+INSTANCES = 10_000
+WRITES_A_SECOND = 1_000
+# A request more would meet the end of the connection.
+REQUESTS_A_CONNECTION = 999
+LONGEST = 8
+
+BODY = (
+    '{"instance":{"instanceId":"i%d","hostName":"h%d","app":"APP%d","ipAddr":"10.0.0.1",'
+    '"status":"UP","vipAddress":"v","dataCenterInfo":{"name":"MyOwn"}}}'
+)
+
+
+class Connection:
+    """A connection that is made anew before the server ends it."""
+
+    def __init__(self):
+        self.left = 0
+
+    def ready(self):
+        if self.left == 0:
+            self.socket = socket.create_connection(("127.0.0.1", PORT))
+            self.socket.setsockopt(socket.IPPROTO_TCP, socket.TCP_NODELAY, 1)
+            self.left = REQUESTS_A_CONNECTION
+        self.left -= 1
+
+    def ask(self, method, path, body=""):
+        """The seconds until the reply is there, whole."""
+        self.ready()
+        text = "%s %s%s HTTP/1.1\r\nHost: a\r\nContent-Type: application/json\r\nContent-Length: %d\r\n\r\n%s" % (
+            method,
+            BASE,
+            path,
+            len(body),
+            body,
+        )
+        begun = time.perf_counter()
+        self.socket.sendall(text.encode())
+        self.read()
+        return time.perf_counter() - begun
+
+    def read(self):
+        came = b""
+        while b"\r\n\r\n" not in came:
+            came += self.more()
+        head, rest = came.split(b"\r\n\r\n", 1)
+        if not head.startswith(b"HTTP/1.1 20"):
+            sys.exit(head.decode())
+        for line in head.split(b"\r\n"):
+            if line.lower().startswith(b"content-length:"):
+                left = int(line.split(b":")[1]) - len(rest)
+                while left > 0:
+                    left -= len(self.more())
+
+    def more(self):
+        came = self.socket.recv(1 << 20)
+        if not came:
+            sys.exit("the server ended a connection")
+        return came
+
+
+def change(connection, number):
+    status = "OUT_OF_SERVICE" if number // INSTANCES % 2 == 0 else "UP"
+    instance = number % INSTANCES
+    return connection.ask("PUT", "/apps/APP%d/i%d/status?value=%s" % (instance % APPS, instance, status))
+
+
+def measure(seconds):
+    """Each wait, with the moment since the server's start at which it began."""
+    start, connection, waits = time.perf_counter(), Connection(), []
+    for number in range(INSTANCES):
+        connection.ask("POST", "/apps/APP%d" % (number % APPS), BODY % (number, number, number % APPS))
+    for path in ("/apps", "/apps/APP7", "/apps/delta"):
+        connection.ask("GET", path)
+    begun, done = time.perf_counter(), 0
+    while time.perf_counter() - begun < seconds:
+        if done > (time.perf_counter() - begun) * WRITES_A_SECOND:
+            time.sleep(0.0002)
+            continue
+        at = time.perf_counter() - start
+        waits.append((change(connection, done), at))
+        done += 1
+    return waits
+
+
+def main():
+    program = sys.argv[1]
+    seconds = float(sys.argv[3]) if len(sys.argv) > 3 else 70
+    server = subprocess.Popen([program, "serve", "--port", str(PORT)], stdout=subprocess.PIPE)
+    try:
+        if not server.stdout.readline().startswith(b"listening"):
+            sys.exit("the server doesn't listen")
+        waits = sorted(measure(seconds))
+    finally:
+        server.kill()
+    middle, late = waits[len(waits) // 2][0], waits[int(len(waits) * 0.999)][0]
+    print(
+        "%d changes, %.0f a second: median %.2f ms, 99.9th percentile %.2f ms, longest %.2f ms"
+        % (len(waits), len(waits) / seconds, middle * 1000, late * 1000, waits[-1][0] * 1000)
+    )
+    for wait, at in reversed(waits[-LONGEST:]):
+        print("    %.2f ms, %.1f s behind the start" % (wait * 1000, at))
+
+
+main()
