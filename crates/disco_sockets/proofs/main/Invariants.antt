@@ -18,12 +18,6 @@ ghosts-serves-J-Naming g a = record { list = a.opening.marks.name }
 abbrev pub ghosts-serves-J-Ledger : goal.ghosts-serves-J-Ledger
 ghosts-serves-J-Ledger g a = record { name = a.opening.blank.name; parts = a.opening.blank.parts }
 
-abbrev pub ghosts-serves-2-J-Naming : goal.ghosts-serves-2-J-Naming
-ghosts-serves-2-J-Naming g a = record { list = a.opening.marks.name }
-
-abbrev pub ghosts-serves-2-J-Ledger : goal.ghosts-serves-2-J-Ledger
-ghosts-serves-2-J-Ledger g a = record { name = a.opening.blank.name; parts = a.opening.blank.parts }
-
 abbrev pub ghosts-is_refused-J-Naming : goal.ghosts-is_refused-J-Naming
 ghosts-is_refused-J-Naming g a = record { list = a.opening.marks.name }
 
