@@ -47,8 +47,9 @@ ENDED = "ended behind a front"
 ONE_REFUSED = "one event refused"
 UNKEPT = "a document not kept"
 STOPPED = "a run of leases stopped"
+UNSHOWN = "a message not shown"
 OTHER = "SOMETHING ELSE"
-ALL = (UNSEEN, ENDED, ONE_REFUSED, UNKEPT, STOPPED, OTHER)
+ALL = (UNSEEN, ENDED, ONE_REFUSED, UNKEPT, STOPPED, UNSHOWN, OTHER)
 
 AT_ONCE = os.cpu_count() or 1
 
@@ -178,6 +179,9 @@ class Row:
             return UNSEEN
         if (came.status, came.err) == REFUSED:
             return ENDED if self.wanted.out.startswith(came.out) else None
+        # Words that are refused are so without memory for their message too.
+        if self.wanted.status == 2 and came == Came(2, self.wanted.out, b""):
+            return UNSHOWN
         if came.status != 0 or self.wanted.status != 0 or came.err != b"":
             return None
         return self.judged_lines(came.lines(), self.wanted.lines())
