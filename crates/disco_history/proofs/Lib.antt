@@ -5,11 +5,10 @@ mod LastOf
 pub mod Lasts
 mod Lists
 pub mod Overlays
+pub mod PlaceLemmas
 pub mod Restrictions
-mod Runs
 pub mod Sets
 pub mod Slots
-mod Sought
 pub mod Sorted
 pub mod SortedBy
 pub mod Untouched

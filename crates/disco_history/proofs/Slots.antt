@@ -10,7 +10,7 @@ use Rattle.disco_values.specs.declared.key.Key.{Key}
 use Rattle.disco_history.specs.Slots.{AltersAt, opened, written}
 use Rattle.disco_history.proofs.Keys.{keys_total, same_is, same_key-sym}
 
-itself : (k : Key) → same_key k k ≡ true
+pub itself : (k : Key) → same_key k k ≡ true
 itself k = ap is_eq (tied_itself keys_total k)
 
 -- what a tree has at a key

@@ -91,20 +91,20 @@ values_passing P (e ∷ es) = one (P e.1) (values_passing P es)
 -- ---- each key finds its own entry
 
 -- f finds the entry of each
-abbrev pub Own : (Key → Option Entry) → Entries → Type 0
+abbrev pub Own : {X : Type 0} → (Key → Option X) → List (Key × X) → Type 0
 Own f es = AllByRecursion (λ p. f p.0 ≡ Some p.1) es
 
 other : (k q : Key) → key_cmp k q ≡ Less → same_key q k ≡ false
 other k q less = ap is_eq (keys_total.antisymm q k ∙ ap ordering_reverse less)
 
-own_below : (e : Key × Entry) (all es : Entries) → T (below_all key_cmp e.0 es) → Own (λ q. find key_cmp q all) es → Own (λ q. find key_cmp q (e ∷ all)) es
+own_below : {X : Type 0} (e : Key × X) (all es : List (Key × X)) → T (below_all key_cmp e.0 es) → Own (λ q. find key_cmp q all) es → Own (λ q. find key_cmp q (e ∷ all)) es
 own_below e all [] h own = tt
 own_below e all (p ∷ es) h own = (
   ap (λ b. cond b (Some e.1) (find key_cmp p.0 all)) (other e.0 p.0 (is_less _ (both_first _ _ h))) ∙ own.0,
   own_below e all es (both_second _ _ h) own.1,
 )
 
-pub own : (es : Entries) → T (is_sorted key_cmp es) → Own (λ q. find key_cmp q es) es
+pub own : {X : Type 0} (es : List (Key × X)) → T (is_sorted key_cmp es) → Own (λ q. find key_cmp q es) es
 own [] h = tt
 own (e ∷ es) h = (ap (λ b. cond b (Some e.1) (find key_cmp e.0 es)) ((eq_by_cmp_equiv keys_total).refl e.0), own_below e es es (both_first _ _ h) (own es (both_second _ _ h)))
 

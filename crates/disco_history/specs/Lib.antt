@@ -7,6 +7,7 @@ pub mod Held
 pub mod Laws
 pub mod List
 pub mod Mentions
+pub mod Places
 pub mod Query
 pub mod Registry
 pub mod Room

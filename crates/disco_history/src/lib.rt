@@ -4,12 +4,13 @@
 //! first v of them leave. Nothing keeps a whole history: it stands in contracts alone.
 #![tactic(auto)]
 
-mod apps;
 mod change;
 mod held;
 pub mod laws;
 mod list;
+mod places;
 
 pub use change::{Change, last_of};
 pub use held::Held;
 pub use list::RecordList;
+pub use places::Places;

@@ -1,2 +1,5 @@
 pub mod Histories
+mod Finding
+mod Ranges
 mod Readies
+mod Placing

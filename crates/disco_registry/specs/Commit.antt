@@ -13,15 +13,15 @@ use Rattle.disco_registry.specs.State.{State}
 use Rattle.disco_registry.specs.declared.op.Applied.{Applied}
 use Rattle.disco_registry.specs.declared.op.Applied.TheVariants.{Changed, Same}
 
--- there is room for the record that is put, if there is one
-abbrev pub HasRoomFor : State → Option Entry → Type 0
-HasRoomFor s None = Unit {0}
-HasRoomFor s (Some e) = get s.held (key_of e) ≡ None → 0 < s.room
+-- there is a place for the record that is put, if there is one
+abbrev pub HasPlaceFor : State → Option Entry → Type 0
+HasPlaceFor s None = Unit {0}
+HasPlaceFor s (Some e) = get s.held (key_of e) ≡ None → s.next ≡ Some (key_of e)
 
 -- the registry can make the change that is ready, if there is one, without memory
 abbrev pub IsReady : State → Option Entry → Type 0
 IsReady s None = Unit {0}
-IsReady s (Some c) = (s.version < s.versions) × HasRoomFor s (put_of c)
+IsReady s (Some c) = (s.version < s.versions) × HasPlaceFor s (put_of c)
 
 -- beside a change that is ready stands what is kept of it: the record, where it is put
 abbrev pub IsPrepared : Option Change → Option Entry → Type 0

@@ -1,5 +1,6 @@
 pub mod Accept
 pub mod Commit
 pub mod Op
+pub mod Records
 pub mod Settle
 pub mod State

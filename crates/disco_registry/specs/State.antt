@@ -1,19 +1,20 @@
 -- What a registry is, and the histories that it stands for.
-use Rattle.std.specs.Prelude.{◌≡◌, ℕ, List, length}
+use Rattle.std.specs.Prelude.{◌≡◌, ℕ, List, Option, length}
 use Rattle.std.specs.FinMap.{FinMap}
 use Rattle.disco_values.specs.Key.{key_cmp}
+use Rattle.disco_values.specs.declared.key.Key.{Key}
 use Rattle.disco_history.specs.Change.{Entry}
 use Rattle.disco_history.specs.Registry.{reg, said}
 
--- the records with what their last change did, the number of changes, the limits, and room for more records
+-- the records with what their last change did, the number of changes, the limits, and the key whose place stands empty, if one does
 pub record State : Type 0 where
   pub held : FinMap key_cmp Entry
   pub version : ℕ
   pub versions : ℕ
   pub instances : ℕ
-  pub room : ℕ
+  pub next : Option Key
 
--- the same but for room, which no answer shows
+-- the same but for the place that stands empty, which no answer shows
 pub record IsSameRegistry (old new : State) : Type 0 where
   pub held : new.held ≡ old.held
   pub version : new.version ≡ old.version

@@ -5,6 +5,7 @@
 #![tactic(auto)]
 
 mod op;
+mod records;
 mod registry;
 mod settle;
 

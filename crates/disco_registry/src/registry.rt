@@ -1,7 +1,7 @@
 //! The registry.
-ghost use Rattle.std.specs.Prelude.{◌≡◌, ◌<◌, ◌^◌, ◌&&◌, not, nat_lt, List, [], map, IfOk, IfErr, IfSome, None, Some, Ok, OnOk, false, filter, option_map, true};
+ghost use Rattle.std.specs.Prelude.{◌≡◌, ◌<◌, ◌^◌, ◌&&◌, not, nat_lt, List, [], map, IfOk, IfErr, IfSome, IsTrue, None, Some, Ok, OnOk, false, filter, option_map, true};
 ghost use Rattle.std.specs.FinMap.{get, len, values};
-ghost use Rattle.std.specs.List.{find};
+ghost use Rattle.std.specs.List.{filter_map, find};
 ghost use Rattle.disco_instance.specs.Instance.{Gives};
 ghost use Rattle.disco_instance.specs.Moments.{modified_at};
 ghost use Rattle.disco_instance.specs.Row.{row};
@@ -18,11 +18,13 @@ ghost use Rattle.disco_registry.specs.Op.{ask_of, register, cancel, renew, set_s
 ghost use Rattle.disco_registry.specs.State.{IsSameRegistry, StandsFor, State};
 
 use crate::op::{Applied, Op};
+use crate::records::Records;
 use crate::settle::settled;
-use disco_history::{Change, Held, RecordList};
+use disco_history::{Change, Held};
 use disco_instance::Record;
 use disco_values::{Action, Entries, Fault, Key, Status, Text, status_of};
-use std::alloc::Global;
+use std::alloc::{AllocError, Global};
+use std::collections::BTreeMap;
 use std::marker::Model;
 use std::sync::Arc;
 
@@ -31,7 +33,7 @@ use std::sync::Arc;
 #[derive(Drop)]
 pub struct Registry {
     alloc: Global,
-    records: RecordList,
+    records: Records,
     version: u64,
     versions: u64,
     instances: u64,
@@ -46,7 +48,7 @@ impl Model for Registry {
 
     ghost coded = { Prim.hlevel (codes, code) };
 
-    ghost view = { λ r. record { held = r.records.held; version = r.version; versions = r.versions; instances = r.instances; room = r.records.room } };
+    ghost view = { λ r. record { held = r.records.held; version = r.version; versions = r.versions; instances = r.instances; next = r.records.next } };
 }
 
 /// An accepted operation, with all that its commit needs.
@@ -89,19 +91,29 @@ fn same_ready() -> Ready
     }
 }
 
-fn put_ready(alloc: Global, record_in: Record, action: Action) -> Result<Ready, Fault>
-    requires { put_of (row record_in, action) ≡ Some (row record_in, action) }
-    ensures memory { IfErr result (λ e. e ≡ OutOfMemory) }
-    ensures change { IfOk result (λ r. r ≡ Some (row record_in, action)) }
+/// A record with what its last change did.
+fn kept_as(alloc: Global, rec: Record, action: Action) -> Result<Held, AllocError>
+    ensures { IfOk result (λ h. entry_of h ≡ (row rec, action)) }
 {
-    let rec = Arc::new(alloc, record_in)?;
-    let shared = Arc::try_clone(&rec)?;
+    Ok(Held {
+        rec: Arc::new(alloc, rec)?,
+        action,
+    })
+}
+
+/// What is ready for a record that is put.
+fn put_ready(kept: Held) -> Result<Ready, Fault>
+    requires { put_of (entry_of kept) ≡ Some (entry_of kept) }
+    ensures memory { IfErr result (λ e. e ≡ OutOfMemory) }
+    ensures change { IfOk result (λ r. r ≡ Some (entry_of kept)) }
+{
+    let change = Change::Put {
+        action: kept.action,
+        rec: Arc::try_clone(&kept.rec)?,
+    };
     Ok(Ready {
-        change: Some(Change::Put { action, rec }),
-        kept: Some(Held {
-            rec: shared,
-            action,
-        }),
+        change: Some(change),
+        kept: Some(kept),
     })
 }
 
@@ -129,7 +141,8 @@ fn modified_ready(
     ensures change { IfOk result (λ r. r ≡ Some (modified_at (row held.now) status overridden_status now, Modified)) }
 {
     let new = held.copy()?.modified(status, overridden_status, now);
-    let ready = put_ready(alloc, new, Action::Modified)?;
+    let kept = kept_as(alloc, new, Action::Modified)?;
+    let ready = put_ready(kept)?;
     Ok(ready)
 }
 
@@ -150,7 +163,7 @@ impl Registry {
     {
         Registry {
             alloc,
-            records: RecordList::new(alloc),
+            records: Records::new(alloc),
             version: 0,
             versions,
             instances,
@@ -194,10 +207,10 @@ impl Registry {
 
     /// The records of an app in the order of their ids. It costs nothing for those of other apps,
     /// but for the search.
-    pub fn of_app(&self, app: &Text) -> &[Held]
-        ensures { map entry_of result.now ≡ filter (is_of_app app.now) (values self.now.held) }
+    pub fn of_app(&self, alloc: Global, app: &Text) -> Result<Vec<Held>, AllocError>
+        ensures { IfOk result (λ v. map entry_of v.items ≡ filter (is_of_app app.now) (values self.now.held)) }
     {
-        self.records.of_app(app)
+        self.records.of_app(alloc, app)
     }
 
     /// How many instances are held.
@@ -217,11 +230,11 @@ impl Registry {
         self.version
     }
 
-    /// The held records in the order of their keys.
-    pub fn records(&self) -> &[Held]
-        ensures { map entry_of result.now ≡ values self.now.held }
+    /// The held records by key. A place may stand empty, and no other answer shows it.
+    pub fn records(&self) -> &BTreeMap<Key, Option<Held>>
+        ensures { filter_map (λ e. option_map entry_of e.1) result.now.entries ≡ values self.now.held }
     {
-        self.records.as_slice()
+        self.records.as_map()
     }
 
     /// Makes every growth that an operation needs, and changes no answer. Refused as the operation
@@ -242,11 +255,12 @@ impl Registry {
         }
     }
 
-    /// Seeks the record of a key once, for all that is asked of the key until its change is made. No
-    /// answer shows it.
+    /// Takes out the place that was made for another operation, and seeks the record of a key once,
+    /// for all that is asked of the key until its change is made. No answer shows it.
     fn seek(&mut self, key: &Key)
-        ensures { self.new ≡ self.old }
+        ensures { self.new ≡ record self.old { next = None } }
     {
+        self.records.forget();
         self.records.seek(key);
     }
 
@@ -256,22 +270,33 @@ impl Registry {
         held.is_none() && self.records.len() as u64 >= self.instances
     }
 
-    /// Makes room for a registration at a moment, unless there is a cause against it.
-    fn admit(&mut self, posted: &Record, now: u64) -> Result<(), Fault>
-        ensures same { IsSameRegistry self.old self.new }
-        ensures place { OnOk result ((is_new (record_at self.old.held posted.now.key) && not (nat_lt (len self.old.held) self.old.instances)) ≡ false) }
-        ensures left { OnOk result (self.old.version < self.old.versions) }
-        ensures room { OnOk result (0 < self.new.room) }
-        ensures refused { IfErr result (Refuses self.old (register (row posted.now)) now) }
+    /// Whether a registration over what is held under its key is admitted at a moment.
+    fn admit(&self, held: Option<&Record>, posted: &Record, now: u64) -> Result<(), Fault>
+        requires { seen_record held ≡ record_at self.now.held posted.now.key }
+        ensures place { OnOk result ((is_new (record_at self.now.held posted.now.key) && not (nat_lt (len self.now.held) self.now.instances)) ≡ false) }
+        ensures left { OnOk result (self.now.version < self.now.versions) }
+        ensures refused { IfErr result (Refuses self.now (register (row posted.now)) now) }
     {
         let _ = now;
-        if self.has_no_place(self.records.get(&posted.key)) {
+        let _ = posted;
+        if self.has_no_place(held) {
             return Err(Fault::TooManyInstances);
         }
         if self.version >= self.versions {
             return Err(Fault::VersionsSpent);
         }
-        self.records.reserve()?;
+        Ok(())
+    }
+
+    /// Makes a place for a record that is put next, where its key is new.
+    fn make_place(&mut self, kept: &Held, is_new: bool) -> Result<(), AllocError>
+        requires { IsTrue is_new → get self.old.held kept.now.rec.value.key ≡ None }
+        ensures same { IsSameRegistry self.old self.new }
+        ensures place { OnOk result (IsTrue is_new → self.new.next ≡ Some kept.now.rec.value.key) }
+    {
+        if is_new {
+            self.records.make(kept.share()?)?;
+        }
         Ok(())
     }
 
@@ -280,10 +305,13 @@ impl Registry {
         ensures ready { IfOk result (λ r. accepts self.old (register (row posted)) now ≡ Ok r × IsReady self.new r) }
         ensures refused { IfErr result (Refuses self.old (register (row posted)) now) }
     {
-        self.admit(&posted, now)?;
         let held = self.records.get(&posted.key);
+        self.admit(held, &posted, now)?;
+        let is_new = held.is_none();
         let new = settled(held, posted, now)?;
-        let ready = put_ready(self.alloc, new, Action::Added)?;
+        let kept = kept_as(self.alloc, new, Action::Added)?;
+        self.make_place(&kept, is_new)?;
+        let ready = put_ready(kept)?;
         Ok(ready)
     }
 
@@ -368,7 +396,8 @@ impl Registry {
         }
         let posted = held.copy()?.with_entries(entries)?;
         let new = settled(Some(held), posted, now)?;
-        let ready = put_ready(self.alloc, new, Action::Added)?;
+        let kept = kept_as(self.alloc, new, Action::Added)?;
+        let ready = put_ready(kept)?;
         Ok(ready)
     }
 
@@ -397,9 +426,9 @@ impl Registry {
     {
         prove!(self.version < self.versions);
         match change {
-            Change::Put { action: _, rec: _ } => {
+            Change::Put { action: _, rec } => {
                 if let Some(kept) = kept {
-                    self.records.put(kept);
+                    self.records.put(&rec.key, kept);
                 }
             }
             Change::Gone { rec } => self.records.take(&rec.key),

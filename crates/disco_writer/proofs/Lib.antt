@@ -7,6 +7,5 @@ mod Pushes
 mod Readable
 mod Steps
 mod Told
-mod Trees
 mod Walk
 mod Written

@@ -2,12 +2,13 @@
 use Rattle.std.proofs.Common.{◌≡◌, ℕ, List, Bool, true, false, cond, Option, Some, None, is_some, IsSome, refl, sym, ap, subst, ◌∙◌}
 use Rattle.std.specs.Ordering.{is_eq}
 use Rattle.std.specs.Cmp.{tied_itself}
-use Rattle.std.specs.Option.{option_flatten}
-use Rattle.std.specs.FinMap.{FinMap, empty, get, insert, remove, get-empty, get-insert, get-remove}
+use Rattle.std.specs.Borrow.{Bor}
+use Rattle.std.specs.Option.{option_copied, option_flatten}
+use Rattle.std.specs.FinMap.{empty, get, insert, remove, get-empty, get-insert, get-remove}
 use Rattle.disco_values.specs.Key.{key_cmp, same_key}
 use Rattle.disco_values.specs.declared.key.Key.{Key}
 use Rattle.disco_history.proofs.Keys.{keys_total, same_is}
-use Rattle.disco_writer.specs.Empty.{IsNext, OnlyNextIsEmpty, OpensOnly, SweepsAt}
+use Rattle.disco_writer.specs.Empty.{OnlyNextIsEmpty, OpensOnly, SweepsAt}
 use Rattle.disco_writer.specs.Kept.{HasNoEmpty, Places}
 
 abbrev Text : Type 0
@@ -28,7 +29,7 @@ text-put m n k l e q = ap (λ p. option_flatten (get p q)) e ∙ ap option_flatt
 pub text-out : (m n : Places) (k : Key) → n ≡ remove m k → (q : Key) → option_flatten (get n q) ≡ cond (same_key q k) None (option_flatten (get m q))
 text-out m n k e q = ap (λ p. option_flatten (get p q)) e ∙ ap option_flatten (get-remove keys_total m k q) ∙ flat_cond (same_key q k) None (get m q)
 
-absent : (o : Option (Option Text)) → is_some o ≡ false → o ≡ None
+pub absent : (o : Option (Option Text)) → is_some o ≡ false → o ≡ None
 absent None e = refl
 absent (Some p) e = absurd (cc)
 
@@ -95,6 +96,14 @@ filled_at m k q t false is same none = refl
 pub sweeps_none : (m : Places) (k : Key) (t : Text) → Some t ≡ option_flatten (get m k) → SweepsAt k m m
 sweeps_none m k t is q none = (filled_at m k q t (same_key q k) is refl none, none)
 
+pub sweeps_filled : (m : Places) (k : Key) (o : Option (Bor Text)) → option_copied o ≡ option_flatten (get m k) → is_some o ≡ true → SweepsAt k m m
+sweeps_filled m k None is there = absurd (cc)
+sweeps_filled m k (Some b) is there = sweeps_none m k b.now is
+
+pub shows_nothing : (o : Option (Bor Text)) (x : Option Text) → option_copied o ≡ x → is_some o ≡ false → x ≡ None
+shows_nothing None x is none = sym is
+shows_nothing (Some b) x is none = absurd (cc)
+
 pub only_next-new : OnlyNextIsEmpty None empty
 only_next-new q is = absurd (let none : None ≡ Some None = sym (get-empty key_cmp q) ∙ is in cc)
 
@@ -131,6 +140,25 @@ absent_at m k q false none same is = refl
 -- without a place for it none stands empty
 pub next_absent : (n : Key × Text) (m : Places) → OnlyNextIsEmpty (Some n) m → is_some (get m n.0) ≡ false → HasNoEmpty m
 next_absent n m only none = next_swept n m m only (λ q is. (absent_at m n.0 q (same_key q n.0) none refl is, is))
+
+-- a text that is put where there is a place leaves none empty
+pub next_kept : (k : Key) (t : Text) (o : Option (Key × Text)) (m p : Places) → Some (k, t) ≡ o → OnlyNextIsEmpty o m → (IsSome (get m k) → p ≡ insert m k (Some t)) → (get m k ≡ None → p ≡ m) → HasNoEmpty p
+next_kept k t o m p is only there none = by (get m k) refl
+  where
+    alone : OnlyNextIsEmpty (Some (k, t)) m
+    alone = subst (λ (x : Option (Key × Text)). OnlyNextIsEmpty x m) (sym is) only
+
+    by : (x : Option (Option Text)) → get m k ≡ x → HasNoEmpty p
+    by None e = λ q is_empty. next_absent (k, t) m alone (ap is_some e) q (ap (λ x. get x q) (sym (none e)) ∙ is_empty)
+    by (Some v) e = next_put (k, t) t m p alone (there (subst (λ (x : Option (Option Text)). IsSome x) (sym e) refl))
+
+-- the place that was made for it is there
+pub ready_place : (m : Places) (key k : Key) (text t : Text) → ◌≡◌ {A = Option (Key × Text)} (Some (key, text)) (Some (k, t)) → IsSome (get m k) → IsSome (get m key)
+ready_place m key k text t same place = subst (λ (q : Key). IsSome (get m q)) (sym (ap (λ o. pick o) same)) place
+  where
+    pick : Option (Key × Text) → Key
+    pick None = key
+    pick (Some p) = p.0
 
 -- a place that is taken out leaves at most that one
 pub only_next-out : (o : Option (Key × Text)) (k : Key) (m p : Places) → OnlyNextIsEmpty o m → p ≡ remove m k → OnlyNextIsEmpty o p

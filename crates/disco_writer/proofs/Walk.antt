@@ -1,11 +1,9 @@
 -- What is kept of all instances, in the order of their keys, is the texts of what is held.
 use Rattle.std.proofs.Common.{◌≡◌, ℕ, ◌&&◌, Bool, true, false, cond, T, List, [], ◌∷◌, map, Option, Some, None, option_map, refl, sym, ap, subst, ◌∙◌}
-use Rattle.std.specs.List.{cons_option, filter_map}
-use Rattle.std.specs.List.Sorted.{IsStrictlySortedBy}
-use Rattle.std.specs.Map.{keys_of}
+use Rattle.std.specs.List.{cons_option}
 use Rattle.std.specs.Ordering.{is_lt}
 use Rattle.std.specs.Option.{option_flatten}
-use Rattle.std.specs.FinMap.{FinMap, entries, entries_sorted, from_entries, from_sorted, entries-from_sorted, get, get-entries, get-from_entries, get-from_sorted, same_map, values}
+use Rattle.std.specs.FinMap.{FinMap, entries, entries_sorted, from_sorted, entries-from_sorted, get, get-entries, get-from_sorted, same_map, values}
 use Rattle.std.specs.FinMap.Entries.{below_all, find, is_sorted}
 use Rattle.disco_values.specs.Key.{key_cmp, same_key}
 use Rattle.disco_values.specs.declared.form.Form.{Form}
@@ -13,9 +11,11 @@ use Rattle.disco_values.specs.declared.key.Key.{Key}
 use Rattle.disco_history.specs.Change.{Entry, key_of}
 use Rattle.disco_history.specs.Mentions.{mention_of}
 use Rattle.disco_history.specs.Registry.{reg, said}
-use Rattle.disco_history.proofs.Keys.{keys_total, exact_keys, same_is}
+use Rattle.disco_history.proofs.Keys.{keys_total, exact_keys}
 use Rattle.disco_history.proofs.Restrictions.{held_key}
-use Rattle.disco_history.proofs.Sorted.{Own, both, both_first, both_second, in_order, none_below, own}
+use Rattle.disco_history.proofs.PlaceLemmas.{find_filled, sorted_filled}
+use Rattle.disco_history.proofs.Sorted.{Own, own}
+use Rattle.disco_history.specs.Places.{filled}
 use Rattle.disco_writer.specs.Joined.{AreTextsOf, Shown, text_in, walked}
 use Rattle.disco_writer.specs.Kept.{AreKept, AreTied, IsTextOf, Kept, text_at}
 use Rattle.disco_writer.proofs.Told.{owned}
@@ -23,19 +23,10 @@ use Rattle.disco_writer.proofs.Told.{owned}
 abbrev Text : Type 0
 Text = List ℕ
 
--- a tree's entries are those of the map that they stand for
-pub stored : (es : List (Key × Option Text)) → IsStrictlySortedBy key_cmp (keys_of es) → entries (from_entries {R = key_cmp} es) ≡ es
-stored es ordered =
-    let sorted = in_order es ordered in
-    ap entries (same_map keys_total exact_keys (from_entries es) (from_sorted es) (λ q. get-from_entries keys_total es q ∙ sym (get-from_sorted key_cmp es q sorted))) ∙ entries-from_sorted key_cmp es sorted
-
 -- ---- the places that don't stand empty
 
-abbrev there : Key × Option Text → Option (Key × Text)
-there e = option_map (λ t. (e.0, t)) e.1
-
 abbrev present : List (Key × Option Text) → List (Key × Text)
-present es = filter_map there es
+present es = filled (λ t. t) es
 
 abbrev with_app : Key × Text → Shown
 with_app p = (p.0.app, p.1)
@@ -47,35 +38,6 @@ walked_present (e ∷ es) = one e.1 (walked_present es)
     one : (o : Option Text) → walked es ≡ map with_app (present es) → cons_option (option_map (λ t. (e.0.app, t)) o) (walked es) ≡ map with_app (cons_option (option_map (λ t. (e.0, t)) o) (present es))
     one None ih = ih
     one (Some t) ih = ap (λ (r : List Shown). (e.0.app, t) ∷ r) ih
-
-below_present : (k : Key) (es : List (Key × Option Text)) → T (below_all key_cmp k es) → T (below_all key_cmp k (present es))
-below_present k [] h = tt
-below_present k (e ∷ es) h = one e.1 (below_present k es (both_second _ _ h))
-  where
-    one : (o : Option Text) → T (below_all key_cmp k (present es)) → T (below_all key_cmp k (cons_option (option_map (λ t. (e.0, t)) o) (present es)))
-    one None rest = rest
-    one (Some t) rest = both _ _ (both_first _ _ h) rest
-
-sorted_present : (es : List (Key × Option Text)) → T (is_sorted key_cmp es) → T (is_sorted key_cmp (present es))
-sorted_present [] h = tt
-sorted_present (e ∷ es) h = one e.1 (sorted_present es (both_second _ _ h))
-  where
-    one : (o : Option Text) → T (is_sorted key_cmp (present es)) → T (is_sorted key_cmp (cons_option (option_map (λ t. (e.0, t)) o) (present es)))
-    one None rest = rest
-    one (Some t) rest = both _ _ (below_present e.0 es (both_first _ _ h)) rest
-
-module _ (q : Key) where
-  step : (e : Key × Option Text) (es : List (Key × Option Text)) (o : Option Text) (b : Bool) → e.1 ≡ o → same_key q e.0 ≡ b → (b ≡ true → find key_cmp q es ≡ None) → find key_cmp q (present es) ≡ option_flatten (find key_cmp q es)
-      → find key_cmp q (cons_option (option_map (λ t. (e.0, t)) o) (present es)) ≡ option_flatten (cond b (Some o) (find key_cmp q es))
-  step e es None true is same none ih = ih ∙ ap option_flatten (none refl)
-  step e es None false is same none ih = ih
-  step e es (Some t) true is same none ih = ap (λ b. cond b (Some t) (find key_cmp q (present es))) same
-  step e es (Some t) false is same none ih = ap (λ b. cond b (Some t) (find key_cmp q (present es))) same ∙ ih
-
-  find_present : (es : List (Key × Option Text)) → T (is_sorted key_cmp es) → find key_cmp q (present es) ≡ option_flatten (find key_cmp q es)
-  find_present [] h = refl
-  find_present (e ∷ es) h =
-      step e es e.1 (same_key q e.0) refl refl (λ tied. none_below q es (subst (λ k. T (below_all key_cmp k es)) (sym (same_is q e.0 tied)) (both_first _ _ h))) (find_present es (both_second _ _ h))
 
 -- ---- the texts of what is held
 
@@ -108,16 +70,20 @@ tied_is : (f : Form) (o : Option Text) (e : Entry) → AreTied f o (Some e) → 
 tied_is f None e tied = absurd tied
 tied_is f (Some t) e tied = subst (λ (s : Text). IsTextOf f s (mention_of e)) tied.all tied
 
+same_text : (o : Option Text) → option_map (λ t. t) o ≡ o
+same_text None = refl
+same_text (Some t) = refl
+
 -- what is kept is the text of each that is held
 same_texts : (f : Form) (v : Kept) (held : FinMap key_cmp Entry) → AreKept f v held → present (entries v.places) ≡ texts_of f (entries held)
 same_texts f v held kept =
     let ps = present (entries v.places) in
     let ts = texts_of f (entries held) in
-    let sorted_ps = sorted_present (entries v.places) (entries_sorted v.places) in
+    let sorted_ps = sorted_filled (λ t. t) (entries v.places) (entries_sorted v.places) in
     let sorted_ts : T (is_sorted key_cmp ts) = subst T (sym (sorted_texts f (entries held))) (entries_sorted held) in
     sym (entries-from_sorted key_cmp ps sorted_ps)
     ∙ ap entries (same_map keys_total exact_keys (from_sorted ps) (from_sorted ts) (λ q.
-    get-from_sorted key_cmp ps q sorted_ps ∙ find_present q (entries v.places) (entries_sorted v.places) ∙ ap option_flatten (sym (get-entries v.places q)) ∙ tied_text f (text_at v q) (get held q) (kept q)
+    get-from_sorted key_cmp ps q sorted_ps ∙ find_filled (λ t. t) q (entries v.places) (entries_sorted v.places) ∙ same_text _ ∙ ap option_flatten (sym (get-entries v.places q)) ∙ tied_text f (text_at v q) (get held q) (kept q)
     ∙ ap (option_map (text_in f)) (get-entries held q) ∙ sym (find_texts f q (entries held)) ∙ sym (get-from_sorted key_cmp ts q sorted_ts)))
     ∙ entries-from_sorted key_cmp ts sorted_ts
 

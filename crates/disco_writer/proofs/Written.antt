@@ -19,7 +19,6 @@ use Rattle.disco_query.specs.Query.{is_delta}
 use Rattle.disco_documents.specs.Rows.{mentions_in, rows_in}
 use Rattle.disco_documents.specs.Trees.{document_tree, tree_of}
 use Rattle.disco_query.specs.declared.query.Query.{Query}
-use Rattle.disco_query.specs.declared.query.Query.TheVariants as query
 
 is_some_number : (n : ℕ) → 0 < n → (n == 0) ≡ false
 is_some_number n some = grind (arith, nat_tests, some)

@@ -1,5 +1,5 @@
 -- The text of a mention, and the texts that are kept.
-use Rattle.std.specs.Prelude.{◌≡◌, ℕ, Bool, List, if◌then◌else◌, Option, Some, None, IsSome}
+use Rattle.std.specs.Prelude.{◌≡◌, ℕ, List, if◌then◌else◌, Option, Some, None, IsSome}
 use Rattle.std.specs.FinMap.{FinMap, empty, get}
 use Rattle.std.specs.Option.{option_flatten}
 use Rattle.std.specs.Str.{IsUtf8}

@@ -126,11 +126,11 @@ fn write_app(
     ensures written { IfOk result (λ o. (h : List Entry) → StandsFor registry.now h → IsWritten form (query.App name.now) h (length h) (option_map (λ v. v.items) o)) }
     ensures memory { IfErr result (λ e. e ≡ OutOfMemory) }
 {
-    let held = registry.of_app(name);
+    let held = registry.of_app(alloc, name)?;
     if held.is_empty() {
         return Ok(None);
     }
-    Ok(Some(app_text(alloc, form, texts, name, held)?))
+    Ok(Some(app_text(alloc, form, texts, name, held.as_slice())?))
 }
 
 /// The document of some records, with the hash code of these alone; none where there are none.

@@ -57,8 +57,10 @@ pub(crate) fn held_under_svip(
     ensures { IfOk result (λ v. held_entries v.items ≡ filter (λ e. asks_for (of_secure_vip svip.now) e.0) (values registry.now.held)) }
 {
     let mut list = Vec::new(alloc);
-    for held in registry.records() {
-        if has_svip(held, svip) {
+    for (_, place) in registry.records() {
+        if let Some(held) = place
+            && has_svip(held, svip)
+        {
             list.push(held.share()?)?;
         }
     }

@@ -7,7 +7,8 @@ ghost use Rattle.disco_writer.specs.Joined.{shown_by, walked};
 ghost use Rattle.disco_writer.specs.Kept.{HasNoEmpty, IsReadyFor, IsSameTexts, Sets, none_kept, text_at};
 
 use crate::piece::Piece;
-use crate::places::Places;
+use crate::places::{make, pieces_in, sweep, text_at};
+use disco_history::Places;
 use disco_values::{Bytes, Fault, Key};
 use std::alloc::{AllocError, Global};
 use std::marker::Model;
@@ -15,7 +16,7 @@ use std::marker::Model;
 /// The text of each of some instances, and one that is put next.
 #[derive(Drop)]
 pub struct Texts {
-    places: Places,
+    places: Places<Bytes>,
     next: Option<(Key, Bytes)>,
 }
 
@@ -49,14 +50,14 @@ impl Texts {
     pub fn get(&self, key: &Key) -> Option<&[u8]>
         ensures { option_map (λ t. t.now) result ≡ text_at self.now key.now }
     {
-        self.places.text(key)
+        text_at(&self.places, key)
     }
 
     /// The app and the text of each instance that has one, in the order of their keys.
     pub(crate) fn pieces(&self, alloc: Global) -> Result<Vec<Piece<'_>>, AllocError>
         ensures { IfOk result (λ v. shown_by v.items ≡ walked (entries self.now.places)) }
     {
-        self.places.pieces(alloc)
+        pieces_in(alloc, &self.places)
     }
 
     /// Drops what is put next, and gives back its place where no text stands in it, so that no
@@ -66,7 +67,7 @@ impl Texts {
         ensures none_empty { HasNoEmpty self.new.places }
     {
         if let Some((key, _)) = self.next.take() {
-            self.places.sweep(&key);
+            sweep(&mut self.places, &key);
         }
     }
 
@@ -81,7 +82,7 @@ impl Texts {
     {
         self.forget();
         let kept = key.clone()?;
-        self.places.make(key)?;
+        make(&mut self.places, key)?;
         self.next = Some((kept, Bytes::from_vec(text)));
         Ok(())
     }
@@ -92,9 +93,7 @@ impl Texts {
         ensures none_empty { HasNoEmpty self.new.places }
     {
         if let Some((key, text)) = self.next.take() {
-            if self.places.has(&key) {
-                self.places.put(&key, text);
-            }
+            self.places.put(&key, text);
         }
     }
 

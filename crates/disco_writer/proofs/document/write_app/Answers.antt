@@ -1,4 +1,4 @@
-use Rattle.std.proofs.Common.{length, filter, List, refl, ap, sym, subst, ◌≡◌, ◌<◌, ◌∙◌, arith}
+use Rattle.std.proofs.Common.{length, filter, map, List, refl, ap, sym, subst, ◌≡◌, ◌<◌, ◌∙◌, arith}
 use Rattle.std.proofs.lemmas.Bool.Decides.{nat_tests}
 use Rattle.std.proofs.lemmas.List.{length-map}
 use Rattle.std.specs.FinMap.{FinMap, values}
@@ -18,17 +18,20 @@ use Rattle.disco_writer.proofs.document.write_app.Goals as goal
 pub returns-then-is_empty-clause-written : goal.returns-then-is_empty-clause-written
 returns-then-is_empty-clause-written c = λ h stands.
     let name = c.args.name.now in
-    let same = c.of_app-held.ensures ∙ ap (λ (m : FinMap key_cmp Entry). filter (is_of_app name) (values m)) stands.held ∙ sym (values-said_restrict h (of_app name)) in
-    let none : length c.of_app-held.result.now ≡ 0 = grind (arith, nat_tests, c.is_empty.ensures, c.if-is_empty.true) in
-    none_written (of_app name) h (held_entries c.of_app-held.result.now) same (length-map c.of_app-held.result.now entry_of ∙ none) refl
+    let held = c.in_ok-held.held.items in
+    let same = c.in_ok-held.ensures ∙ ap (λ (m : FinMap key_cmp Entry). filter (is_of_app name) (values m)) stands.held ∙ sym (values-said_restrict h (of_app name)) in
+    let none : length held ≡ 0 = grind (arith, nat_tests, c.is_empty.ensures, c.if-is_empty.true) in
+    none_written (of_app name) h (held_entries held) same (length-map held entry_of ∙ none) refl
 
 pub returns-clause-written : goal.returns-clause-written
 returns-clause-written c = λ h stands.
     let name = c.args.name.now in
-    let held = c.of_app-held.result.now in
-    let same = c.of_app-held.ensures ∙ ap (λ (m : FinMap key_cmp Entry). filter (is_of_app name) (values m)) stands.held ∙ sym (values-said_restrict h (of_app name)) in
+    let held = c.as_slice.result.now in
+    let items = c.in_ok-held.held.items in
+    let as_held : held_entries held ≡ held_entries items = ap (map entry_of) c.as_slice.ensures.value in
+    let same = as_held ∙ c.in_ok-held.ensures ∙ ap (λ (m : FinMap key_cmp Entry). filter (is_of_app name) (values m)) stands.held ∙ sym (values-said_restrict h (of_app name)) in
     let held_all = passing_held (is_of_app name) c.args.registry.now.held (values c.args.registry.now.held) (values_held h c.args.registry.now.held stands.held) in
-    let agree = subst (λ (xs : List Entry). AllAgree c.args.form c.args.texts.now xs) (sym c.of_app-held.ensures) (held_agree c.args.form c.args.texts.now c.args.registry.now.held _ c.requires held_all) in
-    let some : 0 < length held = grind (arith, nat_tests, c.is_empty.ensures, c.if-is_empty.false) in
-    let count : length (held_entries held) ≡ length held = length-map held entry_of in
+    let agree = subst (λ (xs : List Entry). AllAgree c.args.form c.args.texts.now xs) (sym (as_held ∙ c.in_ok-held.ensures)) (held_agree c.args.form c.args.texts.now c.args.registry.now.held _ c.requires held_all) in
+    let some : 0 < length items = grind (arith, nat_tests, c.is_empty.ensures, c.if-is_empty.false) in
+    let count : length (held_entries held) ≡ length items = ap length as_held ∙ length-map items entry_of in
     some_written c.args.form (query.App name) h (length h) (held_entries held) _ (length h) _ same refl refl (some_there (of_app name) h (held_entries held) same (omega (arith, some, count))) (c.in_ok-app_text.ensures.text agree) (c.in_ok-app_text.ensures.means agree)

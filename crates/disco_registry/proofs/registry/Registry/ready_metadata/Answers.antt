@@ -27,9 +27,10 @@ returns-clause-ready c =
     let copied = ap row c.in_ok-copy.ensures.same in
     let posted = c.in_ok-posted.ensures.record_is ∙ ap (λ (x : Row). record x { metadata = with_entries x.metadata es }) copied in
     let new = c.in_ok-new.ensures.record_is ∙ ap (λ (x : Row). settle (Some r) x now) posted in
+    let change = c.in_ok-ready.ensures.change ∙ ap (λ (e : Entry). Some e) c.in_ok-kept.ensures in
     let key = ap (λ (x : Row). x.key) new ∙ settle-key r (record r { metadata = with_entries r.metadata es }) now refl ∙ c.in-Some.ensures.same_key in (
       left_version (limits_of s) s.version (settle (Some r) (record r { metadata = with_entries r.metadata es }) now, Added) (asked (limits_of s) (record_at s.held) (len s.held) (add_metadata k es) now)
           (metadata_asked (record_at s.held k) r es now there) left
-          ∙ ap (λ (x : Row). Ok (Some (x, Added))) (sym new) ∙ ap (λ (o : Option Entry). Ok o) (sym c.in_ok-ready.ensures.change),
-      subst (IsReady s) (sym c.in_ok-ready.ensures.change) (left, needs_none s.held k c.in_ok-new.new.key r s.room there key),
+          ∙ ap (λ (x : Row). Ok (Some (x, Added))) (sym new) ∙ ap (λ (o : Option Entry). Ok o) (sym change),
+      subst (IsReady s) (sym change) (left, needs_none s.held k c.in_ok-new.new.key r s.next there key),
     )

@@ -7,9 +7,9 @@ use Rattle.disco_writer.proofs.texts.Texts.forget.Goals as goal
 pub returns-in-Some-clause-none_empty : goal.returns-in-Some-clause-none_empty
 returns-in-Some-clause-none_empty c =
     let only = subst (λ (o : Option (Key × List ℕ)). OnlyNextIsEmpty o c.self.inside.places) (sym c.in-Some.ensures.value) c.self.invariant in
-    next_swept (c.in-Some.key, c.in-Some.field-0-1) c.self.inside.places c.sweep.new.self only c.sweep.ensures.swept
+    next_swept (c.in-Some.key, c.in-Some.field-0-1) c.self.inside.places c.sweep.new.places only c.sweep.ensures.swept
 
 pub invariant_of-self : goal.invariant_of-self
 invariant_of-self c = λ q is.
     let only = subst (λ (o : Option (Key × List ℕ)). OnlyNextIsEmpty o c.self.inside.places) (sym c.in-Some.ensures.value) c.self.invariant in
-    absurd (next_swept (c.in-Some.key, c.in-Some.field-0-1) c.self.inside.places c.sweep.new.self only c.sweep.ensures.swept q is)
+    absurd (next_swept (c.in-Some.key, c.in-Some.field-0-1) c.self.inside.places c.sweep.new.places only c.sweep.ensures.swept q is)

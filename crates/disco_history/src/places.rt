@@ -1,0 +1,116 @@
+//! Places by key, which may stand empty.
+ghost use Rattle.std.specs.Prelude.{◌≡◌, IsSome, None, OnErr, OnOk, Some, is_some};
+ghost use Rattle.std.specs.BTreeMap as tree;
+ghost use Rattle.std.specs.FinMap as finmap;
+ghost use Rattle.std.specs.Option.{option_copied, option_flatten};
+ghost use Rattle.disco_values.specs.Key.{key_cmp};
+
+use disco_values::Key;
+use std::alloc::{AllocError, Global};
+use std::collections::BTreeMap;
+use std::marker::Model;
+
+/// A place for each of some keys, with a value or empty. A value goes into a place that is there
+/// without memory.
+#[derive(Drop)]
+pub struct Places<V> {
+    places: BTreeMap<Key, Option<V>>,
+}
+
+impl<V> Model for Places<V> {
+    ghost use Rattle.std.specs.Prelude.{Option};
+    ghost use Rattle.std.specs.FinMap.{FinMap, code};
+    ghost use Rattle.std.specs.Coded.{coded_option};
+    ghost use Rattle.disco_values.specs.contracts.key.Key as key;
+    ghost use Rattle.disco_values.specs.Key.{key_cmp};
+    ghost use Rattle.disco_history.specs.Places.{places_of};
+
+    ghost Value = { FinMap key_cmp (Option V) };
+
+    ghost coded = { code key.the_row.coded (coded_option V.code) };
+
+    ghost view = { λ p. places_of p.places.entries };
+}
+
+fn set<V: Drop>(places: &mut BTreeMap<Key, Option<V>>, key: &Key, value: V)
+    ensures there { IsSome (tree.get key_cmp places.old key.now) → tree.Updates key_cmp places.old places.new key.now (Some (Some value)) }
+    ensures none { tree.get key_cmp places.old key.now ≡ None → places.new ≡ places.old }
+{
+    if let Some(place) = places.get_mut(key) {
+        *place = Some(value);
+    }
+}
+
+fn unset<V: Drop>(places: &mut BTreeMap<Key, Option<V>>, key: &Key)
+    ensures { tree.Updates key_cmp places.old places.new key.now None }
+{
+    places.remove(key);
+}
+
+impl<V: Drop> Places<V> {
+    /// No places.
+    pub fn new(alloc: Global) -> Places<V>
+        ensures { result ≡ finmap.empty }
+    {
+        Places {
+            places: BTreeMap::new(alloc),
+        }
+    }
+
+    /// How many places there are.
+    pub fn len(&self) -> usize
+        ensures { result ≡ finmap.len self.now }
+    {
+        self.places.len()
+    }
+
+    /// Whether there is a place for a key.
+    pub fn has(&self, key: &Key) -> bool
+        ensures { result ≡ is_some (finmap.get self.now key.now) }
+    {
+        self.places.contains_key(key)
+    }
+
+    /// The value in the place of a key.
+    pub fn get(&self, key: &Key) -> Option<&V>
+        ensures { option_copied result ≡ option_flatten (finmap.get self.now key.now) }
+    {
+        match self.places.get(key) {
+            Some(place) => place.as_ref(),
+            None => None,
+        }
+    }
+
+    /// The places in the order of their keys.
+    pub fn as_map(&self) -> &BTreeMap<Key, Option<V>>
+        ensures { result.now.entries ≡ finmap.entries self.now }
+    {
+        let _len = self.places.len();
+        &self.places
+    }
+
+    /// Makes an empty place for a key that has none.
+    pub fn open(&mut self, key: Key) -> Result<(), AllocError>
+        requires { finmap.get self.old key ≡ None }
+        ensures ok { OnOk result (self.new ≡ finmap.insert self.old key None) }
+        ensures err { OnErr result (self.new ≡ self.old) }
+    {
+        self.places.insert(key, None)?;
+        Ok(())
+    }
+
+    /// Puts a value into the place of a key, where it has one.
+    pub fn put(&mut self, key: &Key, value: V)
+        ensures there { IsSome (finmap.get self.old key.now) → self.new ≡ finmap.insert self.old key.now (Some value) }
+        ensures none { finmap.get self.old key.now ≡ None → self.new ≡ self.old }
+    {
+        set(&mut self.places, key, value);
+    }
+
+    /// Takes the place of a key out.
+    pub fn close(&mut self, key: &Key)
+        ensures { self.new ≡ finmap.remove self.old key.now }
+    {
+        unset(&mut self.places, key);
+    }
+}

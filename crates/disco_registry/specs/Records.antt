@@ -1,0 +1,62 @@
+-- The held records, by key. Nothing here is to be believed: it is the view and the invariant of a type.
+use Rattle.std.specs.Prelude.{◌≡◌, ℕ, ◌+◌, Bool, false, if◌then◌else◌, List, Option, Some, None}
+use Rattle.std.specs.Str.{bytes_eq}
+use Rattle.std.specs.FinMap.{FinMap, get, len}
+use Rattle.disco_values.specs.Key.{key_cmp, same_key}
+use Rattle.disco_values.specs.declared.key.Key.{Key}
+use Rattle.disco_history.specs.Change.{Entry}
+use Rattle.disco_history.specs.Held.{entry_of}
+use Rattle.disco_history.specs.Places.{filled_in}
+use Rattle.disco_history.specs.declared.held.Held.{Held}
+
+-- the mentions that are held, and the key whose place stands empty, if one does
+pub record Contents : Type 0 where
+  pub held : FinMap key_cmp Entry
+  pub next : Option Key
+
+abbrev pub key_in : Held → Key
+key_in h = h.rec.value.key
+
+abbrev pub mentions_in : FinMap key_cmp (Option Held) → FinMap key_cmp Entry
+mentions_in p = filled_in entry_of p
+
+-- the place of the record that is put next stands empty
+abbrev pub HasPlace : FinMap key_cmp (Option Held) → Option Held → Type 0
+HasPlace p None = Unit {0}
+HasPlace p (Some h) = get p (key_in h) ≡ Some None
+
+-- a record is the one that is held under its key
+abbrev pub IsHeld : FinMap key_cmp (Option Held) → Option Held → Type 0
+IsHeld p None = Unit {0}
+IsHeld p (Some h) = get (mentions_in p) (key_in h) ≡ Some (entry_of h)
+
+abbrev pub IsKeyOf : Option Held → Key → Type 0
+IsKeyOf None q = ⊥
+IsKeyOf (Some h) q = q ≡ key_in h
+
+-- there is a record in the place, and it has this id
+abbrev pub shows_id : List ℕ → Option Held → Bool
+shows_id id None = false
+shows_id id (Some h) = bytes_eq h.rec.value.key.id id
+
+-- the record, where it is of that key
+abbrev pub of_key : Key → Option Held → Option Held
+of_key k None = None
+of_key k (Some h) = if same_key (key_in h) k then Some h else None
+
+-- the record that is put next, once one of this key is put
+abbrev pub left_after : Key → Option Held → Option Held
+left_after k None = None
+left_after k (Some h) = if same_key (key_in h) k then None else Some h
+
+abbrev pub one_if : Option Held → ℕ
+one_if None = 0
+one_if (Some h) = 1
+
+-- each record stands under its key, and no place is empty but that of the record that is put next
+pub record AreInPlace (p : FinMap key_cmp (Option Held)) (next last : Option Held) : Type 0 where
+  pub keyed : (q : Key) (h : Held) → get p q ≡ Some (Some h) → key_in h ≡ q
+  pub empty : (q : Key) → get p q ≡ Some None → IsKeyOf next q
+  pub place : HasPlace p next
+  pub sought : IsHeld p last
+  pub count : len (mentions_in p) + one_if next ≡ len p

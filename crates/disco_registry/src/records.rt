@@ -1,0 +1,250 @@
+//! The held records by key.
+ghost use Rattle.disco_values.specs.Key.{same_key};
+ghost use Rattle.disco_registry.specs.Records.{left_after, of_key, shows_id};
+ghost use Rattle.std.specs.Prelude.{◌≡◌, ◌++◌, ◌∷◌, [], IfOk, IfSome, None, OnOk, Some, filter, map, option_map};
+ghost use Rattle.std.specs.FinMap as finmap;
+ghost use Rattle.std.specs.FinMap.{values};
+ghost use Rattle.std.specs.List.{filter_map, find};
+ghost use Rattle.std.specs.Option.{option_copied};
+ghost use Rattle.disco_history.specs.Apps.{is_of_app, is_of_id};
+ghost use Rattle.disco_history.specs.Held.{entry_of, record_at, seen_record};
+
+use disco_history::{Held, Places};
+use disco_instance::Record;
+use disco_values::{Key, Text};
+use std::alloc::{AllocError, Global};
+use std::collections::BTreeMap;
+use std::marker::Model;
+
+/// The records that are held, and at most one place that stands empty.
+#[derive(Drop)]
+pub(crate) struct Records {
+    places: Places<Held>,
+    /// The record that is put next, whose place stands empty.
+    next: Option<Held>,
+    /// The record that was sought last. It is looked at first, so searches may be saved, and nothing
+    /// else depends on it.
+    sought: Option<Held>,
+}
+
+impl Model for Records {
+    ghost use Rattle.std.specs.Prelude.{option_map};
+    ghost use Rattle.std.specs.Coded.{codes};
+    ghost use Rattle.std.specs.FinMap.{code};
+    ghost use Rattle.disco_registry.specs.Records.{AreInPlace, Contents, key_in, mentions_in};
+
+    ghost Value = { Contents };
+
+    ghost coded = { Prim.hlevel (codes, code) };
+
+    ghost view = { λ r. record { held = mentions_in r.places; next = option_map key_in r.next } };
+
+    ghost invariant = { λ r. AreInPlace r.places r.next r.sought };
+}
+
+/// Whether a record is of a key.
+fn is_of(held: &Held, key: &Key) -> bool
+    ensures { result ≡ same_key held.now.rec.value.key key.now }
+{
+    held.rec.key.compare(key).is_eq()
+}
+
+/// A record, where it is of a key.
+fn of_key<'a>(held: &'a Option<Held>, key: &Key) -> Option<&'a Held>
+    ensures { option_copied result ≡ of_key key.now held.now }
+{
+    match held {
+        Some(one) if is_of(one, key) => held.as_ref(),
+        _ => None,
+    }
+}
+
+/// The record that is put next, once one of a key is put.
+fn left_after(next: Option<Held>, key: &Key) -> Option<Held>
+    ensures { result ≡ left_after key.now next }
+{
+    match next {
+        Some(next) if is_of(&next, key) => None,
+        other => other,
+    }
+}
+
+/// The same once more, unless there is no memory for it.
+fn shared(held: Option<&Held>) -> Option<Held>
+    ensures { IfSome result (λ h. Some (entry_of h) ≡ option_map entry_of (option_copied held.entry)) }
+{
+    match held {
+        Some(held) => held.share().ok(),
+        None => None,
+    }
+}
+
+/// Whether there is a record in a place, and it has this id.
+fn has_id(place: &Option<Held>, id: &str) -> bool
+    ensures { result ≡ shows_id id.now place.now }
+{
+    match place {
+        Some(held) => held.rec.key.id.as_str() == id,
+        None => false,
+    }
+}
+
+/// The first record of an id in places.
+fn first_of_id<'a>(places: &'a BTreeMap<Key, Option<Held>>, id: &str) -> Option<&'a Held>
+    ensures { option_map (λ h. entry_of h.now) result ≡ find (is_of_id id.now) (filter_map (λ e. option_map entry_of e.1) places.now.entries) }
+{
+    for (_, place) in places {
+        if has_id(place, id) {
+            return place.as_ref();
+        }
+    }
+    None
+}
+
+/// The key below all those of an app.
+fn first_key(alloc: Global, app: &Text) -> Result<Key, AllocError>
+    ensures { IfOk result (λ k. k ≡ record { app = app.now; id = [] }) }
+{
+    Ok(Key {
+        app: app.clone()?,
+        id: Text::empty(alloc),
+    })
+}
+
+/// The least key above all those of an app: its app has a byte 0 more.
+fn key_past(alloc: Global, app: &Text) -> Result<Key, AllocError>
+    ensures { IfOk result (λ k. k ≡ record { app = app.now ++ 0 ∷ []; id = [] }) }
+{
+    let mut text = String::from_str(alloc, app.as_str())?;
+    text.push('\0')?;
+    Ok(Key {
+        app: Text::from_string(text),
+        id: Text::empty(alloc),
+    })
+}
+
+impl Records {
+    /// No records.
+    pub(crate) fn new(alloc: Global) -> Records
+        ensures { result ≡ record { held = finmap.empty; next = None } }
+    {
+        Records {
+            places: Places::new(alloc),
+            next: None,
+            sought: None,
+        }
+    }
+
+    /// Seeks the record of a key, so that calls about this key need no search of their own. No
+    /// answer shows it.
+    pub(crate) fn seek(&mut self, key: &Key)
+        ensures { self.new ≡ self.old }
+    {
+        self.sought = shared(self.places.get(key));
+    }
+
+    /// The record of a key, with what its last change did.
+    pub(crate) fn held(&self, key: &Key) -> Option<&Held>
+        ensures found { option_map (λ h. entry_of h.now) result ≡ finmap.get self.now.held key.now }
+        ensures same_key { IfSome result (λ h. h.now.rec.value.key ≡ key.now) }
+    {
+        if of_key(&self.next, key).is_some() {
+            return None;
+        }
+        match of_key(&self.sought, key) {
+            Some(held) => Some(held),
+            None => self.places.get(key),
+        }
+    }
+
+    /// The record of a key.
+    pub(crate) fn get(&self, key: &Key) -> Option<&Record>
+        ensures found { seen_record result ≡ record_at self.now.held key.now }
+        ensures same_key { IfSome result (λ r. r.now.key ≡ key.now) }
+    {
+        match self.held(key) {
+            Some(held) => Some(&*held.rec),
+            None => None,
+        }
+    }
+
+    /// How many records there are.
+    pub(crate) fn len(&self) -> usize
+        ensures { result ≡ finmap.len self.now.held }
+    {
+        let empty = if self.next.is_some() { 1 } else { 0 };
+        self.places.len() - empty
+    }
+
+    /// The records of an app in the order of their ids, shared. Those of other apps cost nothing, but
+    /// for the search.
+    pub(crate) fn of_app(&self, alloc: Global, app: &Text) -> Result<Vec<Held>, AllocError>
+        ensures { IfOk result (λ v. map entry_of v.items ≡ filter (is_of_app app.now) (values self.now.held)) }
+    {
+        let from = first_key(alloc, app)?;
+        let to = key_past(alloc, app)?;
+        let mut list = Vec::new(alloc);
+        for (_, place) in self.places.as_map().range(from..to) {
+            if let Some(held) = place {
+                list.push(held.share()?)?;
+            }
+        }
+        Ok(list)
+    }
+
+    /// The first record of an id: of several apps' the one with the least app, in byte order.
+    pub(crate) fn of_id(&self, id: &str) -> Option<&Held>
+        ensures { option_map (λ h. entry_of h.now) result ≡ find (is_of_id id.now) (values self.now.held) }
+    {
+        first_of_id(self.places.as_map(), id)
+    }
+
+    /// The places of the records in the order of their keys. One of them may stand empty.
+    pub(crate) fn as_map(&self) -> &BTreeMap<Key, Option<Held>>
+        ensures { filter_map (λ e. option_map entry_of e.1) result.now.entries ≡ values self.now.held }
+    {
+        self.places.as_map()
+    }
+
+    /// Takes out the place that stands empty, if there is one. Takes no memory.
+    pub(crate) fn forget(&mut self)
+        ensures { self.new ≡ record self.old { next = None } }
+    {
+        if let Some(next) = self.next.take() {
+            self.places.close(&next.rec.key);
+        }
+    }
+
+    /// Makes the place of a record that is put next, where its key has none.
+    pub(crate) fn make(&mut self, next: Held) -> Result<(), AllocError>
+        requires { finmap.get self.old.held next.rec.value.key ≡ None }
+        ensures held { self.new.held ≡ self.old.held }
+        ensures next { OnOk result (self.new.next ≡ Some next.rec.value.key) }
+    {
+        self.forget();
+        self.places.open(next.rec.key.clone()?)?;
+        self.next = Some(next);
+        Ok(())
+    }
+
+    /// Puts a record in, in the place of that of its key or in the one that was made for it. Takes
+    /// no memory.
+    pub(crate) fn put(&mut self, key: &Key, added: Held)
+        requires place { finmap.get self.old.held key.now ≡ None → self.old.next ≡ Some key.now }
+        requires same_key { added.rec.value.key ≡ key.now }
+        ensures { self.new.held ≡ finmap.insert self.old.held key.now (entry_of added) }
+    {
+        self.next = left_after(self.next.take(), key);
+        self.sought = None;
+        self.places.put(key, added);
+    }
+
+    /// Takes the record of a key out, if there is one. Takes no memory.
+    pub(crate) fn take(&mut self, key: &Key)
+        ensures { self.new.held ≡ finmap.remove self.old.held key.now }
+    {
+        self.forget();
+        self.sought = None;
+        self.places.close(key);
+    }
+}
