@@ -1,5 +1,5 @@
 -- What is done to a desk again and again, and how often.
-use Rattle.std.specs.Prelude.{◌≡◌, ℕ, Bool, true, false, Option, Some, None, Result, Ok, Err}
+use Rattle.std.specs.Prelude.{◌≡◌, ℕ, ◌+◌, min, Bool, true, false, Option, Some, None, Result, Ok, Err}
 use Rattle.disco_values.specs.declared.fault.Fault.{Fault}
 use Rattle.disco_values.specs.declared.fault.Fault.TheVariants.{OutOfMemory}
 use Rattle.disco_lease.specs.declared.minute.Minute.{Minute}
@@ -20,6 +20,10 @@ period_of Publish = 30000
 period_of Clean = 30000
 period_of CloseMinute = 60000
 period_of Expire = 60000
+
+-- the moment of a cleaning's next go: a second behind that of the last, up to now
+abbrev pub next_go : ℕ → ℕ → ℕ
+next_go last now = min (last + 1000) now
 
 -- whether a publisher goes on at once: up to the end of its round
 abbrev pub goes_on : Step → Bool

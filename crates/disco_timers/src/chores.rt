@@ -1,6 +1,6 @@
 //! What is done to a desk again and again, and how often.
 ghost use Rattle.std.specs.Prelude.{◌≡◌, None, Ok, Some};
-ghost use Rattle.disco_timers.specs.Chores.{LetsRunOut, PublishesOn, Tends, period_of};
+ghost use Rattle.disco_timers.specs.Chores.{LetsRunOut, PublishesOn, Tends, next_go, period_of};
 ghost use Rattle.disco_timers.specs.declared.chores.Chore.TheVariants as chore;
 
 use crate::publishing::{Step, publish_step};
@@ -14,6 +14,9 @@ const PUBLISHER_PERIOD: u64 = 30_000;
 
 /// Milliseconds between two cleanings of the recent changes.
 const CLEANER_PERIOD: u64 = 30_000;
+
+/// Milliseconds of changes that a cleaning forgets under one hold of the desk.
+const CLEANER_STEP: u64 = 1_000;
 
 /// Milliseconds between two closings of a minute.
 const MINUTE_PERIOD: u64 = 60_000;
@@ -49,6 +52,14 @@ impl Chore {
             Chore::Expire => EXPIRY_PERIOD,
         }
     }
+}
+
+/// The moment of a cleaning's next go: a step behind that of the last, up to now. So a hold of the
+/// desk is as long as it takes to forget what comes in one step, and not in a whole period.
+pub(crate) fn next_go(last: u64, now: u64) -> u64
+    ensures { result ≡ next_go last now }
+{
+    last.saturating_add(CLEANER_STEP).min(now)
 }
 
 /// Takes a publisher's next step. Whether it goes on at once: up to the end of its round.

@@ -2,7 +2,7 @@
 ghost use Rattle.std.specs.Prelude.{◌≡◌, IfErr};
 ghost use Rattle.disco_values.specs.declared.fault.Fault.TheVariants.{ReadFailed};
 
-use crate::chores::{CHORES, Chore, tend_once};
+use crate::chores::{CHORES, Chore, next_go, tend_once};
 use crate::clock::Clock;
 use crate::timer::Timer;
 use disco_editions::Naming;
@@ -50,6 +50,19 @@ fn tend<J: Naming, R: Wait>(rt: &R, desk: &Mutex<Desk<J>>, chore: Chore, now: u6
     }
 }
 
+/// Cleans up to a moment, by goes that forget the changes of a step each, so that nobody waits for
+/// all that came in a period.
+fn clean<J: Naming, R: Wait>(rt: &R, desk: &Mutex<Desk<J>>, now: u64, ends: Ends<'_>) {
+    let mut moment = now.saturating_sub(Chore::Clean.period());
+    for _ in rt.forever() {
+        if ends.have_come() || moment >= now {
+            return;
+        }
+        moment = next_go(moment, now);
+        tend(rt, desk, Chore::Clean, moment, ends);
+    }
+}
+
 /// Does a chore each time that it is due, until it is to end.
 fn tend_often<J: Naming, R: Wait + rt::Clock, C: Clock + Copy>(
     rt: &R,
@@ -65,7 +78,10 @@ fn tend_often<J: Naming, R: Wait + rt::Clock, C: Clock + Copy>(
         }
         let now = clock.now();
         if timer.is_due(now) {
-            tend(rt, desk, chore, now, ends);
+            match chore {
+                Chore::Clean => clean(rt, desk, now, ends),
+                other => tend(rt, desk, other, now, ends),
+            }
         }
         thread::sleep(rt, Duration::from_millis(NAP_MILLIS));
     }
