@@ -1,4 +1,4 @@
-"""Requests a second of `discovery serve` and of nginx, on loopback."""
+"""Requests a second of `discovery serve` and of nginx, on loopback, and what each takes of a processor."""
 
 import http.client
 import os
@@ -32,6 +32,9 @@ error_log /dev/null;
 events { worker_connections 64; }
 http {
     access_log off;
+    sendfile on;
+    tcp_nopush on;
+    open_file_cache max=16;
     default_type application/json;
     keepalive_requests 1000;
     server { listen 127.0.0.1:%(port)d; root %(folder)s/www; }
@@ -91,22 +94,53 @@ def write_on(stop):
     print("    (%d writes a second)" % (done / (time.monotonic() - begin)), flush=True)
 
 
-def wrk(port, path, seconds, script=None):
-    """Requests and bytes a second over 4 connections."""
+def processes(root):
+    """A process and its children."""
+    found = [root]
+    for name in os.listdir("/proc"):
+        if name.isdigit():
+            try:
+                with open("/proc/%s/stat" % name, encoding="ascii", errors="replace") as text:
+                    parent = int(text.read().rsplit(")", 1)[1].split()[1])
+            except OSError:
+                continue
+            if parent == root:
+                found.append(int(name))
+    return found
+
+
+def spent(root):
+    """The seconds of processors that a process and its children took so far."""
+    ticks = 0
+    for pid in processes(root):
+        with open("/proc/%d/stat" % pid, encoding="ascii", errors="replace") as text:
+            fields = text.read().rsplit(")", 1)[1].split()
+        ticks += int(fields[11]) + int(fields[12])
+    return ticks / os.sysconf("SC_CLK_TCK")
+
+
+def wrk(server, port, path, seconds, script=None):
+    """Requests a second over 4 connections, and the microseconds of a processor that the server takes for one."""
     words = ["wrk", "-t2", "-c4", "-d%ds" % seconds, "http://127.0.0.1:%d%s" % (port, path)]
+    before = spent(server.pid)
     text = subprocess.run(
         words + (["-s", script] if script else []), check=True, capture_output=True, text=True
     ).stdout
     if "Non-2xx" in text:
         sys.exit(text)
-    return float(re.search(r"Requests/sec:\s+([\d.]+)", text).group(1))
+    requests = int(re.search(r"(\d+) requests in", text).group(1))
+    a_second = float(re.search(r"Requests/sec:\s+([\d.]+)", text).group(1))
+    return a_second, (spent(server.pid) - before) / requests * 1e6
 
 
-def compare(name, path, seconds):
-    ours = wrk(PORT, BASE + path, seconds)
-    theirs = wrk(NGINX_PORT, "/" + name, seconds)
+def compare(servers, name, path, seconds):
+    (ours, our_time), (theirs, their_time) = (
+        wrk(server, port, address, seconds)
+        for server, port, address in zip(servers, (PORT, NGINX_PORT), (BASE + path, "/" + name))
+    )
     print(
-        "%s: %.0f requests a second, nginx %.0f, %.2f times" % (name, ours, theirs, ours / theirs),
+        "%s: %.0f requests a second, nginx %.0f, %.2f times; %.1f microseconds of a processor each, nginx %.1f, %.2f times"
+        % (name, ours, theirs, ours / theirs, our_time, their_time, our_time / their_time),
         flush=True,
     )
 
@@ -134,13 +168,13 @@ def keep(folder, name, text):
         page.write(text)
 
 
-def measure(program, work, folder, seconds):
+def measure(servers, work, folder, seconds):
     heartbeat = work + "/heartbeat.lua"
     with open(heartbeat, "w", encoding="ascii") as text:
         text.write(HEARTBEAT % {"instances": INSTANCES, "apps": APPS, "base": BASE})
     keep(folder, "empty", Connection().get("/apps"))
     time.sleep(ROUND_SECONDS)
-    compare("empty", "/apps", seconds)
+    compare(servers, "empty", "/apps", seconds)
     connection = Connection()
     for number in range(INSTANCES):
         register(connection, number)
@@ -157,9 +191,10 @@ def measure(program, work, folder, seconds):
         if busy:
             print("while %d writes a second come in:" % WRITES_A_SECOND, flush=True)
             writer.start()
-        compare("app", "/apps/APP7", seconds)
-        compare("all", "/apps", seconds)
-        print("heartbeats: %.0f a second" % wrk(PORT, "/", seconds, heartbeat), flush=True)
+        compare(servers, "app", "/apps/APP7", seconds)
+        compare(servers, "all", "/apps", seconds)
+        beats = wrk(servers[0], PORT, "/", seconds, heartbeat)
+        print("heartbeats: %.0f a second, %.1f microseconds of a processor each" % beats, flush=True)
         stop.set()
         if busy:
             writer.join()
@@ -169,9 +204,9 @@ def main(program, work, seconds="5"):
     folder = "/dev/shm/discovery-bench-%d" % os.getpid()
     running = []
     try:
-        running.append(nginx_started(folder))
         running.append(started(program))
-        measure(program, work, folder, int(seconds))
+        running.append(nginx_started(folder))
+        measure(running, work, folder, int(seconds))
     finally:
         for one in running:
             one.terminate()
