@@ -129,7 +129,7 @@ pub(crate) fn same_records(one: &Record, other: &Record) -> bool
 
 /// Whether the records are the same, in the same order.
 pub fn are_same(ones: &[Held], others: &[Held]) -> bool
-    ensures { IsTrue result → map (λ h. row h.rec.value) ones.now ≡ map (λ h. row h.rec.value) others.now }
+    ensures { IsTrue result ↔ (map (λ h. row h.rec.value) ones.now ≡ map (λ h. row h.rec.value) others.now) }
 {
     if ones.len() != others.len() {
         return false;
