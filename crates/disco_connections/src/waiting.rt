@@ -1,4 +1,7 @@
 //! How a worker waits for what its connection sends.
+ghost use Rattle.std.specs.Prelude.{◌≡◌, ◌≢◌, ◌<◌, ◌≤◌, ◌+◌, ◌-◌, ◌^◌, IsFalse, IsTrue, min};
+ghost use Rattle.disco_reader.specs.declared.source.Stage.TheVariants.{Between, Head};
+
 use crate::post::Post;
 use crate::waits::{Waits, is_over};
 use disco_reader::Stage;
@@ -24,7 +27,11 @@ pub(crate) struct Waiting<'a, 'b, R> {
 
 impl<'a, 'b, R: rt::Clock> Waiting<'a, 'b, R> {
     /// For a connection of which nothing came.
-    pub(crate) fn new(rt: &'a R, post: &'a mut Post<'b>, waits: &Waits) -> Waiting<'a, 'b, R> {
+    pub(crate) fn new(rt: &'a R, post: &'a mut Post<'b>, waits: &Waits) -> Waiting<'a, 'b, R>
+        ensures waits { result.waits ≡ waits.now }
+        ensures stage { result.stage ≡ Between }
+        ensures silent { result.silent ≡ 0 }
+    {
         Waiting {
             rt,
             post,
@@ -42,7 +49,10 @@ impl<'a, 'b, R: rt::Clock> Waiting<'a, 'b, R> {
     }
 
     /// Takes what was told.
-    fn turn(&mut self) {
+    fn turn(&mut self)
+        ensures waits { self.new.waits ≡ self.old.waits }
+        ensures silent { self.new.silent ≡ self.old.silent }
+    {
         if let Some(stage) = self.told.replace(None) {
             self.stage = stage;
             self.begun = None;
@@ -51,7 +61,12 @@ impl<'a, 'b, R: rt::Clock> Waiting<'a, 'b, R> {
 
     /// How many milliseconds the head or the body takes that comes, from the first time that this is
     /// asked; 0 between requests, and where the host's clock can't be read.
-    fn taken(&mut self) -> u64 {
+    fn taken(&mut self) -> u64
+        ensures waits { self.new.waits ≡ self.old.waits }
+        ensures stage { self.new.stage ≡ self.old.stage }
+        ensures silent { self.new.silent ≡ self.old.silent }
+        ensures between { self.old.stage ≡ Between → result ≡ 0 }
+    {
         if self.stage == Stage::Between {
             return 0;
         }
@@ -68,7 +83,13 @@ impl<'a, 'b, R: rt::Clock> Waiting<'a, 'b, R> {
     }
 
     /// Whether the connection is waited for no longer, or gives way.
-    pub(crate) fn ends(&mut self) -> bool {
+    pub(crate) fn ends(&mut self) -> bool
+        ensures waits { self.new.waits ≡ self.old.waits }
+        ensures silent { self.new.silent ≡ self.old.silent }
+        ensures between { self.new.stage ≡ Between → self.old.waits.between ≤ self.old.silent → IsTrue result }
+        ensures heard { self.new.stage ≡ Between → self.old.silent ≡ 0 → 0 < self.old.waits.between → IsFalse result }
+        ensures inside { self.new.stage ≢ Between → self.old.waits.inside ≤ self.old.silent → IsTrue result }
+    {
         self.turn();
         let taken = self.taken();
         is_over(&self.waits, self.stage, self.silent, taken)
@@ -76,7 +97,12 @@ impl<'a, 'b, R: rt::Clock> Waiting<'a, 'b, R> {
     }
 
     /// Some bytes came.
-    pub(crate) fn hear(&mut self) {
+    pub(crate) fn hear(&mut self)
+        ensures waits { self.new.waits ≡ self.old.waits }
+        ensures head { self.old.stage ≡ Between → self.new.stage ≡ Head }
+        ensures stage { self.old.stage ≢ Between → self.new.stage ≡ self.old.stage }
+        ensures silent { self.new.silent ≡ 0 }
+    {
         if self.stage == Stage::Between {
             self.stage = Stage::Head;
         }
@@ -87,7 +113,11 @@ impl<'a, 'b, R: rt::Clock> Waiting<'a, 'b, R> {
     }
 
     /// Nothing came for as long as a read waits.
-    pub(crate) fn miss(&mut self) {
+    pub(crate) fn miss(&mut self)
+        ensures waits { self.new.waits ≡ self.old.waits }
+        ensures stage { self.new.stage ≡ self.old.stage }
+        ensures silent { self.new.silent ≡ min (self.old.silent + self.old.waits.slice) (2 ^ 64 - 1) }
+    {
         self.silent = self.silent.saturating_add(self.waits.slice);
         if self.stage == Stage::Between {
             self.post.note(self.silent);

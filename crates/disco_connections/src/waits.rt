@@ -1,5 +1,5 @@
 //! How long a connection is waited for.
-ghost use Rattle.std.specs.Prelude.{◌↔◌, IsTrue};
+ghost use Rattle.std.specs.Prelude.{◌≡◌, ◌↔◌, IsTrue};
 ghost use Rattle.disco_connections.specs.Waits.{GivesWay, IsOver};
 
 use disco_reader::Stage;
@@ -23,7 +23,9 @@ pub struct Waits {
 impl Waits {
     /// Those of a server: a tenth of a second, 75 seconds between requests, and inside of one 30
     /// seconds of silence, 30 for a head and 60 for a body.
-    pub fn of_server() -> Waits {
+    pub fn of_server() -> Waits
+        ensures { result ≡ record { slice = 100; between = 75000; inside = 30000; head = 30000; body = 60000 } }
+    {
         Waits {
             slice: 100,
             between: 75_000,
