@@ -1,4 +1,7 @@
 //! Clients that keep a copy over connections of their own.
+ghost use Rattle.std.specs.Prelude.{◌≡◌, None, if◌then◌else◌};
+ghost use Rattle.disco_reconcile.specs.declared.kept.Kept.TheVariants.{Certified, Plain};
+
 use crate::fleets::line::Line;
 use crate::fleets::plan::Plan;
 use disco_follow::{Connected, connect, fetcher};
@@ -12,7 +15,9 @@ use std::thread::{Threads, map_vec};
 pub(super) type Follower = Client<Line>;
 
 /// One client, without a copy and without a connection.
-fn follower(alloc: Global, certified: bool) -> Follower {
+fn follower(alloc: Global, certified: bool) -> Follower
+    ensures { result.kept ≡ (if certified then Certified None else Plain None) }
+{
     if certified {
         Client::certified(alloc, Line::new(), Form::Full)
     } else {

@@ -1,5 +1,5 @@
 //! What a fleet came to.
-ghost use Rattle.std.specs.Prelude.{IsTrue};
+ghost use Rattle.std.specs.Prelude.{◌≡◌, ◌↔◌, IsTrue, codes, if◌then◌else◌};
 ghost use Rattle.disco_fleet.specs.Fleets.{IsExact};
 ghost use Rattle.disco_reconcile.specs.State.{copy_of};
 
@@ -35,7 +35,7 @@ fn copy_of<J: Naming, R: Wait>(
 
 /// Whether a client's copy has exactly the records of the registry. No copy hasn't.
 fn is_exact<F: Fetch>(client: &Client<F>, registry: &Copy) -> bool
-    ensures { IsTrue result → IsExact (copy_of client.now.kept) registry.now }
+    ensures { IsTrue result ↔ IsExact (copy_of client.now.kept) registry.now }
 {
     match client.copy() {
         Some(copy) => are_same(copy.records(), registry.records()),
@@ -44,7 +44,9 @@ fn is_exact<F: Fetch>(client: &Client<F>, registry: &Copy) -> bool
 }
 
 /// `yes` where a client's copy is the registry, and `no` where it isn't.
-fn answer(exact: bool) -> &'static str {
+fn answer(exact: bool) -> &'static str
+    ensures { result.now ≡ (if exact then codes "yes" else codes "no") }
+{
     if exact { "yes" } else { "no" }
 }
 
