@@ -3,104 +3,158 @@ use crate::copies::has;
 use crate::samples::{GONE, NONE, ONE};
 use crate::script::{Reply, Script, Turn};
 use disco_reconcile::{Client, Refreshed};
-use disco_values::{Fault, Form};
+use disco_values::{Cert, Fault, Form};
 use std::alloc::Global;
 use std::cell::Cell;
 
 /// A copy: the document that makes it, and the run and the version that are shown of it.
-type Held = Option<(&'static str, u64, u64)>;
+#[derive(Clone, Copy, Debug)]
+struct Held {
+    document: &'static str,
+    run: u64,
+    version: u64,
+}
 
-/// What a server answers to the delta and to all apps while a client refreshes, what that comes to, and
-/// the copy that the client then has, if it has one.
-type Case = (Reply, Reply, Result<Refreshed, Fault>, Held);
+/// What a server answers while a client refreshes, what that comes to, and the copy that the client then
+/// has, if it has one.
+#[derive(Clone, Copy, Debug)]
+struct Case {
+    turn: Turn,
+    came: Result<Refreshed, Fault>,
+    copy: Option<Held>,
+}
+
+fn certificate(run: u64, base: u64, version: u64) -> Cert {
+    Cert { run, base, version }
+}
+
+fn copy(document: &'static str, run: u64, version: u64) -> Option<Held> {
+    Some(Held {
+        document,
+        run,
+        version,
+    })
+}
 
 /// One refresh after another.
-const CASES: &[Case] = &[
-    (
-        Reply::Fails,
-        Reply::Is(200, ONE),
-        Err(Fault::BadDocument),
-        None,
-    ),
-    (
-        Reply::Fails,
-        Reply::Certified(ONE, 0, 2, 2),
-        Err(Fault::BadDocument),
-        None,
-    ),
-    (
-        Reply::Fails,
-        Reply::Certified(ONE, 0, 1, 1),
-        Ok(Refreshed::Full),
-        Some((ONE, 0, 1)),
-    ),
-    (
-        Reply::Certified(ONE, 0, 0, 1),
-        Reply::Fails,
-        Ok(Refreshed::Delta),
-        Some((ONE, 0, 1)),
-    ),
-    (
-        Reply::Certified(GONE, 0, 2, 3),
-        Reply::Certified(NONE, 0, 0, 0),
-        Ok(Refreshed::Kept),
-        Some((ONE, 0, 1)),
-    ),
-    (
-        Reply::Is(403, ""),
-        Reply::Is(200, ONE),
-        Err(Fault::BadDocument),
-        Some((ONE, 0, 1)),
-    ),
-    (
-        Reply::Is(404, ""),
-        Reply::Certified(NONE, 0, 0, 0),
-        Ok(Refreshed::Kept),
-        Some((ONE, 0, 1)),
-    ),
-    (
-        Reply::Is(200, ONE),
-        Reply::Certified(ONE, 0, 1, 1),
-        Ok(Refreshed::DeltaThenFull),
-        Some((ONE, 0, 1)),
-    ),
-    (
-        Reply::Certified(GONE, 0, 1, 4),
-        Reply::Fails,
-        Err(Fault::NotFetched),
-        Some((ONE, 0, 1)),
-    ),
-    (
-        Reply::Certified("{", 0, 1, 1),
-        Reply::Fails,
-        Err(Fault::BadDocument),
-        Some((ONE, 0, 1)),
-    ),
-    (
-        Reply::Certified(GONE, 0, 1, 3),
-        Reply::Fails,
-        Ok(Refreshed::Delta),
-        Some((NONE, 0, 3)),
-    ),
-    (
-        Reply::Certified(GONE, 7, 0, 3),
-        Reply::Certified(ONE, 7, 1, 1),
-        Ok(Refreshed::DeltaThenFull),
-        Some((ONE, 7, 1)),
-    ),
-    (
-        Reply::Is(403, ""),
-        Reply::Certified(NONE, 6, 0, 0),
-        Ok(Refreshed::Full),
-        Some((NONE, 6, 0)),
-    ),
-];
+fn cases() -> [Case; 13] {
+    [
+        Case {
+            turn: Turn {
+                delta: Reply::Fails,
+                apps: Reply::Is(200, ONE),
+            },
+            came: Err(Fault::BadDocument),
+            copy: None,
+        },
+        Case {
+            turn: Turn {
+                delta: Reply::Fails,
+                apps: Reply::Certified(ONE, certificate(0, 2, 2)),
+            },
+            came: Err(Fault::BadDocument),
+            copy: None,
+        },
+        Case {
+            turn: Turn {
+                delta: Reply::Fails,
+                apps: Reply::Certified(ONE, certificate(0, 1, 1)),
+            },
+            came: Ok(Refreshed::Full),
+            copy: copy(ONE, 0, 1),
+        },
+        Case {
+            turn: Turn {
+                delta: Reply::Certified(ONE, certificate(0, 0, 1)),
+                apps: Reply::Fails,
+            },
+            came: Ok(Refreshed::Delta),
+            copy: copy(ONE, 0, 1),
+        },
+        Case {
+            turn: Turn {
+                delta: Reply::Certified(GONE, certificate(0, 2, 3)),
+                apps: Reply::Certified(NONE, certificate(0, 0, 0)),
+            },
+            came: Ok(Refreshed::Kept),
+            copy: copy(ONE, 0, 1),
+        },
+        Case {
+            turn: Turn {
+                delta: Reply::Is(403, ""),
+                apps: Reply::Is(200, ONE),
+            },
+            came: Err(Fault::BadDocument),
+            copy: copy(ONE, 0, 1),
+        },
+        Case {
+            turn: Turn {
+                delta: Reply::Is(404, ""),
+                apps: Reply::Certified(NONE, certificate(0, 0, 0)),
+            },
+            came: Ok(Refreshed::Kept),
+            copy: copy(ONE, 0, 1),
+        },
+        Case {
+            turn: Turn {
+                delta: Reply::Is(200, ONE),
+                apps: Reply::Certified(ONE, certificate(0, 1, 1)),
+            },
+            came: Ok(Refreshed::DeltaThenFull),
+            copy: copy(ONE, 0, 1),
+        },
+        Case {
+            turn: Turn {
+                delta: Reply::Certified(GONE, certificate(0, 1, 4)),
+                apps: Reply::Fails,
+            },
+            came: Err(Fault::NotFetched),
+            copy: copy(ONE, 0, 1),
+        },
+        Case {
+            turn: Turn {
+                delta: Reply::Certified("{", certificate(0, 1, 1)),
+                apps: Reply::Fails,
+            },
+            came: Err(Fault::BadDocument),
+            copy: copy(ONE, 0, 1),
+        },
+        Case {
+            turn: Turn {
+                delta: Reply::Certified(GONE, certificate(0, 1, 3)),
+                apps: Reply::Fails,
+            },
+            came: Ok(Refreshed::Delta),
+            copy: copy(NONE, 0, 3),
+        },
+        Case {
+            turn: Turn {
+                delta: Reply::Certified(GONE, certificate(7, 0, 3)),
+                apps: Reply::Certified(ONE, certificate(7, 1, 1)),
+            },
+            came: Ok(Refreshed::DeltaThenFull),
+            copy: copy(ONE, 7, 1),
+        },
+        Case {
+            turn: Turn {
+                delta: Reply::Is(403, ""),
+                apps: Reply::Certified(NONE, certificate(6, 0, 0)),
+            },
+            came: Ok(Refreshed::Full),
+            copy: copy(NONE, 6, 0),
+        },
+    ]
+}
 
-fn is_copy<'a>(alloc: Global, client: &Client<Script<'a>>, held: Held) -> Result<bool, Fault> {
+fn is_copy<'a>(
+    alloc: Global,
+    client: &Client<Script<'a>>,
+    held: Option<Held>,
+) -> Result<bool, Fault> {
     match held {
-        Some((document, run, version)) => {
-            let is_shown = client.run() == Some(run) && client.version() == Some(version);
-            Ok(is_shown && has(alloc, client, Some(document))?)
+        Some(held) => {
+            let is_shown = client.run() == Some(held.run) && client.version() == Some(held.version);
+            Ok(is_shown && has(alloc, client, Some(held.document))?)
         }
         None => Ok(client.version().is_none() && has(alloc, client, None)?),
     }
@@ -111,7 +165,7 @@ fn is_copy<'a>(alloc: Global, client: &Client<Script<'a>>, held: Held) -> Result
 fn comes_to(
     alloc: Global,
     client: &mut Client<Script<'_>>,
-    before: Held,
+    before: Option<Held>,
     case: &Case,
 ) -> Result<bool, Fault> {
     let mut came = client.refresh();
@@ -121,39 +175,40 @@ fn comes_to(
         }
         came = client.refresh();
     }
-    Ok(came == case.2 && is_copy(alloc, client, case.3)?)
+    Ok(came == case.came && is_copy(alloc, client, case.copy)?)
 }
 
-fn all_come(
+/// Of how many cases it came so, up to the first of which it didn't.
+fn cases_came(
     alloc: Global,
     client: &mut Client<Script<'_>>,
     turn: &Cell<Turn>,
-) -> Result<bool, Fault> {
+) -> Result<usize, Fault> {
     let mut before = None;
-    for case in CASES {
-        turn.set(Turn {
-            delta: case.0,
-            apps: case.1,
-        });
+    let cases = cases();
+    for (i, case) in cases.iter().enumerate() {
+        turn.set(case.turn);
         if !comes_to(alloc, client, before, case)? {
-            return Ok(false);
+            return Ok(i);
         }
-        before = case.3;
+        before = case.copy;
     }
-    Ok(true)
+    Ok(cases.len())
+}
+
+/// Of how many cases it has to come so.
+pub(crate) fn wanted() -> usize {
+    cases().len()
 }
 
 /// A certified client refreshes by the certificates of documents.
-pub(crate) fn refreshes(alloc: Global) -> Result<bool, Fault> {
-    let turn = Cell::new(Turn {
-        delta: Reply::Fails,
-        apps: Reply::Fails,
-    });
+pub(crate) fn refresh_all(alloc: Global) -> Result<usize, Fault> {
+    let turn = Cell::new(Turn::NONE);
     let script = Script {
         alloc,
         turn: &turn,
         failures: 0,
     };
     let mut client = Client::certified(alloc, script, Form::Full);
-    all_come(alloc, &mut client, &turn)
+    cases_came(alloc, &mut client, &turn)
 }

@@ -28,27 +28,62 @@ enum Held {
 }
 
 /// What a refresh came to, and the copy that it left.
-type Left = (Result<Refreshed, Fault>, Held);
+#[derive(Clone, Copy, Debug, PartialEq)]
+struct Left {
+    came: Result<Refreshed, Fault>,
+    copy: Held,
+}
+
+/// What two refreshes left, one after the other.
+#[derive(Clone, Copy, Debug, PartialEq)]
+struct Both {
+    first: Left,
+    second: Left,
+}
 
 /// What two refreshes come to, by how many of the fetches go well: all apps, the delta, which takes the
 /// instance out and has another hash code, and all apps again.
-const ENDS: [(Left, Left); 4] = [
-    (
-        (Err(Fault::NotFetched), Held::Nothing),
-        (Err(Fault::NotFetched), Held::Nothing),
-    ),
-    (
-        (Ok(Refreshed::Full), Held::OfOne),
-        (Err(Fault::NotFetched), Held::OfOne),
-    ),
-    (
-        (Ok(Refreshed::Full), Held::OfOne),
-        (Err(Fault::NotFetched), Held::OfNone),
-    ),
-    (
-        (Ok(Refreshed::Full), Held::OfOne),
-        (Ok(Refreshed::DeltaThenFull), Held::OfOne),
-    ),
+const ENDS: [Both; 4] = [
+    Both {
+        first: Left {
+            came: Err(Fault::NotFetched),
+            copy: Held::Nothing,
+        },
+        second: Left {
+            came: Err(Fault::NotFetched),
+            copy: Held::Nothing,
+        },
+    },
+    Both {
+        first: Left {
+            came: Ok(Refreshed::Full),
+            copy: Held::OfOne,
+        },
+        second: Left {
+            came: Err(Fault::NotFetched),
+            copy: Held::OfOne,
+        },
+    },
+    Both {
+        first: Left {
+            came: Ok(Refreshed::Full),
+            copy: Held::OfOne,
+        },
+        second: Left {
+            came: Err(Fault::NotFetched),
+            copy: Held::OfNone,
+        },
+    },
+    Both {
+        first: Left {
+            came: Ok(Refreshed::Full),
+            copy: Held::OfOne,
+        },
+        second: Left {
+            came: Ok(Refreshed::DeltaThenFull),
+            copy: Held::OfOne,
+        },
+    },
 ];
 
 /// What the server sends.
@@ -82,13 +117,16 @@ fn refreshed<F: Fetch>(alloc: Global, client: &mut Client<F>) -> Result<Left, Fa
     if came == Err(Fault::OutOfMemory) {
         return Err(Fault::OutOfMemory);
     }
-    Ok((came, copy_held(alloc, client)?))
+    Ok(Left {
+        came,
+        copy: copy_held(alloc, client)?,
+    })
 }
 
-fn refreshed_twice<F: Fetch>(alloc: Global, client: &mut Client<F>) -> Result<(Left, Left), Fault> {
+fn refreshed_twice<F: Fetch>(alloc: Global, client: &mut Client<F>) -> Result<Both, Fault> {
     let first = refreshed(alloc, client)?;
     let second = refreshed(alloc, client)?;
-    Ok((first, second))
+    Ok(Both { first, second })
 }
 
 /// How many fetches go well on a connection of so many reads and writes, if the refreshes come to what

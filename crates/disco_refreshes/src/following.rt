@@ -12,20 +12,45 @@ use disco_values::{Bytes, Cert, Fault, Form, Text};
 use std::alloc::Global;
 use std::rt::Clock;
 
-/// A document with its certificate: its run, its base and its version.
-type Answer = (&'static str, u64, u64, u64);
+/// A document with its certificate.
+#[derive(Clone, Copy, Debug)]
+struct Answer {
+    document: &'static str,
+    cert: Cert,
+}
 
 /// What is answered to one fetch after another; `None` is a fetch that fails.
 const ANSWERS: [Option<Answer>; 5] = [
-    Some((ONE, 7, 1, 1)),
+    Some(Answer {
+        document: ONE,
+        cert: Cert {
+            run: 7,
+            base: 1,
+            version: 1,
+        },
+    }),
     None,
     None,
-    Some((GONE, 7, 1, 3)),
-    Some((GONE, 7, 3, 3)),
+    Some(Answer {
+        document: GONE,
+        cert: Cert {
+            run: 7,
+            base: 1,
+            version: 3,
+        },
+    }),
+    Some(Answer {
+        document: GONE,
+        cert: Cert {
+            run: 7,
+            base: 3,
+            version: 3,
+        },
+    }),
 ];
 
 /// What is told of them: a refusal once, and a copy where it changed.
-const TOLD: &str =
+pub(crate) const TOLD: &str =
     "copy 7 1 +ORDERS/h1:orders:8080=UP\nvip ORDERS h1:8080\nfault 22\ncopy 7 3 -ORDERS/h1:orders:8080\nvip ORDERS\n";
 
 /// Answers in turn, and fails behind the last answer.
@@ -63,11 +88,10 @@ impl Answers<'_> {
 fn certified(alloc: Global, answer: Answer) -> Result<Fetched, Fault>
     ensures { IfErr result (λ e. e ≡ OutOfMemory) }
 {
-    let (body, run, base, version) = answer;
     Ok(Fetched {
         status: 200,
-        body: Bytes::from_vec(body.as_bytes().to_vec(alloc)?),
-        cert: Some(Cert { run, base, version }),
+        body: Bytes::from_vec(answer.document.as_bytes().to_vec(alloc)?),
+        cert: Some(answer.cert),
     })
 }
 
@@ -112,9 +136,9 @@ fn told_of<R: Clock>(rt: &R, alloc: Global, told: &mut Vec<u8>) -> Result<(), Fa
     tell(rt, alloc, &mut client, told)
 }
 
-/// Whether it is told so.
-pub(crate) fn is_told<R: Clock>(rt: &R, alloc: Global) -> Result<bool, Fault> {
+/// What is told of them by a certified client.
+pub(crate) fn follow<R: Clock>(rt: &R, alloc: Global) -> Result<String, Fault> {
     let mut told = Vec::new(alloc);
     told_of(rt, alloc, &mut told)?;
-    Ok(told.as_slice() == TOLD.as_bytes())
+    Ok(String::from_utf8_lossy(alloc, told.as_slice())?)
 }

@@ -17,29 +17,63 @@ mod samples;
 mod script;
 mod streams;
 
-use disco_trials::told;
+use connections::{CERTIFICATES, CONNECTIONS};
+use disco_trials::{compared, told};
 use std::alloc::Global;
 use std::process::ExitCode;
 use std::rt::{Clock, Env};
 use std::{env, io};
 
 fn try_script<R: Print>(rt: &R, alloc: Global) -> io::Result<bool> {
-    let plain = told(rt, "refreshes", refreshing::refreshes(alloc))?;
-    let certified = told(rt, "certified refreshes", certifying::refreshes(alloc))?;
+    let (plain, certified) = (refreshing::wanted(), certifying::wanted());
+    let plain = compared(rt, "refreshes", &plain, refreshing::refresh_all(alloc))?;
+    let certified = compared(
+        rt,
+        "certified refreshes",
+        &certified,
+        certifying::refresh_all(alloc),
+    )?;
     Ok(plain && certified)
 }
 
-fn try_all<R: Print + Clock>(rt: &R, alloc: Global) -> io::Result<bool> {
+/// Compares what is written.
+fn try_texts<R: Print + Clock>(rt: &R, alloc: Global) -> io::Result<bool> {
+    let told = String::from_str(alloc, following::TOLD)?;
+    let written = String::from_str(alloc, connections::WRITTEN)?;
     let all = [
-        try_script(rt, alloc)?,
-        told(rt, "lines of refreshes", following::is_told(rt, alloc))?,
-        told(rt, "fetches to the end", connections::go_to_the_end(alloc))?,
-        told(
+        compared(
+            rt,
+            "lines of refreshes",
+            &told,
+            following::follow(rt, alloc),
+        )?,
+        compared(
             rt,
             "a request for each",
-            connections::one_request_each(alloc),
+            &written,
+            connections::write_requests(alloc),
         )?,
-        told(rt, "certificates", connections::are_certificates(alloc))?,
+    ];
+    Ok(all.iter().all(|well| *well))
+}
+
+fn try_all<R: Print + Clock>(rt: &R, alloc: Global) -> io::Result<bool> {
+    let (connections, certificates) = (CONNECTIONS.len(), CERTIFICATES.len());
+    let all = [
+        try_script(rt, alloc)?,
+        try_texts(rt, alloc)?,
+        compared(
+            rt,
+            "fetches to the end",
+            &connections,
+            connections::ended(alloc),
+        )?,
+        compared(
+            rt,
+            "certificates",
+            &certificates,
+            connections::certificates_read(alloc),
+        )?,
         told(rt, "reads that fail", failing::reads_in_turn(alloc))?,
         told(rt, "writes that fail", failing::writes_in_turn(alloc))?,
     ];

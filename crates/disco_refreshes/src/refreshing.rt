@@ -7,103 +7,142 @@ use disco_values::{Fault, Form};
 use std::alloc::Global;
 use std::cell::Cell;
 
-/// What a server answers to the delta and to all apps while a client refreshes, what that comes to, and
-/// the document whose copy the client then has, if it has one.
-type Case = (Reply, Reply, Result<Refreshed, Fault>, Option<&'static str>);
+/// What a server answers while a client refreshes, what that comes to, and the document whose copy the
+/// client then has, if it has one.
+#[derive(Clone, Copy, Debug)]
+struct Case {
+    turn: Turn,
+    came: Result<Refreshed, Fault>,
+    copy: Option<&'static str>,
+}
 
 /// One refresh after another.
 const CASES: &[Case] = &[
-    (Reply::Fails, Reply::Fails, Err(Fault::NotFetched), None),
-    (
-        Reply::Fails,
-        Reply::Is(200, "{"),
-        Err(Fault::BadDocument),
-        None,
-    ),
-    (
-        Reply::Fails,
-        Reply::Is(404, ""),
-        Err(Fault::NotFetched),
-        None,
-    ),
-    (
-        Reply::Fails,
-        Reply::Is(200, NONE),
-        Ok(Refreshed::Full),
-        Some(NONE),
-    ),
-    (
-        Reply::Is(403, ""),
-        Reply::Is(200, ONE),
-        Ok(Refreshed::Full),
-        Some(ONE),
-    ),
-    (
-        Reply::Is(200, GONE),
-        Reply::Is(200, ONE),
-        Ok(Refreshed::DeltaThenFull),
-        Some(ONE),
-    ),
-    (
-        Reply::Is(200, ONE),
-        Reply::Fails,
-        Ok(Refreshed::Delta),
-        Some(ONE),
-    ),
-    (
-        Reply::Fails,
-        Reply::Is(200, NONE),
-        Err(Fault::NotFetched),
-        Some(ONE),
-    ),
-    (
-        Reply::Is(200, "{"),
-        Reply::Is(200, NONE),
-        Err(Fault::BadDocument),
-        Some(ONE),
-    ),
-    (
-        Reply::Is(404, ""),
-        Reply::Fails,
-        Err(Fault::NotFetched),
-        Some(ONE),
-    ),
-    (
-        Reply::Is(200, SPACED),
-        Reply::Fails,
-        Ok(Refreshed::Delta),
-        Some(ONE),
-    ),
-    (
-        Reply::Is(200, GONE),
-        Reply::Fails,
-        Err(Fault::NotFetched),
-        Some(NONE),
-    ),
-    (
-        Reply::Is(404, ""),
-        Reply::Is(200, SPACED),
-        Ok(Refreshed::Full),
-        Some(ONE),
-    ),
-    (
-        Reply::Is(200, GONE),
-        Reply::Is(200, "{"),
-        Err(Fault::BadDocument),
-        Some(NONE),
-    ),
-    (
-        Reply::Is(404, ""),
-        Reply::Is(404, ""),
-        Err(Fault::NotFetched),
-        Some(NONE),
-    ),
-    (
-        Reply::Is(404, ""),
-        Reply::Is(200, TURNED),
-        Ok(Refreshed::Full),
-        Some(ONE),
-    ),
+    Case {
+        turn: Turn::NONE,
+        came: Err(Fault::NotFetched),
+        copy: None,
+    },
+    Case {
+        turn: Turn {
+            delta: Reply::Fails,
+            apps: Reply::Is(200, "{"),
+        },
+        came: Err(Fault::BadDocument),
+        copy: None,
+    },
+    Case {
+        turn: Turn {
+            delta: Reply::Fails,
+            apps: Reply::Is(404, ""),
+        },
+        came: Err(Fault::NotFetched),
+        copy: None,
+    },
+    Case {
+        turn: Turn {
+            delta: Reply::Fails,
+            apps: Reply::Is(200, NONE),
+        },
+        came: Ok(Refreshed::Full),
+        copy: Some(NONE),
+    },
+    Case {
+        turn: Turn {
+            delta: Reply::Is(403, ""),
+            apps: Reply::Is(200, ONE),
+        },
+        came: Ok(Refreshed::Full),
+        copy: Some(ONE),
+    },
+    Case {
+        turn: Turn {
+            delta: Reply::Is(200, GONE),
+            apps: Reply::Is(200, ONE),
+        },
+        came: Ok(Refreshed::DeltaThenFull),
+        copy: Some(ONE),
+    },
+    Case {
+        turn: Turn {
+            delta: Reply::Is(200, ONE),
+            apps: Reply::Fails,
+        },
+        came: Ok(Refreshed::Delta),
+        copy: Some(ONE),
+    },
+    Case {
+        turn: Turn {
+            delta: Reply::Fails,
+            apps: Reply::Is(200, NONE),
+        },
+        came: Err(Fault::NotFetched),
+        copy: Some(ONE),
+    },
+    Case {
+        turn: Turn {
+            delta: Reply::Is(200, "{"),
+            apps: Reply::Is(200, NONE),
+        },
+        came: Err(Fault::BadDocument),
+        copy: Some(ONE),
+    },
+    Case {
+        turn: Turn {
+            delta: Reply::Is(404, ""),
+            apps: Reply::Fails,
+        },
+        came: Err(Fault::NotFetched),
+        copy: Some(ONE),
+    },
+    Case {
+        turn: Turn {
+            delta: Reply::Is(200, SPACED),
+            apps: Reply::Fails,
+        },
+        came: Ok(Refreshed::Delta),
+        copy: Some(ONE),
+    },
+    Case {
+        turn: Turn {
+            delta: Reply::Is(200, GONE),
+            apps: Reply::Fails,
+        },
+        came: Err(Fault::NotFetched),
+        copy: Some(NONE),
+    },
+    Case {
+        turn: Turn {
+            delta: Reply::Is(404, ""),
+            apps: Reply::Is(200, SPACED),
+        },
+        came: Ok(Refreshed::Full),
+        copy: Some(ONE),
+    },
+    Case {
+        turn: Turn {
+            delta: Reply::Is(200, GONE),
+            apps: Reply::Is(200, "{"),
+        },
+        came: Err(Fault::BadDocument),
+        copy: Some(NONE),
+    },
+    Case {
+        turn: Turn {
+            delta: Reply::Is(404, ""),
+            apps: Reply::Is(404, ""),
+        },
+        came: Err(Fault::NotFetched),
+        copy: Some(NONE),
+    },
+    Case {
+        turn: Turn {
+            delta: Reply::Is(404, ""),
+            apps: Reply::Is(200, TURNED),
+        },
+        came: Ok(Refreshed::Full),
+        copy: Some(ONE),
+    },
 ];
 
 /// Whether a refresh that found no memory left the copy as it was, or as a delta makes it that takes
@@ -131,48 +170,63 @@ fn comes_to(
         }
         came = client.refresh();
     }
-    Ok(came == case.2 && has(alloc, client, case.3)?)
+    Ok(came == case.came && has(alloc, client, case.copy)?)
 }
 
-fn all_come(
+/// Of how many cases it came so, up to the first of which it didn't.
+fn cases_came(
     alloc: Global,
     client: &mut Client<Script<'_>>,
     turn: &Cell<Turn>,
-) -> Result<bool, Fault> {
+) -> Result<usize, Fault> {
     let mut before = None;
-    for case in CASES {
-        turn.set(Turn {
-            delta: case.0,
-            apps: case.1,
-        });
+    for (i, case) in CASES.iter().enumerate() {
+        turn.set(case.turn);
         if !comes_to(alloc, client, before, case)? {
-            return Ok(false);
+            return Ok(i);
         }
-        before = case.3;
+        before = case.copy;
     }
-    Ok(true)
+    Ok(CASES.len())
 }
 
-fn has_one_up(alloc: Global, client: &Client<Script<'_>>) -> Result<bool, Fault> {
+/// How many instances of the copy are up with a vip, if there is a copy.
+fn found_up(alloc: Global, client: &Client<Script<'_>>) -> Result<Option<usize>, Fault> {
     match client.copy() {
-        Some(copy) => Ok(copy.up(alloc, "orders")?.len() == 1),
-        None => Ok(false),
+        Some(copy) => Ok(Some(copy.up(alloc, "orders")?.len())),
+        None => Ok(None),
+    }
+}
+
+/// Of how many cases it came so, up to the first of which it didn't, and how many instances of the last
+/// copy are up with a vip.
+#[derive(Clone, Copy, Debug, PartialEq, Eq)]
+pub(crate) struct Came {
+    cases: usize,
+    up: Option<usize>,
+}
+
+/// What has to be.
+pub(crate) fn wanted() -> Came {
+    Came {
+        cases: CASES.len(),
+        up: Some(1),
     }
 }
 
 /// A client refreshes by deltas and in full.
-pub(crate) fn refreshes(alloc: Global) -> Result<bool, Fault> {
-    let turn = Cell::new(Turn {
-        delta: Reply::Fails,
-        apps: Reply::Fails,
-    });
+pub(crate) fn refresh_all(alloc: Global) -> Result<Came, Fault> {
+    let turn = Cell::new(Turn::NONE);
     let script = Script {
         alloc,
         turn: &turn,
         failures: 0,
     };
     let mut client = Client::new(alloc, script, Form::Full);
-    let all = all_come(alloc, &mut client, &turn);
-    let up = has_one_up(alloc, &client);
-    Ok(all? && up?)
+    let cases = cases_came(alloc, &mut client, &turn);
+    let up = found_up(alloc, &client);
+    Ok(Came {
+        cases: cases?,
+        up: up?,
+    })
 }

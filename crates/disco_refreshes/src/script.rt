@@ -14,8 +14,8 @@ use std::cell::Cell;
 pub(crate) enum Reply {
     /// A status and a body.
     Is(u16, &'static str),
-    /// A document with its certificate: its run, its base and its version.
-    Certified(&'static str, u64, u64, u64),
+    /// A document with its certificate.
+    Certified(&'static str, Cert),
     Fails,
 }
 
@@ -24,6 +24,14 @@ pub(crate) enum Reply {
 pub(crate) struct Turn {
     pub(crate) delta: Reply,
     pub(crate) apps: Reply,
+}
+
+impl Turn {
+    /// Nothing is answered.
+    pub(crate) const NONE: Turn = Turn {
+        delta: Reply::Fails,
+        apps: Reply::Fails,
+    };
 }
 
 /// Answers by the turn that it is.
@@ -69,10 +77,7 @@ impl Fetch for Script<'_> {
         };
         match reply {
             Reply::Is(status, body) => answer(self.alloc, status, body, None),
-            Reply::Certified(body, run, base, version) => {
-                let cert = Cert { run, base, version };
-                answer(self.alloc, 200, body, Some(cert))
-            }
+            Reply::Certified(body, cert) => answer(self.alloc, 200, body, Some(cert)),
             Reply::Fails => Err(self.fail()),
         }
     }

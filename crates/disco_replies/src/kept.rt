@@ -1,11 +1,10 @@
 //! Whether a row is as it has to be.
-ghost use Rattle.std.specs.Prelude.{◌≡◌, IfNone};
-
 use crate::connection::{Came, over_a_desk, over_a_hub};
 use crate::files::{Row, read_row};
 use disco_http::{End, Served};
 use disco_press::Opening;
 use disco_settings::Settings;
+use disco_trials::difference;
 use std::alloc::{AllocError, Global};
 use std::io;
 use std::marker::Brand;
@@ -29,22 +28,6 @@ struct Sent<'a> {
 struct Way {
     over: &'static str,
     piece: usize,
-}
-
-/// Where two texts differ first, if they do.
-fn difference(wanted: &[u8], came: &[u8]) -> Option<usize>
-    ensures { IfNone result (wanted.now ≡ came.now) }
-{
-    if wanted == came {
-        return None;
-    }
-    Some(
-        wanted
-            .iter()
-            .zip(came.iter())
-            .take_while(|(wanted, came)| wanted == came)
-            .count(),
-    )
 }
 
 /// How many requests were answered, and how the connection ended, as a row says it.

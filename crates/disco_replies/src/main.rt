@@ -4,7 +4,7 @@
 //! and 1,000 bytes; one that is cut as often for every byte that it has. Of a row that is as it
 //! has to be each time the name is printed, of another one where it differs first, and then the exit
 //! status is 1. The README beside `src/` says what the files of a row hold. With the words
-//! `NAME TIMES PIECE` it times a row over a hub.
+//! `NAME TIMES PIECE` it times a row over a desk.
 #![tactic(auto)]
 
 mod connection;

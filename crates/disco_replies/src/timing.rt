@@ -1,9 +1,11 @@
 //! Times a row.
-use crate::connection::over_a_hub;
+use crate::connection::over_a_desk;
 use crate::files::read_row;
-use std::alloc::Global;
+use disco_press::Opening;
 use std::io;
+use std::marker::Brand;
 use std::rt::{Clock, Files};
+use std::sync::Wait;
 use std::time::Instant;
 
 /// What is timed.
@@ -32,7 +34,7 @@ impl<'a> Timing<'a> {
 }
 
 /// Prints how many nanoseconds all runs take together, and how many bytes each writes.
-pub(crate) fn run<R: Clock + Files + AllocGlobal + Print>(
+pub(crate) fn run<R: Clock + Files + Wait + AllocGlobal + Print>(
     rt: &R,
     timing: &Timing<'_>,
 ) -> io::Result<bool> {
@@ -41,9 +43,15 @@ pub(crate) fn run<R: Clock + Files + AllocGlobal + Print>(
     let mut size = 0;
     for _ in 0..timing.times {
         let request = row.request.as_slice();
-        size = over_a_hub(rt.alloc(), &row.settings, request, timing.piece)?
-            .reply
-            .len();
+        let came = over_a_desk::<Brand, R>(
+            rt,
+            rt.alloc(),
+            Opening::new(),
+            &row.settings,
+            request,
+            timing.piece,
+        )?;
+        size = came.reply.len();
     }
     println!(rt; "{} {size}", start.elapsed(rt)?.as_nanos())?;
     Ok(true)

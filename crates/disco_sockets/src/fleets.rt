@@ -54,15 +54,17 @@ fn client_of(alloc: Global, document: &'static str) -> Result<Client<Always>, Fa
     Ok(client)
 }
 
-/// Of a client whose copy is the registry, of one whose copy differs from it in a member, and of one
-/// without a copy.
-pub(crate) fn are_told_apart(alloc: Global) -> Result<bool, Fault> {
+/// What is said of a client whose copy is the registry, of one whose copy differs from it in a member,
+/// and of one without a copy.
+pub(crate) const SAID: &str = "fleet 1 UP_1_\nclient 0 yes\nclient 1 no\nclient 2 no\n";
+
+/// What a fleet of these three says.
+pub(crate) fn say(alloc: Global) -> Result<String, Fault> {
     let mut registry = Copy::new(alloc);
     registry.full(read_document(alloc, ONE.as_bytes())?)?;
     let mut clients = Vec::new(alloc);
     clients.push(client_of(alloc, ONE)?)?;
     clients.push(client_of(alloc, OTHER)?)?;
     clients.push(client(alloc, ONE))?;
-    let lines = lines_of(alloc, &registry, clients.as_slice())?;
-    Ok(lines.as_str() == "fleet 1 UP_1_\nclient 0 yes\nclient 1 no\nclient 2 no\n")
+    lines_of(alloc, &registry, clients.as_slice())
 }

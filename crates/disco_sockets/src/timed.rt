@@ -123,52 +123,55 @@ fn see_at<J: Naming, R: Wait + rt::Clock>(
     see(rt, desk, seat)
 }
 
-/// Whether nothing was done a millisecond before the publisher and the cleaner are due, and just they
-/// did at that moment. The lease has run out, and a run would take it.
-fn is_first_half_kept<J: Naming, R: Wait + rt::Clock>(
-    rt: &R,
-    alloc: Global,
-    desk: &Mutex<Desk<J>>,
-    seat: &mut Seat<J>,
-    dial: &Dial,
-) -> Result<bool, Fault> {
-    let early = see_at(rt, alloc, desk, seat, dial, 29_999)?;
-    let due = see_at(rt, alloc, desk, seat, dial, 30_000)?;
-    let nothing = Seen {
+/// What is seen while the dial is turned: at moment 0; a millisecond before the publisher and the cleaner
+/// are due, and when they are; and the same where all are due, again or for the first time. What a look
+/// finds in the end is not told, but whether that was published anew.
+#[derive(Clone, Copy, Debug, PartialEq, Eq)]
+pub(crate) struct Periods {
+    begun: Seen,
+    before_first: Seen,
+    first: Seen,
+    before_second: Seen,
+    second: Seen,
+    published_anew: bool,
+}
+
+/// What has to be: nothing is done a millisecond before it is due. At 30,000 milliseconds the lease has
+/// run out, and stays. At 60,000 it goes, so what was published is of no version before that of the
+/// second registration.
+pub(crate) const WANTED: Periods = Periods {
+    begun: Seen {
         base: 0,
         loaded: 1,
         looked: MISSED,
         renewals: 2,
-    };
-    let published = Seen {
+    },
+    before_first: Seen {
+        base: 0,
+        loaded: 1,
+        looked: MISSED,
+        renewals: 2,
+    },
+    first: Seen {
         base: 1,
         loaded: 1,
         looked: 1,
         renewals: 2,
-    };
-    Ok(early == nothing && due == published)
-}
-
-/// Whether nothing more was done a millisecond before all are due again or for the first time, and all
-/// did at that moment: the lease ran out, so what was published is of no version before that of the
-/// second registration.
-fn is_second_half_kept<J: Naming, R: Wait + rt::Clock>(
-    rt: &R,
-    alloc: Global,
-    desk: &Mutex<Desk<J>>,
-    seat: &mut Seat<J>,
-    dial: &Dial,
-) -> Result<bool, Fault> {
-    let early = see_at(rt, alloc, desk, seat, dial, 59_999)?;
-    let due = see_at(rt, alloc, desk, seat, dial, 60_000)?;
-    let nothing = Seen {
+    },
+    before_second: Seen {
         base: 1,
         loaded: 2,
         looked: 1,
         renewals: 2,
-    };
-    Ok(early == nothing && due.base == 2 && due.loaded == 3 && due.looked != 1 && due.renewals == 0)
-}
+    },
+    second: Seen {
+        base: 2,
+        loaded: 3,
+        looked: 0,
+        renewals: 0,
+    },
+    published_anew: true,
+};
 
 /// What the workers do while the dial is turned.
 fn turn_through<J: Naming, R: Wait + rt::Clock>(
@@ -177,13 +180,27 @@ fn turn_through<J: Naming, R: Wait + rt::Clock>(
     desk: &Mutex<Desk<J>>,
     seat: &mut Seat<J>,
     dial: &Dial,
-) -> Result<bool, Fault> {
+) -> Result<Periods, Fault> {
     register(rt, alloc, desk, 0)?;
     let begun = see_at(rt, alloc, desk, seat, dial, 0)?;
-    let first = is_first_half_kept(rt, alloc, desk, seat, dial)?;
+    let before_first = see_at(rt, alloc, desk, seat, dial, 29_999)?;
+    let first = see_at(rt, alloc, desk, seat, dial, 30_000)?;
     register(rt, alloc, desk, 30_000)?;
-    let second = is_second_half_kept(rt, alloc, desk, seat, dial)?;
-    Ok(begun.renewals == 2 && first && second)
+    let before_second = see_at(rt, alloc, desk, seat, dial, 59_999)?;
+    let second = see_at(rt, alloc, desk, seat, dial, 60_000)?;
+    Ok(Periods {
+        begun,
+        before_first,
+        first,
+        before_second,
+        second: Seen {
+            base: second.base,
+            loaded: second.loaded,
+            looked: 0,
+            renewals: second.renewals,
+        },
+        published_anew: second.looked != first.looked,
+    })
 }
 
 /// The workers beside what turns their clocks.
@@ -192,7 +209,7 @@ fn turn_and_tend<J: Naming + Send + Sync, R>(
     alloc: Global,
     desk: &Mutex<Desk<J>>,
     seat: Seat<J>,
-) -> Result<bool, Fault>
+) -> Result<Periods, Fault>
 where
     R: Threads + Wait + rt::Clock + Sync,
 {
@@ -217,7 +234,7 @@ pub(crate) fn run<J: Naming + Send + Sync, R>(
     rt: &R,
     alloc: Global,
     opening: Opening,
-) -> Result<bool, Fault>
+) -> Result<Periods, Fault>
 where
     R: Threads + Wait + rt::Clock + Sync,
     requires opening { Opens J.list J.name J.parts opening }
@@ -228,7 +245,7 @@ where
     let desk = Mutex::new(desk);
     let tried = match seats.pop() {
         Some(seat) => turn_and_tend(rt, alloc, &desk, seat),
-        None => Ok(false),
+        None => Err(Fault::NotFetched),
     };
     desk.into_inner().close(rt);
     tried

@@ -28,25 +28,43 @@ fn document(alloc: Global, key: DocKey) -> Result<Arc<Payload, Global>, Fault> {
     )?)
 }
 
-/// Puts in as many documents as are kept, and one more. Tells whether all but the last are kept.
-fn fills(alloc: Global, cache: &mut DocCache) -> Result<bool, Fault> {
+/// Whether each of three documents is kept where there is room for two, the keys that are kept and the
+/// first of them, and what is kept behind a change that names that one.
+#[derive(Clone, Copy, Debug, PartialEq, Eq)]
+pub(crate) struct Kept {
+    put: [bool; 3],
+    keys: usize,
+    least_is_first: bool,
+    named_is_kept: bool,
+    other_is_kept: bool,
+}
+
+/// What has to be.
+pub(crate) const WANTED_KEPT: Kept = Kept {
+    put: [true, true, false],
+    keys: 2,
+    least_is_first: true,
+    named_is_kept: false,
+    other_is_kept: true,
+};
+
+/// Puts in as many documents as are kept, and one more.
+fn fill(alloc: Global, cache: &mut DocCache) -> Result<[bool; 3], Fault> {
     let first = cache.put(document(alloc, vip(alloc, "c", Form::Full)?)?)?;
     let second = cache.put(document(alloc, vip(alloc, "a", Form::Compact)?)?)?;
     let third = cache.put(document(alloc, vip(alloc, "d", Form::Full)?)?)?;
-    Ok(first && second && !third)
+    Ok([first, second, third])
 }
 
-/// Whether the keys are those of both documents, in their order.
-fn has_both(alloc: Global, cache: &DocCache) -> Result<bool, Fault> {
+fn is_kept(alloc: Global, cache: &DocCache, name: &str, form: Form) -> Result<bool, Fault> {
+    Ok(cache.get(&vip(alloc, name, form)?).is_some())
+}
+
+/// How many keys there are, and whether the first is the least that was put in.
+fn keys(alloc: Global, cache: &DocCache) -> Result<(usize, bool), Fault> {
     let least = vip(alloc, "a", Form::Compact)?;
     let keys = cache.keys(alloc)?;
-    Ok(keys.len() == 2 && *keys[0] == least)
-}
-
-/// Whether the document that a change names is gone, and the other one kept.
-fn has_one(alloc: Global, cache: &DocCache) -> Result<bool, Fault> {
-    let named = cache.get(&vip(alloc, "a", Form::Compact)?).is_none();
-    Ok(named && cache.get(&vip(alloc, "c", Form::Full)?).is_some())
+    Ok((keys.len(), keys.first().is_some_and(|key| **key == least)))
 }
 
 /// Drops what a change of an instance names.
@@ -56,40 +74,62 @@ fn forget(alloc: Global, cache: &mut DocCache) -> Result<(), Fault> {
     Ok(())
 }
 
-fn keeps(alloc: Global, cache: &mut DocCache) -> Result<bool, Fault> {
-    let kept = fills(alloc, cache)? && has_both(alloc, cache)?;
+fn keep_in(alloc: Global, cache: &mut DocCache) -> Result<Kept, Fault> {
+    let put = fill(alloc, cache)?;
+    let (keys, least_is_first) = keys(alloc, cache)?;
     forget(alloc, cache)?;
-    Ok(kept && has_one(alloc, cache)?)
+    Ok(Kept {
+        put,
+        keys,
+        least_is_first,
+        named_is_kept: is_kept(alloc, cache, "a", Form::Compact)?,
+        other_is_kept: is_kept(alloc, cache, "c", Form::Full)?,
+    })
 }
 
 /// Documents are kept by key until a change names them.
-pub(crate) fn keeps_by_key(alloc: Global) -> Result<bool, Fault> {
+pub(crate) fn keep(alloc: Global) -> Result<Kept, Fault> {
     let mut cache = DocCache::new(alloc, 2);
-    keeps(alloc, &mut cache)
+    keep_in(alloc, &mut cache)
 }
 
-/// Whether what is ready for a registration tells a change. It is done.
-fn tells_a_change(alloc: Global, hub: &mut Hub) -> Result<bool, Fault> {
-    let op = registration(alloc, "1")?;
-    let ready = hub.ready(op, 1)?;
+/// Whether what is ready tells a change: for a registration, behind which there are so many versions,
+/// and for a renewal.
+#[derive(Clone, Copy, Debug, PartialEq, Eq)]
+pub(crate) struct ToCome {
+    registration: bool,
+    version: u64,
+    renewal: bool,
+}
+
+/// What has to be.
+pub(crate) const WANTED_TO_COME: ToCome = ToCome {
+    registration: true,
+    version: 1,
+    renewal: false,
+};
+
+/// Whether what is ready of an operation tells a change. It is done.
+fn tells_a_change(hub: &mut Hub, op: Op, now: u64) -> Result<bool, Fault> {
+    let ready = hub.ready(op, now)?;
     let told = ready.change()?.is_some();
     let _ = hub.commit(ready);
-    Ok(told && hub.version() == 1)
+    Ok(told)
 }
 
-/// Whether what is ready for a renewal tells none.
-fn tells_none(alloc: Global, hub: &mut Hub) -> Result<bool, Fault> {
-    let op = Op::Renew(key(alloc, "1")?);
-    let ready = hub.ready(op, 2)?;
-    Ok(ready.change()?.is_none())
-}
-
-fn tells(alloc: Global, hub: &mut Hub) -> Result<bool, Fault> {
-    Ok(tells_a_change(alloc, hub)? && tells_none(alloc, hub)?)
+fn prepare_both(alloc: Global, hub: &mut Hub) -> Result<ToCome, Fault> {
+    let registration = tells_a_change(hub, registration(alloc, "1")?, 1)?;
+    let version = hub.version();
+    let renewal = tells_a_change(hub, Op::Renew(key(alloc, "1")?), 2)?;
+    Ok(ToCome {
+        registration,
+        version,
+        renewal,
+    })
 }
 
 /// What is ready tells the change to come, where there is one.
-pub(crate) fn tells_what_comes(alloc: Global) -> Result<bool, Fault> {
+pub(crate) fn prepare(alloc: Global) -> Result<ToCome, Fault> {
     let mut hub = empty_hub(alloc)?;
-    tells(alloc, &mut hub)
+    prepare_both(alloc, &mut hub)
 }

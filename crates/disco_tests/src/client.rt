@@ -2,7 +2,7 @@
 use disco_client::Copy;
 use disco_values::Fault;
 use disco_wire::read_document;
-use std::alloc::Global;
+use std::alloc::{AllocError, Global};
 
 /// A document of all apps with one instance that is up, and one that is down.
 const SAMPLE: &str =
@@ -20,35 +20,53 @@ const VIPS: &[(&str, usize)] = &[
     ("", 0),
 ];
 
-fn has_hashes(copy: &Copy) -> bool {
-    let mut all = true;
-    for (hash, is) in HASHES {
-        all = all && copy.hash_is(hash) == *is;
+/// The hash code of the sample's copy, how many texts were told as they are, and of how many vips the
+/// instances were found, up to the first that wasn't.
+#[derive(Debug, Drop, PartialEq)]
+pub(crate) struct Shown {
+    hash: String,
+    hashes: usize,
+    vips: usize,
+}
+
+/// What has to be.
+pub(crate) fn wanted(alloc: Global) -> Result<Shown, AllocError> {
+    Ok(Shown {
+        hash: String::from_str(alloc, "DOWN_1_UP_1_")?,
+        hashes: HASHES.len(),
+        vips: VIPS.len(),
+    })
+}
+
+fn hashes_told(copy: &Copy) -> usize {
+    HASHES
+        .iter()
+        .take_while(|(hash, is)| copy.hash_is(hash) == *is)
+        .count()
+}
+
+fn vips_found(alloc: Global, copy: &Copy) -> Result<usize, Fault> {
+    for (i, (vip, found)) in VIPS.iter().enumerate() {
+        if copy.up(alloc, vip)?.len() != *found {
+            return Ok(i);
+        }
     }
-    all
+    Ok(VIPS.len())
 }
 
-fn has_vips(alloc: Global, copy: &Copy) -> Result<bool, Fault> {
-    let mut all = true;
-    for (vip, found) in VIPS {
-        all = all && copy.up(alloc, vip)?.len() == *found;
-    }
-    Ok(all)
-}
-
-fn has_hash(alloc: Global, copy: &Copy) -> Result<bool, Fault> {
-    let hash = copy.hash(alloc)?;
-    Ok(hash.as_str() == "DOWN_1_UP_1_" && has_hashes(copy))
-}
-
-fn shows(alloc: Global, copy: &mut Copy) -> Result<bool, Fault> {
+fn show_sample(alloc: Global, copy: &mut Copy) -> Result<Shown, Fault> {
     let document = read_document(alloc, SAMPLE.as_bytes())?;
     copy.full(document)?;
-    Ok(has_hash(alloc, copy)? && has_vips(alloc, copy)?)
+    let hash = copy.hash(alloc)?;
+    Ok(Shown {
+        hash: String::from_str(alloc, hash.as_str())?,
+        hashes: hashes_told(copy),
+        vips: vips_found(alloc, copy)?,
+    })
 }
 
 /// The copy of a sample has its hash code, and finds its instances.
-pub(crate) fn shows_the_sample(alloc: Global) -> Result<bool, Fault> {
+pub(crate) fn show(alloc: Global) -> Result<Shown, Fault> {
     let mut copy = Copy::new(alloc);
-    shows(alloc, &mut copy)
+    show_sample(alloc, &mut copy)
 }

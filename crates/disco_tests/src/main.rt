@@ -14,44 +14,80 @@ mod rounds;
 mod serving;
 
 use disco_press::Opening;
-use disco_trials::told;
+use disco_trials::compared;
 use disco_values::Fault;
+use press::Seen;
 use std::alloc::Global;
 use std::io;
 use std::marker::Brand;
 use std::process::ExitCode;
 
 fn try_registry<R: Print>(rt: &R, alloc: Global) -> io::Result<bool> {
+    let pushed = String::from_str(alloc, calls::HASH_CODE)?;
+    let shown = client::wanted(alloc)?;
     let all = [
-        told(rt, "the last change of a key", calls::last_of_a_key(alloc))?,
-        told(rt, "a hash code in room", calls::pushed_hash_code(alloc))?,
-        told(rt, "the copy of a sample", client::shows_the_sample(alloc))?,
+        compared(
+            rt,
+            "the last change of a key",
+            &calls::WANTED,
+            calls::find(alloc),
+        )?,
+        compared(rt, "a hash code in room", &pushed, calls::push(alloc))?,
+        compared(rt, "the copy of a sample", &shown, client::show(alloc))?,
     ];
     Ok(all.iter().all(|well| *well))
 }
 
 fn try_hub<R: Print>(rt: &R, alloc: Global) -> io::Result<bool> {
     let all = [
-        told(rt, "documents kept by key", cache::keeps_by_key(alloc))?,
-        told(rt, "the change to come", cache::tells_what_comes(alloc))?,
-        told(rt, "a round left early", rounds::can_be_left(alloc))?,
+        compared(
+            rt,
+            "documents kept by key",
+            &cache::WANTED_KEPT,
+            cache::keep(alloc),
+        )?,
+        compared(
+            rt,
+            "the change to come",
+            &cache::WANTED_TO_COME,
+            cache::prepare(alloc),
+        )?,
+        compared(
+            rt,
+            "a round left early",
+            &rounds::WANTED,
+            rounds::ask(alloc),
+        )?,
     ];
     Ok(all.iter().all(|well| *well))
 }
 
 fn try_streams<R: Print>(rt: &R, alloc: Global) -> io::Result<bool> {
+    let (reads, writes) = (program::READS.len(), program::WRITES.len());
     let all = [
-        told(rt, "65,536 instances", program::holds_its_most(alloc))?,
-        told(rt, "a read that fails", program::tells_failed_reads(alloc))?,
-        told(
+        compared(
+            rt,
+            "65,536 instances",
+            &program::WANTED,
+            program::most_held(alloc),
+        )?,
+        compared(
+            rt,
+            "a read that fails",
+            &reads,
+            program::failed_reads(alloc),
+        )?,
+        compared(
             rt,
             "a write that fails",
-            program::tells_failed_writes(alloc),
+            &writes,
+            program::failed_writes(alloc),
         )?,
-        told(
+        compared(
             rt,
             "connections that fail",
-            serving::ends_at_each_failure(alloc),
+            &None,
+            serving::first_wrong(alloc),
         )?,
     ];
     Ok(all.iter().all(|well| *well))
@@ -67,17 +103,17 @@ fn try_all<R: Print>(rt: &R, alloc: Global) -> io::Result<bool> {
 }
 
 /// Tries all, and tells what came of the trial of two threads.
-fn tell_all<R: Print>(rt: &R, alloc: Global, threads: Result<bool, Fault>) -> io::Result<bool> {
+fn tell_all<R: Print>(rt: &R, alloc: Global, threads: Result<Seen, Fault>) -> io::Result<bool> {
     let all = [
         try_all(rt, alloc)?,
-        told(rt, "looks from another thread", threads)?,
+        compared(rt, "looks from another thread", &press::WANTED, threads)?,
     ];
     Ok(all.iter().all(|well| *well))
 }
 
 fn main(rt: HostRuntime) -> ExitCode {
     let alloc = rt.alloc();
-    let threads = press::another_thread_sees_it::<Brand, _>(&rt, alloc, Opening::new());
+    let threads = press::seen_by_another_thread::<Brand, _>(&rt, alloc, Opening::new());
     match tell_all(&rt, alloc, threads) {
         Ok(true) => ExitCode::SUCCESS,
         _ => ExitCode::FAILURE,

@@ -10,6 +10,33 @@ use std::alloc::Global;
 use std::sync::{Mutex, MutexGuard, Wait};
 use std::thread::{Threads, join};
 
+/// How a seat is answered that cancels an instance twice: the numbers of the refusals, 0 for none; and
+/// how many changes it counts then.
+#[derive(Clone, Copy, Debug, PartialEq, Eq)]
+pub(crate) struct Cancels {
+    first: u32,
+    again: u32,
+    changes: u64,
+}
+
+/// What is seen of a desk: the version of the document that the seat of another thread finds, and how
+/// a seat is answered.
+#[derive(Clone, Copy, Debug, PartialEq, Eq)]
+pub(crate) struct Seen {
+    version: u64,
+    cancels: Cancels,
+}
+
+/// What is wanted of it.
+pub(crate) const WANTED: Seen = Seen {
+    version: 1,
+    cancels: Cancels {
+        first: 0,
+        again: 5,
+        changes: 1,
+    },
+};
+
 fn apps() -> DocKey {
     DocKey {
         query: Query::Apps,
@@ -84,18 +111,22 @@ fn cancels_as<J: Naming>(
     Ok(refusal(desk.write_as(seat, op, now)))
 }
 
-/// How a seat is answered that cancels an instance twice, and how many changes it counts.
-fn counts<J: Naming, R: Wait>(
+/// A seat cancels an instance twice.
+fn cancel_twice<J: Naming, R: Wait>(
     rt: &R,
     alloc: Global,
     desk: &Mutex<Desk<J>>,
     seat: &mut Seat<J>,
-) -> Result<(u32, u32, u64), Fault> {
+) -> Result<Cancels, Fault> {
     let mut guard = desk.lock(rt);
     let first = cancels_as(alloc, &mut *guard, seat, 3);
     let again = cancels_as(alloc, &mut *guard, seat, 4);
     MutexGuard::unlock(guard);
-    Ok((first?, again?, seat.changes()))
+    Ok(Cancels {
+        first: first?,
+        again: again?,
+        changes: seat.changes(),
+    })
 }
 
 /// One thread publishes, and another one looks; then a seat cancels.
@@ -105,22 +136,26 @@ fn at_once<J: Naming + Send + Sync, R: Threads + Wait + Sync>(
     desk: &Mutex<Desk<J>>,
     one: &mut Seat<J>,
     two: Seat<J>,
-) -> Result<(u64, (u32, u32, u64)), Fault> {
-    let (filled, (seen, _two)) = join(
+) -> Result<Seen, Fault> {
+    let (filled, (version, _two)) = join(
         rt,
         move || fill_locked(rt, alloc, desk),
         move || see(rt, desk, two),
     );
-    let counted = counts(rt, alloc, desk, one);
+    let cancels = cancel_twice(rt, alloc, desk, one);
     filled?;
-    Ok((seen, counted?))
+    Ok(Seen {
+        version,
+        cancels: cancels?,
+    })
 }
 
-fn two_threads<J: Naming + Send + Sync, R: Threads + Wait + Sync>(
+/// Another thread sees what was published, and a seat counts what was changed for it.
+pub(crate) fn seen_by_another_thread<J: Naming + Send + Sync, R: Threads + Wait + Sync>(
     rt: &R,
     alloc: Global,
     opening: Opening,
-) -> Result<(u64, (u32, u32, u64)), Fault>
+) -> Result<Seen, Fault>
     requires opening { Opens J.list J.name J.parts opening }
 {
     let settings = defaults(alloc)?;
@@ -131,16 +166,4 @@ fn two_threads<J: Naming + Send + Sync, R: Threads + Wait + Sync>(
     let came = at_once(rt, alloc, &desk, &mut one, two);
     desk.into_inner().close(rt);
     came
-}
-
-/// Another thread sees what was published, and a seat counts what was changed for it.
-pub(crate) fn another_thread_sees_it<J: Naming + Send + Sync, R: Threads + Wait + Sync>(
-    rt: &R,
-    alloc: Global,
-    opening: Opening,
-) -> Result<bool, Fault>
-    requires opening { Opens J.list J.name J.parts opening }
-{
-    let came = two_threads::<J, R>(rt, alloc, opening)?;
-    Ok(came == (1, (0, 5, 1)))
 }

@@ -2,6 +2,7 @@
 use crate::given::strings;
 use disco_replay::replay;
 use disco_streams::Counted;
+use disco_trials::difference;
 use disco_values::Fault;
 use std::alloc::{AllocError, Global};
 use std::io;
@@ -24,19 +25,35 @@ fn push_most(input: &mut String, want: &mut String) -> Result<(), AllocError> {
     want.push_str("fault 8\n")
 }
 
-fn answers(alloc: Global, input: &str, want: &str) -> Result<bool, Fault> {
+/// The exit status of a run, and where its answers differ from what they have to be, if they do.
+#[derive(Clone, Copy, Debug, PartialEq, Eq)]
+pub(crate) struct Ended {
+    status: u8,
+    differs_at: Option<usize>,
+}
+
+/// What has to be.
+pub(crate) const WANTED: Ended = Ended {
+    status: 0,
+    differs_at: None,
+};
+
+fn run(alloc: Global, input: &str, want: &str) -> Result<Ended, Fault> {
     let words = strings(alloc, &["replay"])?;
     let mut reader = Counted::new(input.as_bytes());
     let (mut out, mut errors) = (Counted::new(Vec::new(alloc)), Counted::new(Vec::new(alloc)));
     let status = replay(alloc, &mut reader, &mut out, &mut errors, words.as_slice());
-    Ok(status == 0 && out.inner.as_slice() == want.as_bytes())
+    Ok(Ended {
+        status,
+        differs_at: difference(want.as_bytes(), out.inner.as_slice()),
+    })
 }
 
 /// 65,536 instances are held, and no more.
-pub(crate) fn holds_its_most(alloc: Global) -> Result<bool, Fault> {
+pub(crate) fn most_held(alloc: Global) -> Result<Ended, Fault> {
     let (mut input, mut want) = (String::new(alloc), String::new(alloc));
     push_most(&mut input, &mut want)?;
-    answers(alloc, input.as_str(), want.as_str())
+    run(alloc, input.as_str(), want.as_str())
 }
 
 /// A reader that fails where its bytes end.
@@ -64,14 +81,18 @@ fn fails_behind(alloc: Global, words: &[String], rest: &str) -> bool {
     status == 1 && told && out.inner.is_empty()
 }
 
-/// Where a read fails, nothing is answered, and it is said.
-pub(crate) fn tells_failed_reads(alloc: Global) -> Result<bool, Fault> {
+/// What comes before a read that fails.
+pub(crate) const READS: &[&str] = &["", "load full apps\n", "hello\n", "load"];
+
+/// Behind how many of these nothing is answered, and it is said, up to the first that isn't so.
+pub(crate) fn failed_reads(alloc: Global) -> Result<usize, Fault> {
     let words = strings(alloc, &["replay"])?;
-    let mut all = true;
-    for rest in ["", "load full apps\n", "hello\n", "load"] {
-        all = all && fails_behind(alloc, words.as_slice(), rest);
-    }
-    Ok(all)
+    Ok(
+        READS
+            .iter()
+            .take_while(|rest| fails_behind(alloc, words.as_slice(), rest))
+            .count(),
+    )
 }
 
 /// A writer that takes so many bytes and then fails.
@@ -103,11 +124,20 @@ fn fails_past(alloc: Global, word: &str, room: usize) -> Result<bool, Fault> {
     Ok(status == 1 && errors.inner.as_slice() == b"discovery: fault 21\n".as_slice())
 }
 
-/// Where a write fails, of answers or of help, it is said.
-pub(crate) fn tells_failed_writes(alloc: Global) -> Result<bool, Fault> {
-    let mut all = true;
-    for (word, room) in [("replay", 0), ("replay", 7), ("--help", 0), ("--help", 5)] {
-        all = all && fails_past(alloc, word, room)?;
+/// The word of a run, and how many bytes it writes before a write fails.
+pub(crate) const WRITES: &[(&str, usize)] = &[
+    ("replay", 0),
+    ("replay", 7),
+    ("--help", 0),
+    ("--help", 5),
+];
+
+/// In how many of these runs it is said, up to the first in which it isn't.
+pub(crate) fn failed_writes(alloc: Global) -> Result<usize, Fault> {
+    for (i, (word, room)) in WRITES.iter().enumerate() {
+        if !fails_past(alloc, word, *room)? {
+            return Ok(i);
+        }
     }
-    Ok(all)
+    Ok(WRITES.len())
 }

@@ -177,14 +177,21 @@ fn repeated(alloc: Global, text: &str) -> Result<Vec<u8>, AllocError> {
     Ok(bytes)
 }
 
-/// A connection of which so many reads and so many writes don't fail: whether another one failed, and
-/// whether the connection ended as it has to.
-fn ends_well(
+/// How a connection ended: whether a read or a write of it failed, and whether all is as it then has to
+/// be.
+#[derive(Clone, Copy, Debug)]
+struct Ended {
+    failed: bool,
+    well: bool,
+}
+
+/// A connection of which so many reads and so many writes don't fail.
+fn end_with(
     alloc: Global,
     request: &str,
     reads: usize,
     writes: usize,
-) -> Result<(bool, bool), AllocError> {
+) -> Result<Ended, AllocError> {
     let bytes = repeated(alloc, request)?;
     let whole = repeated(alloc, REPLY)?;
     let mut line = Line {
@@ -204,30 +211,44 @@ fn ends_well(
         requests: requests as u64,
         end: end_of(&line, &paper),
     };
-    let well = served == Some(wanted) && are_written(&paper, whole.as_slice(), requests);
-    Ok((line.failed || paper.failed, well))
+    Ok(Ended {
+        failed: line.failed || paper.failed,
+        well: served == Some(wanted) && are_written(&paper, whole.as_slice(), requests),
+    })
 }
 
-/// Whether connections on which this is asked end as they have to, with each read and each write
-/// failing in turn, and at last none.
-fn each_ends_well(alloc: Global, request: &str) -> Result<bool, AllocError> {
-    let mut all = true;
+/// Connections that ended otherwise than they have to: those on which a request is asked, where the read
+/// or the write behind so many of them fails.
+#[derive(Clone, Copy, Debug, PartialEq, Eq)]
+pub(crate) struct Wrong {
+    request: usize,
+    calls: usize,
+}
+
+/// The first that ended otherwise, with each read and each write failing in turn, and at last none.
+fn wrong_with(alloc: Global, request: usize, text: &str) -> Result<Option<Wrong>, AllocError> {
     let mut failed = true;
     for calls in 0..CALLS {
-        let read = ends_well(alloc, request, calls, usize::MAX)?;
-        let write = ends_well(alloc, request, usize::MAX, calls)?;
-        all = all && read.1 && write.1;
-        failed = read.0 || write.0;
+        let read = end_with(alloc, text, calls, usize::MAX)?;
+        let write = end_with(alloc, text, usize::MAX, calls)?;
+        if !read.well || !write.well {
+            return Ok(Some(Wrong { request, calls }));
+        }
+        failed = read.failed || write.failed;
     }
-    Ok(all && !failed)
+    Ok(failed.then_some(Wrong {
+        request,
+        calls: CALLS,
+    }))
 }
 
 /// Whatever read or write of a connection fails, the whole requests that had come are answered, up to
-/// the reply that failed, and then reader and writer are spent.
-pub(crate) fn ends_at_each_failure(alloc: Global) -> Result<bool, Fault> {
-    let mut all = true;
-    for request in REQUESTS {
-        all = each_ends_well(alloc, request)? && all;
+/// the reply that failed, and then reader and writer are spent. None where it is so.
+pub(crate) fn first_wrong(alloc: Global) -> Result<Option<Wrong>, Fault> {
+    for (request, text) in REQUESTS.iter().enumerate() {
+        if let Some(wrong) = wrong_with(alloc, request, text)? {
+            return Ok(Some(wrong));
+        }
     }
-    Ok(all)
+    Ok(None)
 }

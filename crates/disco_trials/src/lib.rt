@@ -1,9 +1,11 @@
-//! What the programs of trials share: the names of the trials that are files, and how what came of one
-//! is printed.
+//! What the programs of trials share: the names of the trials that are files, where two texts differ,
+//! and how what came of a trial is printed.
 #![tactic(auto)]
 
+mod differing;
 mod files;
 mod printing;
 
+pub use differing::difference;
 pub use files::names;
-pub use printing::{is_told, told};
+pub use printing::{compared, is_told, told};

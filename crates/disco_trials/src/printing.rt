@@ -1,5 +1,5 @@
 //! What came of a trial.
-use std::fmt::Display;
+use std::fmt::{Debug, Display};
 use std::io;
 
 /// Prints the name of a trial with what came of it: `yes`, `no`, or why it ended early. Answers
@@ -19,6 +19,27 @@ pub fn told<R: Print, E: Display + Drop>(
         Err(error) => println!(rt; "{name}: {error}")?,
     }
     Ok(matches!(came, Ok(true)))
+}
+
+/// Prints the name of a trial with what came of it: `yes` where it is what was wanted, else `no` with
+/// both, or why it ended early. Answers whether it is what was wanted.
+///
+/// # Errors
+///
+/// What the host says where nothing can be printed.
+pub fn compared<R: Print, T: PartialEq + Debug + Drop, E: Display + Drop>(
+    rt: &R,
+    name: &str,
+    wanted: &T,
+    came: Result<T, E>,
+) -> io::Result<bool> {
+    let well = matches!(&came, Ok(came) if came == wanted);
+    match &came {
+        Ok(_) if well => println!(rt; "{name}: yes")?,
+        Ok(came) => println!(rt; "{name}: no, wanted {wanted:?}, came {came:?}")?,
+        Err(error) => println!(rt; "{name}: {error}")?,
+    }
+    Ok(well)
 }
 
 /// Prints the name of a trial with what came of it, as [`told`] does. Answers whether it went well and
