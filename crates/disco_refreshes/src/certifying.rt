@@ -24,127 +24,248 @@ struct Case {
     copy: Option<Held>,
 }
 
-fn certificate(run: u64, base: u64, version: u64) -> Cert {
-    Cert { run, base, version }
-}
-
-fn copy(document: &'static str, run: u64, version: u64) -> Option<Held> {
-    Some(Held {
-        document,
-        run,
-        version,
-    })
-}
-
 /// One refresh after another.
-fn cases() -> [Case; 13] {
-    [
-        Case {
-            turn: Turn {
-                delta: Reply::Fails,
-                apps: Reply::Is(200, ONE),
-            },
-            came: Err(Fault::BadDocument),
-            copy: None,
+const CASES: &[Case] = &[
+    Case {
+        turn: Turn {
+            delta: Reply::Fails,
+            apps: Reply::Is(200, ONE),
         },
-        Case {
-            turn: Turn {
-                delta: Reply::Fails,
-                apps: Reply::Certified(ONE, certificate(0, 2, 2)),
-            },
-            came: Err(Fault::BadDocument),
-            copy: None,
+        came: Err(Fault::BadDocument),
+        copy: None,
+    },
+    Case {
+        turn: Turn {
+            delta: Reply::Fails,
+            apps: Reply::Certified(
+                ONE,
+                Cert {
+                    run: 0,
+                    base: 2,
+                    version: 2,
+                },
+            ),
         },
-        Case {
-            turn: Turn {
-                delta: Reply::Fails,
-                apps: Reply::Certified(ONE, certificate(0, 1, 1)),
-            },
-            came: Ok(Refreshed::Full),
-            copy: copy(ONE, 0, 1),
+        came: Err(Fault::BadDocument),
+        copy: None,
+    },
+    Case {
+        turn: Turn {
+            delta: Reply::Fails,
+            apps: Reply::Certified(
+                ONE,
+                Cert {
+                    run: 0,
+                    base: 1,
+                    version: 1,
+                },
+            ),
         },
-        Case {
-            turn: Turn {
-                delta: Reply::Certified(ONE, certificate(0, 0, 1)),
-                apps: Reply::Fails,
-            },
-            came: Ok(Refreshed::Delta),
-            copy: copy(ONE, 0, 1),
+        came: Ok(Refreshed::Full),
+        copy: Some(Held {
+            document: ONE,
+            run: 0,
+            version: 1,
+        }),
+    },
+    Case {
+        turn: Turn {
+            delta: Reply::Certified(
+                ONE,
+                Cert {
+                    run: 0,
+                    base: 0,
+                    version: 1,
+                },
+            ),
+            apps: Reply::Fails,
         },
-        Case {
-            turn: Turn {
-                delta: Reply::Certified(GONE, certificate(0, 2, 3)),
-                apps: Reply::Certified(NONE, certificate(0, 0, 0)),
-            },
-            came: Ok(Refreshed::Kept),
-            copy: copy(ONE, 0, 1),
+        came: Ok(Refreshed::Delta),
+        copy: Some(Held {
+            document: ONE,
+            run: 0,
+            version: 1,
+        }),
+    },
+    Case {
+        turn: Turn {
+            delta: Reply::Certified(
+                GONE,
+                Cert {
+                    run: 0,
+                    base: 2,
+                    version: 3,
+                },
+            ),
+            apps: Reply::Certified(
+                NONE,
+                Cert {
+                    run: 0,
+                    base: 0,
+                    version: 0,
+                },
+            ),
         },
-        Case {
-            turn: Turn {
-                delta: Reply::Is(403, ""),
-                apps: Reply::Is(200, ONE),
-            },
-            came: Err(Fault::BadDocument),
-            copy: copy(ONE, 0, 1),
+        came: Ok(Refreshed::Kept),
+        copy: Some(Held {
+            document: ONE,
+            run: 0,
+            version: 1,
+        }),
+    },
+    Case {
+        turn: Turn {
+            delta: Reply::Is(403, ""),
+            apps: Reply::Is(200, ONE),
         },
-        Case {
-            turn: Turn {
-                delta: Reply::Is(404, ""),
-                apps: Reply::Certified(NONE, certificate(0, 0, 0)),
-            },
-            came: Ok(Refreshed::Kept),
-            copy: copy(ONE, 0, 1),
+        came: Err(Fault::BadDocument),
+        copy: Some(Held {
+            document: ONE,
+            run: 0,
+            version: 1,
+        }),
+    },
+    Case {
+        turn: Turn {
+            delta: Reply::Is(404, ""),
+            apps: Reply::Certified(
+                NONE,
+                Cert {
+                    run: 0,
+                    base: 0,
+                    version: 0,
+                },
+            ),
         },
-        Case {
-            turn: Turn {
-                delta: Reply::Is(200, ONE),
-                apps: Reply::Certified(ONE, certificate(0, 1, 1)),
-            },
-            came: Ok(Refreshed::DeltaThenFull),
-            copy: copy(ONE, 0, 1),
+        came: Ok(Refreshed::Kept),
+        copy: Some(Held {
+            document: ONE,
+            run: 0,
+            version: 1,
+        }),
+    },
+    Case {
+        turn: Turn {
+            delta: Reply::Is(200, ONE),
+            apps: Reply::Certified(
+                ONE,
+                Cert {
+                    run: 0,
+                    base: 1,
+                    version: 1,
+                },
+            ),
         },
-        Case {
-            turn: Turn {
-                delta: Reply::Certified(GONE, certificate(0, 1, 4)),
-                apps: Reply::Fails,
-            },
-            came: Err(Fault::NotFetched),
-            copy: copy(ONE, 0, 1),
+        came: Ok(Refreshed::DeltaThenFull),
+        copy: Some(Held {
+            document: ONE,
+            run: 0,
+            version: 1,
+        }),
+    },
+    Case {
+        turn: Turn {
+            delta: Reply::Certified(
+                GONE,
+                Cert {
+                    run: 0,
+                    base: 1,
+                    version: 4,
+                },
+            ),
+            apps: Reply::Fails,
         },
-        Case {
-            turn: Turn {
-                delta: Reply::Certified("{", certificate(0, 1, 1)),
-                apps: Reply::Fails,
-            },
-            came: Err(Fault::BadDocument),
-            copy: copy(ONE, 0, 1),
+        came: Err(Fault::NotFetched),
+        copy: Some(Held {
+            document: ONE,
+            run: 0,
+            version: 1,
+        }),
+    },
+    Case {
+        turn: Turn {
+            delta: Reply::Certified(
+                "{",
+                Cert {
+                    run: 0,
+                    base: 1,
+                    version: 1,
+                },
+            ),
+            apps: Reply::Fails,
         },
-        Case {
-            turn: Turn {
-                delta: Reply::Certified(GONE, certificate(0, 1, 3)),
-                apps: Reply::Fails,
-            },
-            came: Ok(Refreshed::Delta),
-            copy: copy(NONE, 0, 3),
+        came: Err(Fault::BadDocument),
+        copy: Some(Held {
+            document: ONE,
+            run: 0,
+            version: 1,
+        }),
+    },
+    Case {
+        turn: Turn {
+            delta: Reply::Certified(
+                GONE,
+                Cert {
+                    run: 0,
+                    base: 1,
+                    version: 3,
+                },
+            ),
+            apps: Reply::Fails,
         },
-        Case {
-            turn: Turn {
-                delta: Reply::Certified(GONE, certificate(7, 0, 3)),
-                apps: Reply::Certified(ONE, certificate(7, 1, 1)),
-            },
-            came: Ok(Refreshed::DeltaThenFull),
-            copy: copy(ONE, 7, 1),
+        came: Ok(Refreshed::Delta),
+        copy: Some(Held {
+            document: NONE,
+            run: 0,
+            version: 3,
+        }),
+    },
+    Case {
+        turn: Turn {
+            delta: Reply::Certified(
+                GONE,
+                Cert {
+                    run: 7,
+                    base: 0,
+                    version: 3,
+                },
+            ),
+            apps: Reply::Certified(
+                ONE,
+                Cert {
+                    run: 7,
+                    base: 1,
+                    version: 1,
+                },
+            ),
         },
-        Case {
-            turn: Turn {
-                delta: Reply::Is(403, ""),
-                apps: Reply::Certified(NONE, certificate(6, 0, 0)),
-            },
-            came: Ok(Refreshed::Full),
-            copy: copy(NONE, 6, 0),
+        came: Ok(Refreshed::DeltaThenFull),
+        copy: Some(Held {
+            document: ONE,
+            run: 7,
+            version: 1,
+        }),
+    },
+    Case {
+        turn: Turn {
+            delta: Reply::Is(403, ""),
+            apps: Reply::Certified(
+                NONE,
+                Cert {
+                    run: 6,
+                    base: 0,
+                    version: 0,
+                },
+            ),
         },
-    ]
-}
+        came: Ok(Refreshed::Full),
+        copy: Some(Held {
+            document: NONE,
+            run: 6,
+            version: 0,
+        }),
+    },
+];
 
 fn is_copy<'a>(
     alloc: Global,
@@ -185,20 +306,19 @@ fn cases_came(
     turn: &Cell<Turn>,
 ) -> Result<usize, Fault> {
     let mut before = None;
-    let cases = cases();
-    for (i, case) in cases.iter().enumerate() {
+    for (i, case) in CASES.iter().enumerate() {
         turn.set(case.turn);
         if !comes_to(alloc, client, before, case)? {
             return Ok(i);
         }
         before = case.copy;
     }
-    Ok(cases.len())
+    Ok(CASES.len())
 }
 
 /// Of how many cases it has to come so.
 pub(crate) fn wanted() -> usize {
-    cases().len()
+    CASES.len()
 }
 
 /// A certified client refreshes by the certificates of documents.
