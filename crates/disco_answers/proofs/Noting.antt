@@ -12,12 +12,12 @@ use Rattle.disco_core.specs.State.{Rules}
 use Rattle.disco_rounds.specs.Press.{Note, change}
 use Rattle.disco_hub.specs.State.{rules_of}
 use Rattle.disco_message.specs.ReplyText.{Answer}
-use Rattle.disco_calls.specs.Calls.{Asks, loads, shows, shows_id, writes, lacks, seen}
+use Rattle.disco_calls.specs.Calls.{Asks, loads, shows, shows_id, writes, lacks, call_view}
 use Rattle.disco_calls.specs.declared.call.Call.{Call}
 use Rattle.disco_press.specs.Desks.{CountsBySeat, DeskState, Notes, NotesNothing, note_done, notes_of}
 use Rattle.disco_press.specs.Seats.{SeatState}
 use Rattle.disco_answers.specs.Desks.{IsAnsweredBySome, IsAnsweredOn}
-use Rattle.disco_answers.specs.Replies.{IsAnswered, IsReply, Replies, refused}
+use Rattle.disco_answers.specs.Replies.{IsAnswered, IsReply, Replies, refusal_answer}
 use Rattle.disco_answers.proofs.Answering.{changes_by, changes_of, refused_so}
 
 -- ---- what asks for no operation
@@ -77,19 +77,19 @@ counts before after (Err e) counted same = omega (arith, ap (λ (s : SeatState).
 
 -- ---- a request that was read
 
-pub call_on : (old new : DeskState) (before after : SeatState) (called : Result Call Fault) (call : Call) → called ≡ Ok call → (now : ℕ) (y : Answer) → IsAnsweredOn old new before after (Ok (seen call)) now y → (asked : Result Asks Fault) → Gives seen called asked → IsAnsweredOn old new before after asked now y
+pub call_on : (old new : DeskState) (before after : SeatState) (called : Result Call Fault) (call : Call) → called ≡ Ok call → (now : ℕ) (y : Answer) → IsAnsweredOn old new before after (Ok (call_view call)) now y → (asked : Result Asks Fault) → Gives call_view called asked → IsAnsweredOn old new before after asked now y
 call_on old new before after called call is now y so asked gives =
-    let wanted = subst (λ r. Gives seen r asked) is gives in
+    let wanted = subst (λ r. Gives call_view r asked) is gives in
     subst (λ a. IsAnsweredOn old new before after a now y) (sym wanted) so
 
 -- a request that is refused for itself
-pub refused_on : (d : DeskState) (s : SeatState) (called : Result Call Fault) (e : Fault) → called ≡ Err e → (now : ℕ) (y : Answer) → y ≡ refused e → (asked : Result Asks Fault) → Gives seen called asked → IsAnsweredOn d d s s asked now y
+pub refused_on : (d : DeskState) (s : SeatState) (called : Result Call Fault) (e : Fault) → called ≡ Err e → (now : ℕ) (y : Answer) → y ≡ refusal_answer e → (asked : Result Asks Fault) → Gives call_view called asked → IsAnsweredOn d d s s asked now y
 refused_on d s called e is now y shown asked gives = record {
   changes = [];
   noted = (refl, sym (append-nil d.pending));
   counted = omega arith;
   by_seat = (omega arith, refl);
-  replied = refused_so d.hub asked e now y (subst (λ r. Gives seen r asked) is gives) shown;
+  replied = refused_so d.hub asked e now y (subst (λ r. Gives call_view r asked) is gives) shown;
 }
 
 -- ---- before and after
@@ -130,6 +130,6 @@ looked_before before mid after asked now y same knew heard so =
     }
 
 -- something that gives this was asked for
-pub some_asked : (called : Result Call Fault) → (asked : Result Asks Fault) × Gives seen called asked
-some_asked (Ok call) = (Ok (seen call), refl)
+pub some_asked : (called : Result Call Fault) → (asked : Result Asks Fault) × Gives call_view called asked
+some_asked (Ok call) = (Ok (call_view call), refl)
 some_asked (Err e) = (Err e, λ other. refl)

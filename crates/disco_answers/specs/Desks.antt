@@ -9,10 +9,10 @@ use Rattle.disco_query.specs.declared.key.DocKey.{DocKey}
 use Rattle.disco_cache.specs.declared.payload.Payload.{Payload}
 use Rattle.disco_core.specs.Past.{Past, history}
 use Rattle.disco_rounds.specs.Press.{change}
-use Rattle.disco_hub.specs.State.{StandsFor, rules_of, version_of}
+use Rattle.disco_hub.specs.State.{HubStandsFor, rules_of, version_of}
 use Rattle.disco_press.specs.Desks.{CountsBySeat, DeskState, IsValid, Notes, notes_of}
 use Rattle.disco_editions.specs.Looks.{Shows}
-use Rattle.disco_editions.specs.Rolls.{notes_in}
+use Rattle.disco_editions.specs.Logs.{notes_in}
 use Rattle.disco_press.specs.Seats.{SeatState}
 use Rattle.disco_editions.specs.declared.looking.Looked.TheVariants.{Doc}
 use Rattle.disco_message.specs.ReplyText.{Answer}
@@ -25,7 +25,7 @@ pub record IsAnsweredOn (old new : DeskState) (before after : SeatState) (asked 
   pub noted : Notes (map change changes) old new
   pub counted : after.changes ≡ before.changes + length changes
   pub by_seat : CountsBySeat (length changes) old new
-  pub replied : (p : Past) → StandsFor old.hub p → (q : Past) × IsReply (rules_of old.hub) p asked now y q × (history q ≡ history p ++ changes) × StandsFor new.hub q
+  pub replied : (p : Past) → HubStandsFor old.hub p → (q : Past) × IsReply (rules_of old.hub) p asked now y q × (history q ≡ history p ++ changes) × HubStandsFor new.hub q
 
 -- and the desk had no fewer changes than the seat, had published what the seat knew, and had noted what the seat had heard of; then the seat knows what it has published, and all that it has noted
 pub record IsAnsweredBy (old new : DeskState) (before after : SeatState) (asked : Result Asks Fault) (now : ℕ) (y : Answer) : Type 0 where
@@ -54,5 +54,5 @@ pub record IsLooked (before after : SeatState) (asked : Result Asks Fault) (y : 
   pub heard : after.heard ≡ before.heard
 
 -- a look of the seat is the reply, or that of some desk
-abbrev pub IsTold : SeatState → SeatState → Result Asks Fault → ℕ → Answer → Type 0
-IsTold before after asked now y = IsLooked before after asked y ⊎ IsAnsweredBySome before after asked now y
+abbrev pub IsLookOrCall : SeatState → SeatState → Result Asks Fault → ℕ → Answer → Type 0
+IsLookOrCall before after asked now y = IsLooked before after asked y ⊎ IsAnsweredBySome before after asked now y

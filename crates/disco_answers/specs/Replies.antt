@@ -13,7 +13,7 @@ use Rattle.disco_cache.specs.declared.payload.Payload.{Payload}
 use Rattle.disco_core.specs.Past.{Past, history, with_done}
 use Rattle.disco_core.specs.Refusals.{doc_of_id, doc_of_key, refusal_of, refusal_of_id}
 use Rattle.disco_core.specs.State.{Rules}
-use Rattle.disco_hub.specs.State.{MayServe, StandsFor, State, rules_of}
+use Rattle.disco_hub.specs.State.{MayServe, HubStandsFor, HubState, rules_of}
 use Rattle.disco_message.specs.ReplyText.{Answer}
 use Rattle.disco_message.specs.StatusLine.{refusal}
 use Rattle.disco_message.specs.declared.status_line.Allow.{Allow}
@@ -23,15 +23,15 @@ use Rattle.disco_calls.specs.Calls.{Asks, loads, shows, shows_id, writes, lacks}
 use Rattle.disco_answers.specs.declared.shared.Shared.{Shared}
 
 -- the bytes of a document that is answered
-abbrev pub text_in : Shared → List ℕ
-text_in s = (arc_value s.payload).text
+abbrev pub shared_text : Shared → List ℕ
+shared_text s = (arc_value s.payload).text
 
 -- a status alone
 abbrev pub plain : StatusLine → Answer
 plain status = record { status = status; allow = None; document = None; cert = None }
 
-abbrev pub refused : Fault → Answer
-refused fault = plain (refusal fault)
+abbrev pub refusal_answer : Fault → Answer
+refusal_answer fault = plain (refusal fault)
 
 -- the path has these methods
 abbrev pub lacking : Allow → Answer
@@ -47,41 +47,41 @@ success_of (register r) = NoContent
 success_of _ = Success
 
 -- the document of a key, unless there is a cause against it
-abbrev pub unless : Option DocKey → Option Fault → Result DocKey Fault
-unless key (Some fault) = Err fault
-unless (Some key) None = Ok key
-unless None None = Err NotFound
+abbrev pub unless_refused : Option DocKey → Option Fault → Result DocKey Fault
+unless_refused key (Some fault) = Err fault
+unless_refused (Some key) None = Ok key
+unless_refused None None = Err NotFound
 
 -- the document that is asked for after a history, or why it isn't served, where deltas are on or off
 abbrev pub document_of_id : List ℕ → Form → List Entry → Result DocKey Fault
-document_of_id id form h = unless (doc_of_id id form h) (refusal_of_id id h)
+document_of_id id form h = unless_refused (doc_of_id id form h) (refusal_of_id id h)
 
-abbrev pub document_of : Bool → DocKey → List Entry → Result DocKey Fault
-document_of on key h = unless (Some key) (refusal_of on key.query h)
+abbrev pub document_asked : Bool → DocKey → List Entry → Result DocKey Fault
+document_asked on key h = unless_refused (Some key) (refusal_of on key.query h)
 
 -- the document may be served, or the cause against it is told
-abbrev pub Shows : Past → Result DocKey Fault → Answer → Type 0
-Shows p (Err fault) y = y ≡ refused fault
-Shows p (Ok key) y = (d : Payload) × (d.key ≡ key) × MayServe d p × (y ≡ with_document d)
+abbrev pub ShowsDocument : Past → Result DocKey Fault → Answer → Type 0
+ShowsDocument p (Err fault) y = y ≡ refusal_answer fault
+ShowsDocument p (Ok key) y = (d : Payload) × (d.key ≡ key) × MayServe d p × (y ≡ with_document d)
 
 -- an operation that is accepted has happened afterwards, one that isn't is refused
-abbrev pub Does : Rules → Past → Ask → ℕ → Result (Option Entry) Fault → Answer → Past → Type 0
-Does rules p ask now (Err fault) y q = (y ≡ refused fault) × (q ≡ p)
-Does rules p ask now (Ok change) y q = (y ≡ plain (success_of ask)) × (q ≡ with_done rules.queue p now ask change)
+abbrev pub IsDone : Rules → Past → Ask → ℕ → Result (Option Entry) Fault → Answer → Past → Type 0
+IsDone rules p ask now (Err fault) y q = (y ≡ refusal_answer fault) × (q ≡ p)
+IsDone rules p ask now (Ok change) y q = (y ≡ plain (success_of ask)) × (q ≡ with_done rules.queue p now ask change)
 
 -- the reply at a moment to what is asked for, where one thing has happened before and another after
 abbrev pub Replies : Rules → Past → Result Asks Fault → ℕ → Answer → Past → Type 0
-Replies rules p (Err fault) now y q = (y ≡ refused fault) × (q ≡ p)
+Replies rules p (Err fault) now y q = (y ≡ refusal_answer fault) × (q ≡ p)
 Replies rules p (Ok (lacks allow)) now y q = (y ≡ lacking allow) × (q ≡ p)
-Replies rules p (Ok (loads key)) now y q = Shows p (document_of rules.delta key (history p)) y × (q ≡ p)
-Replies rules p (Ok (shows key form)) now y q = Shows p (document_of true (doc_of_key key form) (history p)) y × (q ≡ p)
-Replies rules p (Ok (shows_id id form)) now y q = Shows p (document_of_id id form (history p)) y × (q ≡ p)
-Replies rules p (Ok (writes ask)) now y q = Does rules p ask now (accept_after rules.limits (history p) ask now) y q
+Replies rules p (Ok (loads key)) now y q = ShowsDocument p (document_asked rules.delta key (history p)) y × (q ≡ p)
+Replies rules p (Ok (shows key form)) now y q = ShowsDocument p (document_asked true (doc_of_key key form) (history p)) y × (q ≡ p)
+Replies rules p (Ok (shows_id id form)) now y q = ShowsDocument p (document_of_id id form (history p)) y × (q ≡ p)
+Replies rules p (Ok (writes ask)) now y q = IsDone rules p ask now (accept_after rules.limits (history p) ask now) y q
 
 -- memory may always be refused, and then nothing has happened
 abbrev pub IsReply : Rules → Past → Result Asks Fault → ℕ → Answer → Past → Type 0
 IsReply rules p asked now y q = Replies rules p asked now y q ⊎ ((y ≡ plain ServiceUnavailable) × (q ≡ p))
 
 -- whatever has happened to a hub before, this is a reply to it, and the hub stands for what has happened after
-abbrev pub IsAnswered : State → State → Result Asks Fault → ℕ → Answer → Type 0
-IsAnswered old new asked now y = (p : Past) → StandsFor old p → (q : Past) × IsReply (rules_of old) p asked now y q × StandsFor new q
+abbrev pub IsAnswered : HubState → HubState → Result Asks Fault → ℕ → Answer → Type 0
+IsAnswered old new asked now y = (p : Past) → HubStandsFor old p → (q : Past) × IsReply (rules_of old) p asked now y q × HubStandsFor new q

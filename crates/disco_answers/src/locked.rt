@@ -4,9 +4,9 @@ ghost use mathlib.Core.List.{IsPrefix};
 ghost use Rattle.disco_instance.specs.Instance.{Gives};
 ghost use Rattle.disco_values.specs.declared.fault.Fault.{Fault};
 ghost use Rattle.disco_message.specs.ReplyText.{answer_of};
-ghost use Rattle.disco_calls.specs.Calls.{Asks, call, seen};
-ghost use Rattle.disco_answers.specs.Desks.{IsAnsweredBySome, IsLooked, IsTold};
-ghost use Rattle.disco_answers.specs.Replies.{text_in};
+ghost use Rattle.disco_calls.specs.Calls.{Asks, call, call_view};
+ghost use Rattle.disco_answers.specs.Desks.{IsAnsweredBySome, IsLooked, IsLookOrCall};
+ghost use Rattle.disco_answers.specs.Replies.{shared_text};
 
 use crate::desk::answer_read;
 use crate::replies::showing;
@@ -22,7 +22,7 @@ use std::sync::{Mutex, MutexGuard, Wait};
 
 /// The document that is called for, where a look finds it.
 fn looked<J: Naming>(seat: &mut Seat<J>, called: &Result<Call, Fault>) -> Option<Reply<Shared>>
-    ensures looked { IfSome result (λ reply. (asked : Result Asks Fault) → Gives seen called.now asked → IsLooked seat.old seat.new asked (answer_of text_in reply)) }
+    ensures looked { IfSome result (λ reply. (asked : Result Asks Fault) → Gives call_view called.now asked → IsLooked seat.old seat.new asked (answer_of shared_text reply)) }
     ensures known { IsPrefix seat.old.known seat.new.known }
     ensures heard { seat.new.heard ≡ seat.old.heard }
     ensures count { seat.new.changes ≡ seat.old.changes }
@@ -44,7 +44,7 @@ fn answer_locked<J: Naming, R: Wait>(
     called: Result<Call, Fault>,
     now: u64,
 ) -> Reply<Shared>
-    ensures answered { (asked : Result Asks Fault) → Gives seen called asked → IsAnsweredBySome seat.old seat.new asked now (answer_of text_in result) }
+    ensures answered { (asked : Result Asks Fault) → Gives call_view called asked → IsAnsweredBySome seat.old seat.new asked now (answer_of shared_text result) }
     ensures known { IsPrefix seat.old.known seat.new.known }
 {
     let mut guard = desk.lock(rt);
@@ -65,7 +65,7 @@ pub fn answer<J: Naming, R: Wait>(
     request: &Request,
     now: u64,
 ) -> Reply<Shared>
-    ensures told { IsTold seat.old seat.new (call request.now) now (answer_of text_in result) }
+    ensures told { IsLookOrCall seat.old seat.new (call request.now) now (answer_of shared_text result) }
     ensures known { IsPrefix seat.old.known seat.new.known }
 {
     let called = call_of(alloc, routes, request);

@@ -2,7 +2,7 @@
 ghost use Rattle.std.specs.Prelude.{◌≡◌, MatchResult};
 ghost use Rattle.disco_registry.specs.Op.{ask_of};
 ghost use Rattle.disco_message.specs.ReplyText.{answer_of};
-ghost use Rattle.disco_answers.specs.Replies.{lacking, plain, refused, success_of, text_in, with_document};
+ghost use Rattle.disco_answers.specs.Replies.{lacking, plain, refusal_answer, success_of, shared_text, with_document};
 
 use crate::shared::Shared;
 use disco_cache::Payload;
@@ -14,7 +14,7 @@ use std::sync::Arc;
 
 /// The reply of a status alone.
 fn plain(status: StatusLine) -> Reply<Shared>
-    ensures { answer_of text_in result ≡ plain status }
+    ensures { answer_of shared_text result ≡ plain status }
 {
     Reply {
         status,
@@ -26,14 +26,14 @@ fn plain(status: StatusLine) -> Reply<Shared>
 
 /// The reply to what is refused.
 pub(crate) fn refused(fault: Fault) -> Reply<Shared>
-    ensures { answer_of text_in result ≡ refused fault }
+    ensures { answer_of shared_text result ≡ refusal_answer fault }
 {
     plain(refusal(fault))
 }
 
 /// The reply where a path has other methods.
 pub(crate) fn lacking(allow: Allow) -> Reply<Shared>
-    ensures { answer_of text_in result ≡ lacking allow }
+    ensures { answer_of shared_text result ≡ lacking allow }
 {
     Reply {
         status: StatusLine::MethodNotAllowed,
@@ -45,7 +45,7 @@ pub(crate) fn lacking(allow: Allow) -> Reply<Shared>
 
 /// The reply to the load of a document, with the certificate of that.
 pub(crate) fn showing(loaded: Result<Arc<Payload, Global>, Fault>) -> Reply<Shared>
-    ensures { MatchResult loaded (λ d. answer_of text_in result ≡ with_document d.value) (λ e. answer_of text_in result ≡ refused e) }
+    ensures { MatchResult loaded (λ d. answer_of shared_text result ≡ with_document d.value) (λ e. answer_of shared_text result ≡ refusal_answer e) }
 {
     match loaded {
         Ok(payload) => Reply {
@@ -70,7 +70,7 @@ pub(crate) fn success_of(op: &Op) -> StatusLine
 
 /// The reply to an operation, which has this status where it was accepted.
 pub(crate) fn wrote(applied: Result<Applied, Fault>, success: StatusLine) -> Reply<Shared>
-    ensures { MatchResult applied (λ _. answer_of text_in result ≡ plain success) (λ e. answer_of text_in result ≡ refused e) }
+    ensures { MatchResult applied (λ _. answer_of shared_text result ≡ plain success) (λ e. answer_of shared_text result ≡ refusal_answer e) }
 {
     match applied {
         Ok(_) => plain(success),

@@ -13,9 +13,9 @@ pub struct Shared {
 }
 
 impl Document for Shared {
-    ghost use Rattle.disco_answers.specs.Replies.{text_in};
+    ghost use Rattle.disco_answers.specs.Replies.{shared_text};
 
-    ghost content = { text_in };
+    ghost content = { shared_text };
 
     fn bytes(&self) -> &[u8] {
         self.payload.text.as_slice()

@@ -14,41 +14,41 @@ use Rattle.disco_query.specs.declared.query.Query.{Query}
 use Rattle.disco_query.specs.declared.query.Query.TheVariants as query
 use Rattle.disco_query.specs.Keys.{doc_cmp, kind_of, names_in}
 use Rattle.disco_query.specs.declared.key.DocKey.{DocKey}
-use Rattle.disco_cache.specs.declared.named.Named.{Named}
-use Rattle.disco_cache.specs.declared.named.Named.TheVariants as named
+use Rattle.disco_cache.specs.declared.query_ref.QueryRef.{QueryRef}
+use Rattle.disco_cache.specs.declared.query_ref.QueryRef.TheVariants as query_ref
 use Rattle.disco_cache.specs.declared.payload.Payload.{Payload}
 
 abbrev pub Stored : Type 0
 Stored = List (Arc Payload Global)
 
-abbrev pub key_in : Arc Payload Global → DocKey
-key_in d = d.value.key
+abbrev pub doc_key : Arc Payload Global → DocKey
+doc_key d = d.value.key
 
-abbrev pub shown : Arc Payload Global → Payload
-shown d = d.value
+abbrev pub payload_in : Arc Payload Global → Payload
+payload_in d = d.value
 
-abbrev pub AreSorted : Stored → Type 0
-AreSorted ds = AreSortedBy doc_cmp key_in shown ds
+abbrev pub AreDocsSorted : Stored → Type 0
+AreDocsSorted ds = AreSortedBy doc_cmp doc_key payload_in ds
 
-abbrev pub map_of : Stored → FinMap doc_cmp Payload
-map_of ds = map_by doc_cmp key_in shown ds
+abbrev pub docs_map : Stored → FinMap doc_cmp Payload
+docs_map ds = map_by doc_cmp doc_key payload_in ds
 
 -- the document at place i is that of the key
-abbrev pub IsAt : Stored → DocKey → ℕ → Type 0
-IsAt ds k i = IsAtBy doc_cmp key_in ds k i
+abbrev pub IsDocAt : Stored → DocKey → ℕ → Type 0
+IsDocAt ds k i = IsAtBy doc_cmp doc_key ds k i
 
 -- no document is of the key, and it would go to place i
-abbrev pub IsGap : Stored → DocKey → ℕ → Type 0
-IsGap ds k i = IsGapBy doc_cmp key_in ds k i
+abbrev pub IsDocGap : Stored → DocKey → ℕ → Type 0
+IsDocGap ds k i = IsGapBy doc_cmp doc_key ds k i
 
 -- the query of what is named
-abbrev pub query_of : Named → Query
-query_of named.Apps = query.Apps
-query_of named.Delta = query.Delta
-query_of (named.App name) = query.App name.now
-query_of (named.Vip vip) = query.Vip vip.now
-query_of (named.Svip vip) = query.Svip vip.now
-query_of (named.Instance key) = query.Instance key.now
+abbrev pub query_of : QueryRef → Query
+query_of query_ref.Apps = query.Apps
+query_of query_ref.Delta = query.Delta
+query_of (query_ref.App name) = query.App name.now
+query_of (query_ref.Vip vip) = query.Vip vip.now
+query_of (query_ref.Svip vip) = query.Svip vip.now
+query_of (query_ref.Instance key) = query.Instance key.now
 
 -- the order of queries: by kind, then by names
 abbrev pub query_cmp : Query → Query → Ordering

@@ -7,22 +7,22 @@ use Rattle.disco_cache.specs.declared.entry.Entry.{Entry}
 use Rattle.disco_query.specs.declared.key.DocKey.{DocKey}
 use Rattle.disco_cache.specs.declared.payload.Payload.{Payload}
 
-abbrev pub key_of : Entry → DocKey
-key_of e = e.key
+abbrev pub entry_key : Entry → DocKey
+entry_key e = e.key
 
-abbrev pub doc_in : Entry → Payload
-doc_in e = e.doc.value
+abbrev pub entry_doc : Entry → Payload
+entry_doc e = e.doc.value
 
 abbrev pub AreShelved : List Entry → Type 0
-AreShelved es = AreSortedBy doc_cmp key_of doc_in es
+AreShelved es = AreSortedBy doc_cmp entry_key entry_doc es
 
-abbrev pub map_of : List Entry → FinMap doc_cmp Payload
-map_of es = map_by doc_cmp key_of doc_in es
+abbrev pub entries_map : List Entry → FinMap doc_cmp Payload
+entries_map es = map_by doc_cmp entry_key entry_doc es
 
 -- the document at place i is that of the key
-abbrev pub IsAt : List Entry → DocKey → ℕ → Type 0
-IsAt es k i = IsAtBy doc_cmp key_of es k i
+abbrev pub IsEntryAt : List Entry → DocKey → ℕ → Type 0
+IsEntryAt es k i = IsAtBy doc_cmp entry_key es k i
 
 -- no document is of the key, and it would go to place i
-abbrev pub IsGap : List Entry → DocKey → ℕ → Type 0
-IsGap es k i = IsGapBy doc_cmp key_of es k i
+abbrev pub IsEntryGap : List Entry → DocKey → ℕ → Type 0
+IsEntryGap es k i = IsGapBy doc_cmp entry_key es k i

@@ -8,10 +8,10 @@ ghost use Rattle.disco_values.specs.declared.fault.Fault.TheVariants.{OutOfMemor
 ghost use Rattle.disco_history.specs.Query.{asks_for, is_named, vips};
 ghost use Rattle.disco_documents.specs.Documents.{asked_by};
 ghost use Rattle.disco_cache.specs.Docs.{Drops};
-ghost use Rattle.disco_cache.specs.Kept.{AreAskedAlike, AreSorted, IsAt, IsGap, doc_of, is_of, is_of_any, key_in, map_of, query_of};
+ghost use Rattle.disco_cache.specs.Kept.{AreAskedAlike, AreDocsSorted, IsDocAt, IsDocGap, doc_of, is_of, is_of_any, doc_key, docs_map, query_of};
 
-use crate::named::{Named, compare};
 use crate::payload::Payload;
+use crate::query_ref::{QueryRef, compare};
 use disco_index::next_vip;
 use disco_instance::Record;
 use disco_query::DocKey;
@@ -31,33 +31,37 @@ impl Model for DocCache {
     ghost use Rattle.std.specs.Coded.{codes};
     ghost use Rattle.std.specs.FinMap.{code};
     ghost use Rattle.disco_cache.specs.Docs.{Docs};
-    ghost use Rattle.disco_cache.specs.Kept.{AreSorted, map_of};
+    ghost use Rattle.disco_cache.specs.Kept.{AreDocsSorted, docs_map};
 
     ghost Value = { Docs };
 
     ghost coded = { Prim.hlevel (codes, code) };
 
-    ghost view = { λ c. record { docs = map_of c.docs.items; max = c.max } };
+    ghost view = { λ c. record { docs = docs_map c.docs.items; max = c.max } };
 
-    ghost invariant = { λ c. AreSorted c.docs.items };
+    ghost invariant = { λ c. AreDocsSorted c.docs.items };
 }
 
 /// Where the document of a key is, or where it would go.
 fn place(docs: &[Arc<Payload, Global>], key: &DocKey) -> Result<usize, usize>
-    requires { AreSorted docs.now }
-    ensures found { IfOk result (λ i. IsAt docs.now key.now i) }
-    ensures absent { IfErr result (λ i. IsGap docs.now key.now i) }
+    requires { AreDocsSorted docs.now }
+    ensures found { IfOk result (λ i. IsDocAt docs.now key.now i) }
+    ensures absent { IfErr result (λ i. IsDocGap docs.now key.now i) }
 {
     docs.binary_search_by(|doc| doc.key.cmp(key))
 }
 
 /// Where the document of what is named is, in a form, or where it would go.
-fn place_of(docs: &[Arc<Payload, Global>], named: Named<'_>, form: Form) -> Result<usize, usize>
-    requires { AreSorted docs.now }
-    ensures found { IfOk result (λ i. IsAt docs.now (doc_of (query_of named.entry) form) i) }
-    ensures absent { IfErr result (λ i. IsGap docs.now (doc_of (query_of named.entry) form) i) }
+fn place_of(
+    docs: &[Arc<Payload, Global>],
+    query_ref: QueryRef<'_>,
+    form: Form,
+) -> Result<usize, usize>
+    requires { AreDocsSorted docs.now }
+    ensures found { IfOk result (λ i. IsDocAt docs.now (doc_of (query_of query_ref.entry) form) i) }
+    ensures absent { IfErr result (λ i. IsDocGap docs.now (doc_of (query_of query_ref.entry) form) i) }
 {
-    docs.binary_search_by(|doc| compare(&doc.key, named, form))
+    docs.binary_search_by(|doc| compare(&doc.key, query_ref, form))
 }
 
 /// Inserts a document where it goes, if there are fewer than `max`. Answers whether it did.
@@ -81,7 +85,7 @@ fn insert(
 }
 
 fn keys_of(docs: &[Arc<Payload, Global>], alloc: Global) -> Result<Vec<&DocKey>, Fault>
-    ensures keys { IfOk result (λ keys. map (λ k. k.now) keys.items ≡ map key_in docs.now) }
+    ensures keys { IfOk result (λ keys. map (λ k. k.now) keys.items ≡ map doc_key docs.now) }
     ensures memory { IfErr result (λ e. e ≡ OutOfMemory) }
 {
     let mut keys = Vec::with_capacity(alloc, docs.len())?;
@@ -188,10 +192,10 @@ impl DocCache {
     fn forget(&mut self, rec: &Record)
         ensures { Drops (λ k. asks_for (asked_by k.query) (row rec.now)) self.old self.new }
     {
-        self.drop_both(Named::Apps);
-        self.drop_both(Named::Delta);
-        self.drop_both(Named::App(rec.key.app.as_str()));
-        self.drop_both(Named::Instance(&rec.key));
+        self.drop_both(QueryRef::Apps);
+        self.drop_both(QueryRef::Delta);
+        self.drop_both(QueryRef::App(rec.key.app.as_str()));
+        self.drop_both(QueryRef::Instance(&rec.key));
         self.drop_vips(rec.vip_address.as_str(), false);
         self.drop_vips(rec.secure_vip_address.as_str(), true);
     }
@@ -202,24 +206,24 @@ impl DocCache {
     {
         let mut rest = address;
         while let Some((vip, after)) = next_vip(rest) {
-            self.drop_both(Named::of_vip(vip, secure));
+            self.drop_both(QueryRef::of_vip(vip, secure));
             rest = after;
         }
     }
 
     /// Drops the documents of what is named, in both forms.
-    fn drop_both(&mut self, named: Named<'_>)
-        ensures { Drops (is_of (query_of named.entry)) self.old self.new }
+    fn drop_both(&mut self, query_ref: QueryRef<'_>)
+        ensures { Drops (is_of (query_of query_ref.entry)) self.old self.new }
     {
-        self.drop_one(named, Form::Full);
-        self.drop_one(named, Form::Compact);
+        self.drop_one(query_ref, Form::Full);
+        self.drop_one(query_ref, Form::Compact);
     }
 
-    fn drop_one(&mut self, named: Named<'_>, form: Form)
-        ensures docs { self.new.docs ≡ finmap.remove self.old.docs (doc_of (query_of named.entry) form) }
+    fn drop_one(&mut self, query_ref: QueryRef<'_>, form: Form)
+        ensures docs { self.new.docs ≡ finmap.remove self.old.docs (doc_of (query_of query_ref.entry) form) }
         ensures max { self.new.max ≡ self.old.max }
     {
-        if let Ok(i) = place_of(&self.docs, named, form) {
+        if let Ok(i) = place_of(&self.docs, query_ref, form) {
             let _ = self.docs.remove(i);
         }
     }

@@ -2,7 +2,7 @@
 ghost use Rattle.std.specs.Prelude.{◌≡◌, IfErr, IfOk, IfSome, OnErr, OnOk, option_map};
 ghost use Rattle.std.specs.FinMap as finmap;
 ghost use Rattle.disco_values.specs.declared.fault.Fault.TheVariants.{OutOfMemory};
-ghost use Rattle.disco_cache.specs.Shelved.{AreShelved, IsAt, IsGap};
+ghost use Rattle.disco_cache.specs.Shelved.{AreShelved, IsEntryAt, IsEntryGap};
 
 use crate::entry::Entry;
 use crate::payload::Payload;
@@ -22,14 +22,14 @@ impl Model for Edition {
     ghost use Rattle.std.specs.Coded.{codes};
     ghost use Rattle.std.specs.FinMap.{FinMap, code};
     ghost use Rattle.disco_query.specs.Keys.{doc_cmp};
-    ghost use Rattle.disco_cache.specs.Shelved.{AreShelved, map_of};
+    ghost use Rattle.disco_cache.specs.Shelved.{AreShelved, entries_map};
     ghost use Rattle.disco_cache.specs.declared.payload.Payload.{Payload};
 
     ghost Value = { FinMap doc_cmp Payload };
 
     ghost coded = { Prim.hlevel (codes, code) };
 
-    ghost view = { λ e. map_of e.entries.items };
+    ghost view = { λ e. entries_map e.entries.items };
 
     ghost invariant = { λ e. AreShelved e.entries.items };
 }
@@ -37,8 +37,8 @@ impl Model for Edition {
 /// Where the document of a key is, or where it would go.
 fn place(entries: &[Entry], key: &DocKey) -> Result<usize, usize>
     requires { AreShelved entries.now }
-    ensures found { IfOk result (λ i. IsAt entries.now key.now i) }
-    ensures absent { IfErr result (λ i. IsGap entries.now key.now i) }
+    ensures found { IfOk result (λ i. IsEntryAt entries.now key.now i) }
+    ensures absent { IfErr result (λ i. IsEntryGap entries.now key.now i) }
 {
     entries.binary_search_by(|entry| entry.key.compare(key))
 }

@@ -4,8 +4,8 @@
 mod cache;
 mod edition;
 mod entry;
-mod named;
 mod payload;
+mod query_ref;
 
 pub use cache::DocCache;
 pub use disco_query::DocKey;

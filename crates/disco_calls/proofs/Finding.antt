@@ -4,8 +4,8 @@ use Rattle.std.specs.Str.{IsUtf8, is_utf8}
 use Rattle.std.proofs.lemmas.Str.{IsUtf8-from_is_utf8, is_utf8-from_IsUtf8}
 use Rattle.disco_values.specs.declared.fault.Fault.{Fault}
 use Rattle.disco_values.specs.declared.fault.Fault.TheVariants.{BadRequest}
-use Rattle.disco_message.specs.Asked.{Asked}
-use Rattle.disco_routes.specs.Paths.{place_at}
+use Rattle.disco_message.specs.Asked.{RequestView}
+use Rattle.disco_routes.specs.Paths.{path_place}
 use Rattle.disco_routes.specs.declared.place.Place.{Place}
 use Rattle.disco_calls.specs.Calls.{Asks, call, called_in}
 use Rattle.disco_calls.specs.Methods.{method_of}
@@ -16,11 +16,11 @@ if_not true one other refute = absurd (refute refl)
 if_not false one other refute = refl
 
 -- a path that is no text
-pub no_text : (a : Asked) (path : List ℕ) → path ≡ path_in a.target → (IsUtf8 path → ⊥) → call a ≡ Err BadRequest
+pub no_text : (a : RequestView) (path : List ℕ) → path ≡ path_in a.target → (IsUtf8 path → ⊥) → call a ≡ Err BadRequest
 no_text a path e refute = if_not (is_utf8 (path_in a.target)) _ (Err BadRequest) (λ yes. refute (rw e (IsUtf8-from_is_utf8 _ yes)))
 
 -- a path that is text, and what is found of it
-pub text : (a : Asked) (path q : List ℕ) (found : Option (Place (List ℕ))) → path ≡ path_in a.target → q ≡ query_in a.target → IsUtf8 path → found ≡ place_at path → call a ≡ called_in (method_of a.method) found a q
+pub text : (a : RequestView) (path q : List ℕ) (found : Option (Place (List ℕ))) → path ≡ path_in a.target → q ≡ query_in a.target → IsUtf8 path → found ≡ path_place path → call a ≡ called_in (method_of a.method) found a q
 text a path q found e f utf8 g =
     let yes : is_utf8 (path_in a.target) ≡ true = is_utf8-from_IsUtf8 _ (rw e at utf8) in
     rw (yes, f, g, e) refl

@@ -26,10 +26,10 @@ takes_json fields =
     not (have_word (codes "xml") accepted) || have_word (codes "json") accepted || have_word (codes "*/*") accepted
 
 -- the form that the first value names
-abbrev pub form_named : List (List ℕ) → Form
-form_named [] = Full
-form_named (v ∷ vs) = if eq_ignore_case v (codes "compact") then Compact else Full
+abbrev pub form_accepted : List (List ℕ) → Form
+form_accepted [] = Full
+form_accepted (v ∷ vs) = if eq_ignore_case v (codes "compact") then Compact else Full
 
 -- the form that is asked for (Eureka's `X-Eureka-Accept`)
 abbrev pub form_of : List (List ℕ × List ℕ) → Form
-form_of fields = form_named (values (codes "x-eureka-accept") fields)
+form_of fields = form_accepted (values (codes "x-eureka-accept") fields)

@@ -7,10 +7,10 @@ use Rattle.disco_values.specs.declared.fault.Fault.{Fault}
 use Rattle.disco_values.specs.declared.fault.Fault.TheVariants.{BadMethod, BadRequest, BadStatus, NotAcceptable, NotFound}
 use Rattle.disco_values.specs.declared.form.Form.{Form}
 use Rattle.disco_values.specs.declared.key.Key.{Key}
-use Rattle.disco_message.specs.Asked.{Asked}
+use Rattle.disco_message.specs.Asked.{RequestView}
 use Rattle.disco_message.specs.declared.status_line.Allow.{Allow}
 use Rattle.disco_registry.specs.Op.{Ask, ask_of, cancel, renew, set_status, drop_status, add_metadata}
-use Rattle.disco_routes.specs.Paths.{place_at}
+use Rattle.disco_routes.specs.Paths.{path_place}
 use Rattle.disco_routes.specs.declared.place.Place.{Place}
 use Rattle.disco_routes.specs.declared.place.Place.TheVariants as place
 use Rattle.disco_wire.specs.Registration.{registration_of}
@@ -18,7 +18,7 @@ use Rattle.disco_query.specs.declared.query.Query.{Query}
 use Rattle.disco_query.specs.declared.query.Query.TheVariants as query
 use Rattle.disco_calls.specs.Accept.{form_of, takes_json}
 use Rattle.disco_calls.specs.Decoding.{decoded}
-use Rattle.disco_calls.specs.Methods.{allow_of, lists, method_of}
+use Rattle.disco_calls.specs.Methods.{allow_of, lists_method, method_of}
 use Rattle.disco_calls.specs.Query.{path_in, query_in}
 use Rattle.disco_operations.specs.Operations.{key_named, registers}
 use Rattle.disco_operations.specs.Query.{entries_of_query, value_of}
@@ -36,12 +36,12 @@ pub data Asks : Type 0 where
   lacks : Allow → Asks
 
 -- a call as plain data
-abbrev pub seen : Call → Asks
-seen (calls.Load key) = loads key
-seen (calls.Instance key form) = shows key form
-seen (calls.ById id form) = shows_id id form
-seen (calls.Write op) = writes (ask_of op)
-seen (calls.Lacks allow) = lacks allow
+abbrev pub call_view : Call → Asks
+call_view (calls.Load key) = loads key
+call_view (calls.Instance key form) = shows key form
+call_view (calls.ById id form) = shows_id id form
+call_view (calls.Write op) = writes (ask_of op)
+call_view (calls.Lacks allow) = lacks allow
 
 abbrev pub document : Query → Form → Result Asks Fault
 document q form = Ok (loads (record { query = q; form = form }))
@@ -58,7 +58,7 @@ read_of (place.Id id) form = Ok (shows_id id form)
 read_of _ form = Err BadMethod
 
 -- GET, by a reader that takes JSON
-abbrev pub call_of_get : Place (List ℕ) → Asked → Result Asks Fault
+abbrev pub call_of_get : Place (List ℕ) → RequestView → Result Asks Fault
 call_of_get place a = if takes_json a.fields then read_of place (form_of a.fields) else Err NotAcceptable
 
 -- POST, with a registration as its body
@@ -72,11 +72,11 @@ sets key None = Err BadStatus
 sets key (Some value) = Ok (set_status key value)
 
 -- PUT, with a query
-abbrev pub put_of : Place (List ℕ) → List ℕ → Result Ask Fault
-put_of (place.Instance app id) q = Ok (renew (key_named app id))
-put_of (place.Status app id) q = sets (key_named app id) (value_of q)
-put_of (place.Metadata app id) q = Ok (add_metadata (key_named app id) (entries_of_query q))
-put_of _ q = Err BadMethod
+abbrev pub put_call : Place (List ℕ) → List ℕ → Result Ask Fault
+put_call (place.Instance app id) q = Ok (renew (key_named app id))
+put_call (place.Status app id) q = sets (key_named app id) (value_of q)
+put_call (place.Metadata app id) q = Ok (add_metadata (key_named app id) (entries_of_query q))
+put_call _ q = Err BadMethod
 
 -- DELETE, with a query
 abbrev pub delete_of : Place (List ℕ) → List ℕ → Result Ask Fault
@@ -89,26 +89,26 @@ writing (Err e) = Err e
 writing (Ok ask) = Ok (writes ask)
 
 -- what a method asks for at a place
-abbrev pub call_by : Method → Place (List ℕ) → Asked → List ℕ → Result Asks Fault
+abbrev pub call_by : Method → Place (List ℕ) → RequestView → List ℕ → Result Asks Fault
 call_by Get place a q = call_of_get place a
 call_by Post place a q = writing (post_of place a.body)
-call_by Put place a q = writing (put_of place q)
+call_by Put place a q = writing (put_call place q)
 call_by Delete place a q = writing (delete_of place q)
 call_by Other place a q = Err BadMethod
 
 -- the same where the place's names are text
-abbrev pub call_with : Method → Option (Place (List ℕ)) → Asked → List ℕ → Result Asks Fault
+abbrev pub call_with : Method → Option (Place (List ℕ)) → RequestView → List ℕ → Result Asks Fault
 call_with method None a q = Err BadRequest
 call_with method (Some place) a q = call_by method place a q
 
 -- what a method asks for at a place whose names are still encoded: the method is looked at first
-abbrev pub called : Method → Place (List ℕ) → Asked → List ℕ → Result Asks Fault
-called method place a q = if lists (allow_of place) method then call_with method (decoded place) a q else Ok (lacks (allow_of place))
+abbrev pub called : Method → Place (List ℕ) → RequestView → List ℕ → Result Asks Fault
+called method place a q = if lists_method (allow_of place) method then call_with method (decoded place) a q else Ok (lacks (allow_of place))
 
-abbrev pub called_in : Method → Option (Place (List ℕ)) → Asked → List ℕ → Result Asks Fault
+abbrev pub called_in : Method → Option (Place (List ℕ)) → RequestView → List ℕ → Result Asks Fault
 called_in method None a q = Err NotFound
 called_in method (Some place) a q = called method place a q
 
 -- what a request asks for, or why it is refused
-abbrev pub call : Asked → Result Asks Fault
-call a = if is_utf8 (path_in a.target) then called_in (method_of a.method) (place_at (path_in a.target)) a (query_in a.target) else Err BadRequest
+abbrev pub call : RequestView → Result Asks Fault
+call a = if is_utf8 (path_in a.target) then called_in (method_of a.method) (path_place (path_in a.target)) a (query_in a.target) else Err BadRequest

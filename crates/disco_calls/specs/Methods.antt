@@ -29,14 +29,14 @@ allow_of (Vip vip) = allow.Get
 allow_of (Svip svip) = allow.Get
 
 -- whether a method is among them
-abbrev pub lists : Allow → Method → Bool
-lists allow.Get Get = true
-lists allow.GetPost Get = true
-lists allow.GetPost Post = true
-lists allow.GetPutDelete Get = true
-lists allow.GetPutDelete Put = true
-lists allow.GetPutDelete Delete = true
-lists allow.PutDelete Put = true
-lists allow.PutDelete Delete = true
-lists allow.Put Put = true
-lists _ _ = false
+abbrev pub lists_method : Allow → Method → Bool
+lists_method allow.Get Get = true
+lists_method allow.GetPost Get = true
+lists_method allow.GetPost Post = true
+lists_method allow.GetPutDelete Get = true
+lists_method allow.GetPutDelete Put = true
+lists_method allow.GetPutDelete Delete = true
+lists_method allow.PutDelete Put = true
+lists_method allow.PutDelete Delete = true
+lists_method allow.Put Put = true
+lists_method _ _ = false

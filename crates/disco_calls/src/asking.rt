@@ -1,8 +1,8 @@
 //! From a request to what it asks for.
 ghost use Rattle.disco_instance.specs.Instance.{Gives};
 ghost use Rattle.disco_registry.specs.Op.{ask_of};
-ghost use Rattle.disco_routes.specs.Places.{shown};
-ghost use Rattle.disco_calls.specs.Calls.{call, call_by, call_of_get, called, delete_of, post_of, put_of, read_of, seen};
+ghost use Rattle.disco_routes.specs.Places.{place_view};
+ghost use Rattle.disco_calls.specs.Calls.{call, call_by, call_of_get, called, delete_of, post_of, put_call, read_of, call_view};
 
 use crate::accept::{form_of, takes_json};
 use crate::call::Call;
@@ -23,7 +23,7 @@ use std::str;
 
 /// What a GET of a place asks for, in a form.
 fn read_of(alloc: Global, place: Place<Text>, form: Form) -> Result<Call, Fault>
-    ensures { Gives seen result (read_of place form) }
+    ensures { Gives call_view result (read_of place form) }
 {
     let query = match place {
         Place::Apps => Query::Apps,
@@ -42,7 +42,7 @@ fn read_of(alloc: Global, place: Place<Text>, form: Form) -> Result<Call, Fault>
 
 /// What a GET asks for.
 fn call_of_get(alloc: Global, place: Place<Text>, request: &Request) -> Result<Call, Fault>
-    ensures { Gives seen result (call_of_get place request.now) }
+    ensures { Gives call_view result (call_of_get place request.now) }
 {
     if !takes_json(request) {
         return Err(Fault::NotAcceptable);
@@ -62,7 +62,7 @@ fn post_of(alloc: Global, place: Place<Text>, body: &[u8]) -> Result<Op, Fault>
 
 /// What a PUT with a query asks for.
 fn put_of(alloc: Global, place: Place<Text>, query: &[u8]) -> Result<Op, Fault>
-    ensures { Gives ask_of result (put_of place query.now) }
+    ensures { Gives ask_of result (put_call place query.now) }
 {
     match place {
         Place::Instance { app, id } => renew(alloc, &app, id),
@@ -96,7 +96,7 @@ fn call_by(
     request: &Request,
     query: &[u8],
 ) -> Result<Call, Fault>
-    ensures { Gives seen result (call_by method place request.now query.now) }
+    ensures { Gives call_view result (call_by method place request.now query.now) }
 {
     match method {
         Method::Get => call_of_get(alloc, place, request),
@@ -115,7 +115,7 @@ fn call_at(
     request: &Request,
     query: &[u8],
 ) -> Result<Call, Fault>
-    ensures { Gives seen result (called method (shown place.entry) request.now query.now) }
+    ensures { Gives call_view result (called method (place_view place.entry) request.now query.now) }
 {
     let allow = allow_of(&place);
     if !lists(allow, method) {
@@ -133,7 +133,7 @@ fn call_at(
 /// `BadJson`, `MissingField`, `MismatchedApp` or `BadStatus` where an operation is asked for that is
 /// wrong by itself; and as `OutOfMemory`. A path that lacks the method is answered by what it has.
 pub fn call_of(alloc: Global, routes: &Routes, request: &Request) -> Result<Call, Fault>
-    ensures { Gives seen result (call request.now) }
+    ensures { Gives call_view result (call request.now) }
 {
     let (path, query) = split_target(request.target());
     let Ok(path) = str::from_utf8(path) else {

@@ -1,7 +1,7 @@
 //! Places with their names decoded.
 ghost use Rattle.std.specs.Prelude.{◌≡◌, IfOk, IfErr};
 ghost use Rattle.disco_values.specs.declared.fault.Fault.TheVariants.{OutOfMemory};
-ghost use Rattle.disco_routes.specs.Places.{shown};
+ghost use Rattle.disco_routes.specs.Places.{place_view};
 ghost use Rattle.disco_calls.specs.Decoding.{decoded, two_texts};
 
 use disco_operations::decoded_text;
@@ -26,7 +26,7 @@ fn two_texts(alloc: Global, one: &[u8], other: &[u8]) -> Result<Option<(Text, Te
 /// A place with what its names spell, `None` where one of them spells no text. Refused only as
 /// `OutOfMemory`.
 pub(crate) fn decoded(alloc: Global, place: Place<&[u8]>) -> Result<Option<Place<Text>>, Fault>
-    ensures place { IfOk result (λ found. found ≡ decoded (shown place.entry)) }
+    ensures place { IfOk result (λ found. found ≡ decoded (place_view place.entry)) }
     ensures memory { IfErr result (λ e. e ≡ OutOfMemory) }
 {
     match place {

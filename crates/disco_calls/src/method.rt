@@ -1,7 +1,7 @@
 //! Methods, and which of them a path has.
 ghost use Rattle.std.specs.Prelude.{◌≡◌};
 ghost use Rattle.std.specs.Str.{bytes_eq};
-ghost use Rattle.disco_calls.specs.Methods.{allow_of, lists, method_of};
+ghost use Rattle.disco_calls.specs.Methods.{allow_of, lists_method, method_of};
 
 use disco_message::Allow;
 use disco_routes::Place;
@@ -55,7 +55,7 @@ pub(crate) fn allow_of<T>(place: &Place<T>) -> Allow
 
 /// Whether a method is among them.
 pub(crate) fn lists(allow: Allow, method: Method) -> bool
-    ensures { result ≡ lists allow method }
+    ensures { result ≡ lists_method allow method }
 {
     match method {
         Method::Get => matches!(allow, Allow::Get | Allow::GetPost | Allow::GetPutDelete),

@@ -9,19 +9,19 @@ use Rattle.disco_values.specs.Status.{is_same}
 use Rattle.disco_values.specs.Text.{in_upper_case}
 use Rattle.disco_values.specs.declared.status.Status.TheVariants.{Up}
 use Rattle.disco_history.specs.Change.{Entry}
-use Rattle.disco_history.specs.Chosen.{chosen}
+use Rattle.disco_history.specs.Chosen.{map_at}
 use Rattle.disco_history.specs.Hash.{hash}
 use Rattle.disco_history.specs.Held.{record_at}
 use Rattle.disco_history.specs.Query.{vips}
 use Rattle.disco_index.specs.Tally.{Tally, tally_in}
 
 -- the records of some entries, by key
-abbrev pub rows_in : FinMap key_cmp Entry → FinMap key_cmp Row
-rows_in m = chosen (record_at m) (keys m)
+abbrev pub rows_by_key : FinMap key_cmp Entry → FinMap key_cmp Row
+rows_by_key m = map_at (record_at m) (keys m)
 
 -- the counts are those of the records
-abbrev pub IsTied : FinMap key_cmp Entry → Tally → Type 0
-IsTied m t = t ≡ tally_in m
+abbrev pub IsCounted : FinMap key_cmp Entry → Tally → Type 0
+IsCounted m t = t ≡ tally_in m
 
 -- the document has a hash code, and it is that of the records (Eureka's test of a delta)
 abbrev pub hash_equal : Option (List ℕ) → FinMap key_cmp Row → Bool

@@ -7,15 +7,15 @@ use Rattle.disco_history.specs.Change.{Entry, key_of}
 use Rattle.disco_history.specs.Registry.{put_of}
 
 -- the entry that a key gets, if it gets one
-abbrev pub with_entry : FinMap key_cmp Entry → Key → Option Entry → FinMap key_cmp Entry
-with_entry m k None = remove m k
-with_entry m k (Some e) = insert m k e
+abbrev pub with_key : FinMap key_cmp Entry → Key → Option Entry → FinMap key_cmp Entry
+with_key m k None = remove m k
+with_key m k (Some e) = insert m k e
 
 -- what an entry put goes in, and what it deleted goes out
-abbrev pub after : FinMap key_cmp Entry → Entry → FinMap key_cmp Entry
-after m e = with_entry m (key_of e) (put_of e)
+abbrev pub put_or_taken : FinMap key_cmp Entry → Entry → FinMap key_cmp Entry
+put_or_taken m e = with_key m (key_of e) (put_of e)
 
 -- the same of one entry after another
 abbrev pub after_all : FinMap key_cmp Entry → List Entry → FinMap key_cmp Entry
 after_all m [] = m
-after_all m (e ∷ es) = after_all (after m e) es
+after_all m (e ∷ es) = after_all (put_or_taken m e) es

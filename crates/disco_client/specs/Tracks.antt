@@ -6,9 +6,9 @@ use Rattle.disco_instance.specs.Row.{Row}
 use Rattle.disco_values.specs.declared.cert.Cert.{Cert}
 use Rattle.disco_values.specs.declared.form.Form.{Form}
 use Rattle.disco_values.specs.declared.form.Form.TheVariants.{Full, Compact}
-use Rattle.disco_history.specs.Change.{Entry, front}
+use Rattle.disco_history.specs.Change.{Entry, prefix}
 use Rattle.disco_history.specs.Forms.{in_form}
-use Rattle.disco_history.specs.Registry.{reg}
+use Rattle.disco_history.specs.Registry.{registry_of}
 use Rattle.disco_client.specs.declared.known.Known.{Known}
 
 -- the history of each run of a server, by the number of the run
@@ -38,5 +38,5 @@ abbrev pub gives_way : Cert → Known → Bool
 gives_way c k = not (c.run == k.run) || nat_le k.version c.version
 
 -- the records are that version of a history, in its form
-abbrev pub IsAt : List Entry → Known → FinMap key_cmp Row → Type 0
-IsAt h k s = (k.version ≤ length h) × (s ≡ in_form k.form (reg (front h k.version)))
+abbrev pub IsVersionIn : List Entry → Known → FinMap key_cmp Row → Type 0
+IsVersionIn h k s = (k.version ≤ length h) × (s ≡ in_form k.form (registry_of (prefix h k.version)))

@@ -36,13 +36,13 @@ impl Model for Copy {
     ghost use Rattle.disco_instance.specs.Row.{Row};
     ghost use Rattle.std.specs.Coded.{codes};
     ghost use Rattle.std.specs.FinMap.{code};
-    ghost use Rattle.disco_client.specs.Copies.{rows_in};
+    ghost use Rattle.disco_client.specs.Copies.{rows_by_key};
 
     ghost Value = { FinMap key_cmp Row };
 
     ghost coded = { Prim.hlevel (codes, code) };
 
-    ghost view = { λ c. rows_in c.counted.held };
+    ghost view = { λ c. rows_by_key c.counted.held };
 }
 
 /// Whether a document is of many apps.

@@ -6,7 +6,7 @@ ghost use Rattle.disco_values.specs.declared.fault.Fault.TheVariants.{OutOfMemor
 ghost use Rattle.disco_history.specs.Hash.{hash};
 ghost use Rattle.disco_history.specs.Held.{entry_of, record_at, seen_record};
 ghost use Rattle.disco_index.specs.Tally.{rows_of, tally_in, without};
-ghost use Rattle.disco_client.specs.Steps.{after, after_all};
+ghost use Rattle.disco_client.specs.Steps.{put_or_taken, after_all};
 
 use disco_history::{Held, RecordList};
 use disco_index::Counts;
@@ -26,7 +26,7 @@ impl Model for Counted {
     ghost use Rattle.std.specs.Coded.{codes};
     ghost use Rattle.std.specs.FinMap.{code};
     ghost use Rattle.disco_history.specs.Room.{Room};
-    ghost use Rattle.disco_client.specs.Copies.{IsTied};
+    ghost use Rattle.disco_client.specs.Copies.{IsCounted};
 
     ghost Value = { Room };
 
@@ -34,7 +34,7 @@ impl Model for Counted {
 
     ghost view = { λ c. c.records };
 
-    ghost invariant = { λ c. IsTied c.records.held c.counts };
+    ghost invariant = { λ c. IsCounted c.records.held c.counts };
 }
 
 /// Counts no more what is held at a key.
@@ -94,7 +94,7 @@ impl Counted {
     /// Puts the record in, or takes that of its key out where it was deleted.
     fn follow(&mut self, change: Held)
         requires { 0 < self.old.room }
-        ensures held { self.new.held ≡ after self.old.held (entry_of change) }
+        ensures held { self.new.held ≡ put_or_taken self.old.held (entry_of change) }
         ensures room { self.old.room ≤ self.new.room + 1 }
     {
         match change.action {

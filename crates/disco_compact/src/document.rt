@@ -5,7 +5,7 @@ ghost use Rattle.disco_values.specs.declared.form.Form.TheVariants.{Compact};
 ghost use Rattle.disco_history.specs.Change.{Entry};
 ghost use Rattle.disco_index.specs.Tally.{tally_in};
 ghost use Rattle.disco_index.specs.Vips.{IsIndexOf};
-ghost use Rattle.disco_queue.specs.Queue.{Keeps};
+ghost use Rattle.disco_queue.specs.Queue.{KeepsHistory};
 ghost use Rattle.disco_queue.specs.Timed.{Timed, changes};
 ghost use Rattle.disco_registry.specs.State.{StandsFor};
 ghost use Rattle.disco_documents.specs.Documents.{IsWritten};
@@ -36,7 +36,7 @@ pub fn write_compact(
     ensures written { IfOk result (λ o. is_delta query.now ≡ false
         → (h : List Entry) → StandsFor registry.now h → IsWritten Compact query.now h (length h) (option_map (λ v. v.items) o)) }
     ensures delta { IfOk result (λ o. is_delta query.now ≡ true
-        → (h : List Timed) → StandsFor registry.now (changes h) → Keeps queue.now h → IsWritten Compact query.now (changes h) queue.now.base (option_map (λ v. v.items) o)) }
+        → (h : List Timed) → StandsFor registry.now (changes h) → KeepsHistory queue.now h → IsWritten Compact query.now (changes h) queue.now.base (option_map (λ v. v.items) o)) }
     ensures memory { IfErr result (λ e. e ≡ OutOfMemory) }
 {
     write_document(

@@ -2,9 +2,9 @@
 use Rattle.std.specs.Prelude.{◌≡◌, ◌<◌, ◌⊎◌, None}
 use Rattle.disco_values.specs.declared.fault.Fault.{Fault}
 use Rattle.disco_values.specs.declared.fault.Fault.TheVariants.{OutOfMemory, ReadFailed}
-use Rattle.disco_connections.specs.declared.door.Door.{Door}
-use Rattle.disco_connections.specs.declared.door.Refusal.{Refusal}
-use Rattle.disco_connections.specs.declared.door.Refusal.TheVariants.{NoMemory, ByHost}
+use Rattle.disco_connections.specs.declared.acceptor.Acceptor.{Acceptor}
+use Rattle.disco_connections.specs.declared.acceptor.Refusal.{Refusal}
+use Rattle.disco_connections.specs.declared.acceptor.Refusal.TheVariants.{NoMemory, ByHost}
 
 -- as what a refusal is told
 abbrev pub fault_of : Refusal → Fault
@@ -12,5 +12,5 @@ fault_of NoMemory = OutOfMemory
 fault_of ByHost = ReadFailed
 
 -- none was refused, and as many as may be taken were not taken yet; where that number is 0 there is no end
-abbrev pub IsOpen : Door → Type 0
-IsOpen door = (door.refused ≡ None) × (door.most ≡ 0 ⊎ door.taken < door.most)
+abbrev pub IsOpen : Acceptor → Type 0
+IsOpen acceptor = (acceptor.refused ≡ None) × (acceptor.most ≡ 0 ⊎ acceptor.taken < acceptor.most)

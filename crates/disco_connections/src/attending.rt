@@ -45,7 +45,7 @@ fn prepare(stream: &TcpStream, waits: &Waits) -> io::Result<()> {
 }
 
 /// Answers the requests of a connection. Gives the buffers back, and says why it ended.
-fn converse<S: Service, R: rt::Clock>(
+fn serve_stream<S: Service, R: rt::Clock>(
     alloc: Global,
     buffers: Buffers,
     stream: &TcpStream,
@@ -64,7 +64,7 @@ fn converse<S: Service, R: rt::Clock>(
 
 /// Answers the requests of a connection and ends it: as the requests ask, and where it is waited for
 /// no longer or gives way to another. One that the host doesn't let be prepared is left as it is.
-pub fn attend<S: Service, R: rt::Clock>(
+pub fn serve_connection<S: Service, R: rt::Clock>(
     rt: &R,
     alloc: Global,
     buffers: Buffers,
@@ -77,7 +77,7 @@ pub fn attend<S: Service, R: rt::Clock>(
         return buffers;
     }
     let waiting = Waiting::new(rt, post, waits);
-    let (buffers, end) = converse(alloc, buffers, stream, waiting, service);
+    let (buffers, end) = serve_stream(alloc, buffers, stream, waiting, service);
     end_connection(stream, end);
     buffers
 }

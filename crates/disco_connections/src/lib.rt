@@ -1,11 +1,11 @@
 //! Connections of sockets, and the workers that serve them: [`listen`] opens a listener,
-//! [`next_connection`] takes a connection through the [`Door`], and [`attend`] serves it to its end. A
+//! [`next_connection`] takes a connection through the [`Acceptor`], and [`attend`] serves it to its end. A
 //! connection that is silent gives way to one that waits: what [`Workers`] know of one another.
 #![tactic(auto)]
 
 mod accepting;
+mod acceptor;
 mod attending;
-mod door;
 mod draining;
 mod ending;
 mod listening;
@@ -17,8 +17,8 @@ mod waiting;
 mod waits;
 mod workers;
 
-pub use attending::{Buffers, attend};
-pub use door::{Door, Refusal};
+pub use acceptor::{Acceptor, Refusal};
+pub use attending::{Buffers, serve_connection};
 pub use draining::drain;
 pub use listening::listen;
 pub use post::Post;

@@ -15,14 +15,14 @@ use Rattle.disco_values.specs.declared.fault.Fault.TheVariants.{NotFound, TooMan
 use Rattle.disco_values.specs.declared.key.Key.{Key}
 use Rattle.disco_values.specs.declared.status.Status.{Status}
 use Rattle.disco_values.specs.declared.status.Status.TheVariants.{Unknown}
-use Rattle.disco_history.specs.Change.{Entry, key_of, seen}
+use Rattle.disco_history.specs.Change.{Entry, key_of, change_view}
 use Rattle.disco_history.specs.Held.{record_at}
-use Rattle.disco_history.specs.Registry.{reg}
+use Rattle.disco_history.specs.Registry.{registry_of}
 use Rattle.disco_history.proofs.Keys.{keys_total}
 use Rattle.disco_history.proofs.Restrictions.{held_key}
 use Rattle.disco_history.proofs.Sets.{get-reg, get-said_reg}
 use Rattle.disco_lease.specs.Leases.{Lease, Leases, Sets, counted, extended, lease_at, no_leases}
-use Rattle.disco_registry.specs.Accept.{Limits, accepts, asked, cancelled, if_left, is_new, limits_of, metadata_added, override_dropped, renewed, status_given, status_set}
+use Rattle.disco_registry.specs.Accept.{Limits, accepts, change_asked, cancel_accepted, if_left, is_new, limits_of, metadata_added, override_dropped, renewal_accepted, status_given, status_set}
 use Rattle.disco_queue.specs.Queue.{Queue}
 use Rattle.disco_queue.specs.Timed.{Timed}
 use Rattle.disco_registry.specs.Commit as commit
@@ -32,7 +32,7 @@ use Rattle.disco_registry.specs.State as registry
 use Rattle.disco_core.specs.Past.{Past, duration_at, history, marks_after, nothing, renewals_after, with_change, with_done}
 use Rattle.disco_core.specs.Moves.{GoesOn, Moves, counted_by, lease_by}
 use Rattle.disco_core.proofs.Runs.{run_done}
-use Rattle.disco_core.specs.State.{AreLeasesOf, IsFor, Prepared, Remembers, StandsFor, State, is_renewal}
+use Rattle.disco_core.specs.State.{AreLeasesOf, IsFor, Prepared, Remembers, CoreStandsFor, CoreState, is_renewal}
 use Rattle.disco_core.specs.Tied.{AreLeased}
 
 -- ---- what is accepted
@@ -76,11 +76,11 @@ left limits version (Ok (Some d)) c is = one (nat_lt version (limits.versions)) 
 done : (c d : Option Entry) → ok c ≡ ok d → d ≡ c
 done c d is = cc
 
-goes : (o : Option Row) (now : ℕ) (c : Option Entry) → cancelled o now ≡ Ok c → Goes o c
+goes : (o : Option Row) (now : ℕ) (c : Option Entry) → cancel_accepted o now ≡ Ok c → Goes o c
 goes None now c is = absurd (cc)
 goes (Some r) now c is = record { row = r; moment = now; there = refl; change = done _ c is }
 
-renews : (o : Option Row) (c : Option Entry) → renewed o ≡ Ok c → (r : Row) × (o ≡ Some r) × (c ≡ None)
+renews : (o : Option Row) (c : Option Entry) → renewal_accepted o ≡ Ok c → (r : Row) × (o ≡ Some r) × (c ≡ None)
 renews None c is = absurd (cc)
 renews (Some r) c is = one (is_same r.status Unknown) is
   where
@@ -122,7 +122,7 @@ adds_metadata (Some r) es now k c held is = record {
   change = done _ c is;
 }
 
-registers : (limits : Limits) (held : FinMap key_cmp Entry) (p : Row) (now : ℕ) (c : Option Entry) → ((r : Row) → record_at held p.key ≡ Some r → r.key ≡ p.key) → asked limits (record_at held) (len held) (register p) now ≡ Ok c → Comes p.key c
+registers : (limits : Limits) (held : FinMap key_cmp Entry) (p : Row) (now : ℕ) (c : Option Entry) → ((r : Row) → record_at held p.key ≡ Some r → r.key ≡ p.key) → change_asked limits (record_at held) (len held) (register p) now ≡ Ok c → Comes p.key c
 registers limits held p now c own is = one (is_new (record_at held p.key) && not (nat_lt (len held) (limits.instances))) is
   where
     one : (b : Bool) → cond b (no TooManyInstances) (ok (Some (settle (record_at held p.key) p now, Added))) ≡ ok c → Comes p.key c
@@ -170,8 +170,8 @@ own_of : (k : Key) (r : Row) (o : Option Entry) → ((e : Entry) → o ≡ Some 
 own_of k r None held is = absurd (cc)
 own_of k r (Some e) held is = ap (λ (x : Row). x.key) (sym (same_Some e.0 r is)) ∙ sym (held e refl)
 
-module _ (s : registry.State) (v w : Leases) (p : Past) (now : ℕ) (c : Option Entry) (renewal : Bool) (stands : registry.StandsFor s (history p)) (agree : AreLeasesOf v p) where
-  at_key : (k : Key) → record_at s.held k ≡ get (reg (history p)) k
+module _ (s : registry.RegistryState) (v w : Leases) (p : Past) (now : ℕ) (c : Option Entry) (renewal : Bool) (stands : registry.StandsFor s (history p)) (agree : AreLeasesOf v p) where
+  at_key : (k : Key) → record_at s.held k ≡ get (registry_of (history p)) k
   at_key k = ap (λ m. record_at m k) stands.held ∙ get-said_reg (history p) k
 
   own : (k : Key) (r : Row) → record_at s.held k ≡ Some r → r.key ≡ k
@@ -207,7 +207,7 @@ module _ (s : registry.State) (v w : Leases) (p : Past) (now : ℕ) (c : Option 
       let follows = subst (λ (x : Option Entry). Moves x j renewal now v w) gone.change moves in
       out_mark k v w p.marks (subst (λ (x : Key). Sets x None v w) (own k gone.row gone.there) follows.leases) agree.marks
 
-  marks_on : (ask : Ask) → asked (limits_of s) (record_at s.held) (len s.held) ask now ≡ Ok c → Moves c (asked_key ask) renewal now v w → (q : Key) → mark_of (lease_at w q) ≡ get (marks_after p now ask) q
+  marks_on : (ask : Ask) → change_asked (limits_of s) (record_at s.held) (len s.held) ask now ≡ Ok c → Moves c (asked_key ask) renewal now v w → (q : Key) → mark_of (lease_at w q) ≡ get (marks_after p now ask) q
   marks_on (register posted) is moves = comes_mark posted.key posted.key (registers (limits_of s) s.held posted now c (own posted.key) is) moves
   marks_on (cancel k) is moves = goes_mark k k (goes (record_at s.held k) now c is) moves
   marks_on (renew k) is moves = let r = renews (record_at s.held k) c is in goes_on_mark k r.0 r.1 (subst (λ (x : Option Entry). Moves x k renewal now v w) r.2 moves)
@@ -225,11 +225,11 @@ module _ (s : registry.State) (v w : Leases) (p : Past) (now : ℕ) (c : Option 
   change_count e k is moves = let follows = subst (λ (x : Option Entry). Moves x k renewal now v w) is moves in follows.renewals
 
   renew_count : (k : Key) (r : Row) → record_at s.held k ≡ Some r → c ≡ None → renewal ≡ true → Moves c k renewal now v w → w.renewals ≡ counted v.renewals
-  renew_count k r there none renewed moves =
+  renew_count k r there none renewal_accepted moves =
       let goes = subst (λ (x : Option Entry). Moves x k renewal now v w) none moves in
-      goes.renewals (has_lease r.lease.duration_secs (lease_at v k) (lasting k r there)) ∙ ap (λ x. counted_by x v.renewals) renewed
+      goes.renewals (has_lease r.lease.duration_secs (lease_at v k) (lasting k r there)) ∙ ap (λ x. counted_by x v.renewals) renewal_accepted
 
-  count_on : (ask : Ask) → asked (limits_of s) (record_at s.held) (len s.held) ask now ≡ Ok c → renewal ≡ is_renewal ask → Moves c (asked_key ask) renewal now v w → w.renewals ≡ renewals_after v.renewals ask
+  count_on : (ask : Ask) → change_asked (limits_of s) (record_at s.held) (len s.held) ask now ≡ Ok c → renewal ≡ is_renewal ask → Moves c (asked_key ask) renewal now v w → w.renewals ≡ renewals_after v.renewals ask
   count_on (register posted) is renewal_is moves = let comes = registers (limits_of s) s.held posted now c (own posted.key) is in change_count (comes.row, Added) posted.key comes.change moves
   count_on (cancel k) is renewal_is moves = let gone = goes (record_at s.held k) now c is in change_count (cancelled_at gone.row gone.moment, Deleted) k gone.change moves
   count_on (renew k) is renewal_is moves = let r = renews (record_at s.held k) c is in renew_count k r.0 r.1 r.2 renewal_is moves
@@ -249,11 +249,11 @@ module _ (s : registry.State) (v w : Leases) (p : Past) (now : ℕ) (c : Option 
       change_closed most None = refl
       change_closed most (Some e) = refl
 
-  -- the leases are those of what has happened with what was asked
-  pub leases_on : (most : ℕ) (ask : Ask) (k : Key) (t : registry.State) → registry.StandsFor t (history (with_done most p now ask c)) → AreLeased t.held w → accepts s ask now ≡ Ok c → k ≡ asked_key ask → renewal ≡ is_renewal ask → Moves c k renewal now v w
+  -- the leases are those of what has happened with what was change_asked
+  pub leases_on : (most : ℕ) (ask : Ask) (k : Key) (t : registry.RegistryState) → registry.StandsFor t (history (with_done most p now ask c)) → AreLeased t.held w → accepts s ask now ≡ Ok c → k ≡ asked_key ask → renewal ≡ is_renewal ask → Moves c k renewal now v w
       → AreLeasesOf w (with_done most p now ask c)
   leases_on most ask k t after leased is key renewal_is moves =
-      let does = left (limits_of s) s.version (asked (limits_of s) (record_at s.held) (len s.held) ask now) c is in
+      let does = left (limits_of s) s.version (change_asked (limits_of s) (record_at s.held) (len s.held) ask now) c is in
       let moves_it = subst (λ (x : Key). Moves c x renewal now v w) key moves in
       record {
         durations = λ q. leased q ∙ ap (λ m. rows_last (record_at m q)) after.held ∙ ap rows_last (get-said_reg (history (with_done most p now ask c)) q);
@@ -272,9 +272,9 @@ remembers : (q : Queue) (most : ℕ) (p : Past) (now : ℕ) (ask : Ask) (c : Opt
 remembers q most p now ask c is = record { kept = is.kept; base = is.base }
 
 -- a hub that has done what was ready stands for what has happened with it
-pub stands_on : (old new : State) (ready : Prepared) (p : Past) (ask : Ask) (kept : Option Entry) → new.run ≡ old.run → IsFor old ready ask → StandsFor old p → registry.StandsFor new.registry (commit.appended (history p) ready.change)
+pub stands_on : (old new : CoreState) (ready : Prepared) (p : Past) (ask : Ask) (kept : Option Entry) → new.run ≡ old.run → IsFor old ready ask → CoreStandsFor old p → registry.StandsFor new.registry (commit.appended (history p) ready.change)
     → Remembers new.queue (with_change old.queue.max p ready.moment kept) → kept ≡ ready.change → AreLeased new.registry.held new.leases
-    → Moves ready.change ready.key ready.renewal ready.moment old.leases new.leases → StandsFor new (with_done old.queue.max p ready.moment ask ready.change)
+    → Moves ready.change ready.key ready.renewal ready.moment old.leases new.leases → CoreStandsFor new (with_done old.queue.max p ready.moment ask ready.change)
 stands_on old new ready p ask kept run_is is stands held recent kept_is leased moves =
     let most = old.queue.max in
     let now = ready.moment in

@@ -1,7 +1,7 @@
 -- Why a document that was written is true.
 use Rattle.std.proofs.Common.{◌≡◌, ◌≤◌, ℕ, true, false, List, length, Some, Ok, refl, sym, ap, subst, ◌∙◌, arith}
 use Rattle.std.proofs.Math.Seq.{take-length}
-use Rattle.disco_history.specs.Change.{Entry, front}
+use Rattle.disco_history.specs.Change.{Entry, prefix}
 use Rattle.disco_documents.specs.Documents.{IsWritten, meaning_for, text_for}
 use Rattle.disco_query.specs.Query.{is_delta}
 use Rattle.disco_cache.specs.Payloads.{IsTrue}
@@ -24,7 +24,7 @@ held_true k run v text p h held now written is = subst (λ q. IsTrue run q h) (s
       whole = λ held. refl;
       past = omega (arith, now);
       now = λ kept. now;
-      same = ap (λ x. meaning_for k.query k.form x v v) (ap (front h) now ∙ take-length h);
+      same = ap (λ x. meaning_for k.query k.form x v v) (ap (prefix h) now ∙ take-length h);
     };
   },
 )
@@ -42,7 +42,7 @@ delta_true k run base v text p h delta start now written is = subst (λ q. IsTru
       whole = λ held. absurd (cc);
       past = omega (arith, now);
       now = λ kept. now;
-      same = ap (λ x. meaning_for k.query k.form x base v) (ap (front h) now ∙ take-length h);
+      same = ap (λ x. meaning_for k.query k.form x base v) (ap (prefix h) now ∙ take-length h);
     };
   },
 )

@@ -87,7 +87,7 @@ is_there None filled some = absurd (cc)
 is_there (Some true) filled some = refl
 is_there (Some false) filled some = absurd (filled refl)
 
-pub no_vips_more : (o : Option Entry) (old mid new : VipKeys) → vips.IsSameVips old mid → OthersStay o old mid → vips.IsSameVips mid new → OthersStay o mid new → IsSwept new o → vips.KeepsPlaces new old
+pub no_vips_more : (o : Option Entry) (old mid new : VipKeys) → vips.IsSameVips old mid → OthersStay o old mid → vips.IsSameVips mid new → OthersStay o mid new → IsSwept new o → vips.KeepsVipPlaces new old
 no_vips_more None old mid new first others then others_then swept q k some = subst (λ (v : VipKeys). IsSome (vips.place_at v q k)) (sym (others ∙ others_then)) some
 no_vips_more (Some e) old mid new first others then others_then swept q k some = one (vips.is_under e.0 q k) refl
   where

@@ -7,7 +7,7 @@ use Rattle.disco_instance.specs.Row.{Row}
 use Rattle.disco_values.specs.declared.fault.Fault.{Fault}
 use Rattle.disco_values.specs.declared.fault.Fault.TheVariants.{NotFound}
 use Rattle.disco_values.specs.declared.key.Key.{Key}
-use Rattle.disco_history.specs.Change.{Entry, key_of, seen}
+use Rattle.disco_history.specs.Change.{Entry, key_of, change_view}
 use Rattle.disco_history.specs.Registry.{put_of}
 use Rattle.disco_history.proofs.Keys.{keys_total, same_is}
 use Rattle.disco_history.proofs.Sets.{said_nil}
@@ -19,17 +19,17 @@ use Rattle.disco_index.specs.Vips as vips
 use Rattle.disco_lease.specs.Leases as leases
 use Rattle.disco_lease.specs.Leases.{Lease, Leases, Sets, extended, lease_at, marked, no_leases}
 use Rattle.disco_queue.specs.Queue as queue
-use Rattle.disco_queue.specs.Queue.{Keeps, Queue, version}
+use Rattle.disco_queue.specs.Queue.{KeepsHistory, Queue, version}
 use Rattle.disco_registry.specs.Commit.{Takes, held_after, version_after}
 use Rattle.disco_history.specs.Held.{record_at}
-use Rattle.disco_registry.specs.State.{State, StandsFor, IsSameRegistry}
+use Rattle.disco_registry.specs.State.{RegistryState, StandsFor, IsSameRegistry}
 use Rattle.disco_values.specs.declared.action.Action.{Action}
 use Rattle.disco_values.specs.declared.action.Action.TheVariants.{Added, Modified, Deleted}
 use Rattle.disco_core.specs.State as core
 use Rattle.disco_core.specs.Moves.{Moves, lease_by}
 use Rattle.disco_core.specs.State.{AddsAny, HasVipPlaces}
 use Rattle.disco_core.specs.Tied.{AreLeased, IsTied}
-use Rattle.disco_core.specs.Written.{AreWritten, IsSameWritten, Written, none_written}
+use Rattle.disco_core.specs.Written.{AreWritten, IsSameWritten, KeptTexts, none_written}
 use Rattle.disco_core.proofs.Following.{none_are, same_are}
 
 abbrev lasts : Option Lease → Option ℕ
@@ -43,7 +43,7 @@ entry_lasts o = rows_last (option_map (λ e. e.0) o)
 
 -- ---- a new world
 
-pub tied_new : (s : State) (t : Tally) (i : VipKeys) (v : Leases) (q : Queue) (w : Written) → StandsFor s [] → t ≡ tally_of [] → i ≡ empty → v ≡ no_leases → Keeps q [] → w ≡ none_written → IsTied s t i v q w
+pub tied_new : (s : RegistryState) (t : Tally) (i : VipKeys) (v : Leases) (q : Queue) (w : KeptTexts) → StandsFor s [] → t ≡ tally_of [] → i ≡ empty → v ≡ no_leases → KeepsHistory q [] → w ≡ none_written → IsTied s t i v q w
 tied_new s t i v q w stands ts is vs keeps none =
     let held : s.held ≡ empty = stands.held ∙ said_nil in
     record {
@@ -121,29 +121,29 @@ pub few_after : (m : FinMap key_cmp Entry) (c : Option Entry) (v : ℕ) → len 
 few_after m None v few = few
 few_after m (Some c) v few = let one = one_put m c (put_of c) refl in omega (arith, one, few)
 
-pub stands_same : (h : List Entry) (old new : State) → IsSameRegistry old new → StandsFor old h → StandsFor new h
+pub stands_same : (h : List Entry) (old new : RegistryState) → IsSameRegistry old new → StandsFor old h → StandsFor new h
 stands_same h old new same stands = record { held = same.held ∙ stands.held; version = same.version ∙ stands.version }
 
-few_same : (old new : State) → IsSameRegistry old new → len old.held ≤ old.version → len new.held ≤ new.version
+few_same : (old new : RegistryState) → IsSameRegistry old new → len old.held ≤ old.version → len new.held ≤ new.version
 few_same old new same few = let l = ap len same.held in let v = same.version in omega (arith, l, v, few)
 
-few_taken : (old new : State) (c : Option Entry) → Takes old c new → len old.held ≤ old.version → len new.held ≤ new.version
+few_taken : (old new : RegistryState) (c : Option Entry) → Takes old c new → len old.held ≤ old.version → len new.held ≤ new.version
 few_taken old new c takes few = let l = ap len takes.held in let v = takes.version in let after = few_after old.held c old.version few in omega (arith, l, v, after)
 
 -- what follows a change stays tied
-pub tied_after : (old new : State) (c : Option Entry) (t : Tally) (i : VipKeys) (v₀ v : Leases) (q₀ q : Queue) (w₀ w : Written) → len old.held ≤ old.version → AreLeased old.held v₀ → version q₀ ≡ old.version → Takes old c new → t ≡ tally_in (held_after old.held c)
+pub tied_after : (old new : RegistryState) (c : Option Entry) (t : Tally) (i : VipKeys) (v₀ v : Leases) (q₀ q : Queue) (w₀ w : KeptTexts) → len old.held ≤ old.version → AreLeased old.held v₀ → version q₀ ≡ old.version → Takes old c new → t ≡ tally_in (held_after old.held c)
     → IsIndexOf i (held_after old.held c) → (AreLeased old.held v₀ → AreLeased (held_after old.held c) v) → version q ≡ version_after (version q₀) c → AreWritten w₀ old.held → (AreWritten w₀ old.held → AreWritten w (held_after old.held c)) → IsTied new t i v q w
-tied_after old new c t i v₀ v q₀ q w₀ w few leased seen takes counted indexed moves recent written follows = record {
+tied_after old new c t i v₀ v q₀ q w₀ w few leased change_view takes counted indexed moves recent written follows = record {
   counts = counted ∙ ap tally_in (sym takes.held);
   indexed = subst (λ m. IsIndexOf i m) (sym takes.held) indexed;
   leased = subst (λ m. AreLeased m v) (sym takes.held) (moves leased);
   written = subst (λ m. AreWritten w m) (sym takes.held) (follows written);
   few = few_taken old new c takes few;
-  follows = recent ∙ ap (λ n. version_after n c) seen ∙ sym takes.version;
+  follows = recent ∙ ap (λ n. version_after n c) change_view ∙ sym takes.version;
 }
 
 -- what gets more places stays tied
-pub tied_same : (old new : State) (t : Tally) (i j : VipKeys) (v w : Leases) (q r : Queue) (x y : Written) → IsTied old t i v q x → IsSameRegistry old new → vips.IsSameVips i j → leases.IsSameLeases v w → queue.IsSameQueue q r → IsSameWritten x y → IsTied new t j w r y
+pub tied_same : (old new : RegistryState) (t : Tally) (i j : VipKeys) (v w : Leases) (q r : Queue) (x y : KeptTexts) → IsTied old t i v q x → IsSameRegistry old new → vips.IsSameVips i j → leases.IsSameLeases v w → queue.IsSameQueue q r → IsSameWritten x y → IsTied new t j w r y
 tied_same old new t i j v w q r x y tied same vips_same leases_same queue_same texts_same = record {
   counts = tied.counts ∙ ap tally_in (sym same.held);
   indexed = subst (λ m. IsIndexOf j m) (sym same.held) (same_vips_law old.held i j tied.indexed vips_same);
@@ -154,7 +154,7 @@ tied_same old new t i j v w q r x y tied same vips_same leases_same queue_same t
 }
 
 -- what is the same as the view of a core is the same as the core
-pub same_from : (view old new : core.State) → view ≡ old → core.IsSameCore view new → core.IsSameCore old new
+pub same_from : (view old new : core.CoreState) → view ≡ old → core.IsSameCore view new → core.IsSameCore old new
 same_from view old new is same = subst (λ s. core.IsSameCore s new) is same
 
 -- a call that is refused for a missing lease alone
@@ -164,7 +164,7 @@ missed (Err e) P missing only = missing (ap Err only)
 
 -- ---- vips
 
-pub places_kept : (old new : VipKeys) (o : Option Entry) → vips.KeepsPlaces old new → HasVipPlaces old o → HasVipPlaces new o
+pub places_kept : (old new : VipKeys) (o : Option Entry) → vips.KeepsVipPlaces old new → HasVipPlaces old o → HasVipPlaces new o
 places_kept old new None keeps has = has
 places_kept old new (Some e) keeps has = λ q k is. keeps q k (has q k is)
 

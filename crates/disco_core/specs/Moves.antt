@@ -3,7 +3,7 @@ use Rattle.std.specs.Prelude.{◌≡◌, ℕ, Bool, if◌then◌else◌, Option,
 use Rattle.disco_values.specs.declared.action.Action.TheVariants.{Added, Modified, Deleted}
 use Rattle.disco_values.specs.declared.key.Key.{Key}
 use Rattle.disco_history.specs.Change.{Entry, key_of}
-use Rattle.disco_index.specs.Vips.{KeepsOthers, VipKeys}
+use Rattle.disco_index.specs.Vips.{KeepsOtherVips, VipKeys}
 use Rattle.disco_lease.specs.Leases.{Lease, Leases, Sets, counted, extended, lease_at, marked}
 
 -- the lease that a change at a moment gives
@@ -23,7 +23,7 @@ pub record GoesOn (k : Key) (renewal : Bool) (now : ℕ) (old new : Leases) : Ty
   pub closed : new.closed ≡ old.closed
 
 -- the change's key has the lease that the change gives
-pub record Follows (c : Entry) (now : ℕ) (old new : Leases) : Type 0 where
+pub record FollowsChange (c : Entry) (now : ℕ) (old new : Leases) : Type 0 where
   pub leases : Sets (key_of c) (lease_by c now) old new
   pub renewals : new.renewals ≡ old.renewals
   pub closed : new.closed ≡ old.closed
@@ -31,12 +31,12 @@ pub record Follows (c : Entry) (now : ℕ) (old new : Leases) : Type 0 where
 -- the leases follow what is ready: its change, if there is one, else the lease of its key goes on
 abbrev pub Moves : Option Entry → Key → Bool → ℕ → Leases → Leases → Type 0
 Moves None k renewal now old new = GoesOn k renewal now old new
-Moves (Some c) k renewal now old new = Follows c now old new
+Moves (Some c) k renewal now old new = FollowsChange c now old new
 
 -- each place but those of the entry is as it was
 abbrev pub OthersStay : Option Entry → VipKeys → VipKeys → Type 0
 OthersStay None old new = old ≡ new
-OthersStay (Some e) old new = KeepsOthers e.0 old new
+OthersStay (Some e) old new = KeepsOtherVips e.0 old new
 
 -- what is put has the vips of what is held
 abbrev pub VipsStay : Option Entry → Option Entry → Type 0

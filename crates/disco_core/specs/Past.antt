@@ -6,7 +6,7 @@ use Rattle.disco_values.specs.Key.{key_cmp}
 use Rattle.disco_values.specs.declared.fault.Fault.{Fault}
 use Rattle.disco_values.specs.declared.key.Key.{Key}
 use Rattle.disco_history.specs.Change.{Entry}
-use Rattle.disco_history.specs.Registry.{reg}
+use Rattle.disco_history.specs.Registry.{registry_of}
 use Rattle.disco_lease.specs.Due.{taken}
 use Rattle.disco_lease.specs.Leases.{counted, no_minute}
 use Rattle.disco_lease.specs.declared.minute.Minute.{Minute}
@@ -38,7 +38,7 @@ with_change most p now (Some c) = record p { timed = p.timed ++ (c, now) ∷ [];
 
 -- how long the lease of the held record of a key lasts
 abbrev pub duration_at : Past → Key → ℕ
-duration_at p k = option_map_or (λ r. r.lease.duration_secs * 1000) (get (reg (history p)) k) 0
+duration_at p k = option_map_or (λ r. r.lease.duration_secs * 1000) (get (registry_of (history p)) k) 0
 
 -- the marks after an accepted operation: of what registers it is now, of what is kept going one duration from now, and what is cancelled has none
 abbrev pub marks_after : Past → ℕ → Ask → FinMap key_cmp ℕ
@@ -69,7 +69,7 @@ cleaned retention p now = record p { base = base_after_cleaning now retention p.
 
 -- a minute is closed: the renewals since the last closing are kept and counted anew, and how many instances are held
 abbrev pub minute_closed : Past → Past
-minute_closed p = record p { renewals = 0; closed = record { renewals = p.renewals; instances = len (reg (history p)) } }
+minute_closed p = record p { renewals = 0; closed = record { renewals = p.renewals; instances = len (registry_of (history p)) } }
 
 -- when the lease of a key runs out, if it has one: its duration after its mark
 abbrev pub due_in : Past → Key → Option ℕ
@@ -77,4 +77,4 @@ due_in p k = option_map (λ mark. mark + duration_at p k) (get p.marks k)
 
 -- the keys that one run takes at a moment, in their order
 abbrev pub taken_in : Past → ℕ → List Key
-taken_in p now = taken p.closed (due_in p) (keys p.marks) (len (reg (history p))) now
+taken_in p now = taken p.closed (due_in p) (keys p.marks) (len (registry_of (history p))) now

@@ -7,7 +7,7 @@ use Rattle.disco_values.specs.declared.form.Form.{Form}
 use Rattle.disco_values.specs.declared.key.Key.{Key}
 use Rattle.disco_history.specs.Change.{Entry}
 use Rattle.disco_history.specs.Query.{by_id, is_absent}
-use Rattle.disco_history.specs.Registry.{reg}
+use Rattle.disco_history.specs.Registry.{registry_of}
 use Rattle.disco_query.specs.declared.key.DocKey.{DocKey}
 use Rattle.disco_documents.specs.Documents.{asked_by}
 use Rattle.disco_query.specs.Query.{is_delta}
@@ -16,14 +16,14 @@ use Rattle.disco_query.specs.declared.query.Query.TheVariants.{Instance}
 
 -- why a document isn't served after a history, if it isn't, where deltas are on or off
 abbrev pub refusal_of : Bool → Query → List Entry → Option Fault
-refusal_of on q h = if is_delta q then (if on then None else Some DeltaDisabled) else (if is_absent (reg h) (asked_by q) then Some NotFound else None)
+refusal_of on q h = if is_delta q then (if on then None else Some DeltaDisabled) else (if is_absent (registry_of h) (asked_by q) then Some NotFound else None)
 
 abbrev pub doc_of_key : Key → Form → DocKey
 doc_of_key k f = record { query = Instance k; form = f }
 
 -- the document of the instance of an id after a history, if there is one
 abbrev pub doc_of_id : List ℕ → Form → List Entry → Option DocKey
-doc_of_id id f h = option_map (λ r. doc_of_key r.key f) (by_id (reg h) id)
+doc_of_id id f h = option_map (λ r. doc_of_key r.key f) (by_id (registry_of h) id)
 
 abbrev pub refusal_by : Option Row → List Entry → Option Fault
 refusal_by None h = Some NotFound
@@ -31,4 +31,4 @@ refusal_by (Some r) h = refusal_of true (Instance r.key) h
 
 -- why it isn't served
 abbrev pub refusal_of_id : List ℕ → List Entry → Option Fault
-refusal_of_id id h = refusal_by (by_id (reg h) id) h
+refusal_of_id id h = refusal_by (by_id (registry_of h) id) h

@@ -10,24 +10,24 @@ use Rattle.disco_history.specs.Mentions.{mention_of}
 use Rattle.disco_history.specs.Registry.{put_of}
 use Rattle.disco_writer.specs.Kept.{AreKept, HasNoEmpty, IsReadyFor, IsSameTexts, IsTextOf, Kept, none_kept}
 
-pub record Written : Type 0 where
+pub record KeptTexts : Type 0 where
   pub full : Kept
   pub compact : Kept
 
-abbrev pub none_written : Written
+abbrev pub none_written : KeptTexts
 none_written = record { full = none_kept; compact = none_kept }
 
-abbrev pub kept_in : Form → Written → Kept
+abbrev pub kept_in : Form → KeptTexts → Kept
 kept_in Full w = w.full
 kept_in Compact w = w.compact
 
 -- exactly the texts of what is held are kept, in both forms
-pub record AreWritten (w : Written) (held : FinMap key_cmp Entry) : Type 0 where
+pub record AreWritten (w : KeptTexts) (held : FinMap key_cmp Entry) : Type 0 where
   pub full : AreKept Full w.full held
   pub compact : AreKept Compact w.compact held
 
 -- the same but for places and for what is put next, which no answer shows
-pub record IsSameWritten (old new : Written) : Type 0 where
+pub record IsSameWritten (old new : KeptTexts) : Type 0 where
   pub full : IsSameTexts old.full new.full
   pub compact : IsSameTexts old.compact new.compact
 
@@ -38,22 +38,22 @@ pub record HasText (f : Form) (v : Kept) (e : Entry) : Type 0 where
   pub is : IsTextOf f text (mention_of e)
 
 -- the texts of what is put, if something is, can be put
-abbrev pub HasTexts : Written → Option Entry → Type 0
+abbrev pub HasTexts : KeptTexts → Option Entry → Type 0
 HasTexts w None = Unit {0}
 HasTexts w (Some e) = HasText Full w.full e × HasText Compact w.compact e
 
 -- ... of what a change puts, if there is one
-abbrev pub HasTextsFor : Written → Option Entry → Type 0
+abbrev pub HasTextsFor : KeptTexts → Option Entry → Type 0
 HasTextsFor w None = Unit {0}
 HasTextsFor w (Some c) = HasTexts w (put_of c)
 
 -- no place of a text stands empty
-abbrev pub HasNoEmptyText : Written → Type 0
+abbrev pub HasNoEmptyText : KeptTexts → Type 0
 HasNoEmptyText w = HasNoEmpty w.full.places × HasNoEmpty w.compact.places
 
 -- no place of a text stands empty that did not before
 abbrev pub OpensNone : Kept → Kept → Type 0
 OpensNone old new = (q : Key) → get new.places q ≡ Some None → get old.places q ≡ Some None
 
-abbrev pub OpensNoText : Written → Written → Type 0
+abbrev pub OpensNoText : KeptTexts → KeptTexts → Type 0
 OpensNoText old new = OpensNone old.full new.full × OpensNone old.compact new.compact

@@ -1,7 +1,7 @@
 //! How the counts follow a change.
 ghost use Rattle.std.specs.Prelude.{◌≡◌, ◌<◌, ◌-◌, ◌^◌, Some};
 ghost use Rattle.std.specs.FinMap.{get, len};
-ghost use Rattle.disco_history.specs.Change.{seen};
+ghost use Rattle.disco_history.specs.Change.{change_view};
 ghost use Rattle.disco_index.specs.Tally.{tally_in, without};
 ghost use Rattle.disco_registry.specs.Commit.{held_after};
 
@@ -26,7 +26,7 @@ fn uncount(counts: &mut Counts, registry: &Registry, key: &Key)
 pub(crate) fn count(counts: &mut Counts, registry: &Registry, change: &Change)
     requires tally { counts.old ≡ tally_in registry.now.held }
     requires few { len registry.now.held < 2 ^ 64 - 1 }
-    ensures { counts.new ≡ tally_in (held_after registry.now.held (Some (seen change.now))) }
+    ensures { counts.new ≡ tally_in (held_after registry.now.held (Some (change_view change.now))) }
 {
     uncount(counts, registry, change.key());
     if let Change::Put {

@@ -1,9 +1,9 @@
 //! How the leases follow a change, and an operation without one.
 ghost use Rattle.std.specs.Prelude.{◌≡◌, None, Some};
-ghost use Rattle.disco_history.specs.Change.{key_of, seen};
+ghost use Rattle.disco_history.specs.Change.{key_of, change_view};
 ghost use Rattle.disco_lease.specs.Leases.{HasPlace, IsFilled, Sets, extended, lease_at, marked};
 ghost use Rattle.disco_registry.specs.Op.{ask_of};
-ghost use Rattle.disco_core.specs.Moves.{Follows, GoesOn};
+ghost use Rattle.disco_core.specs.Moves.{FollowsChange, GoesOn};
 ghost use Rattle.disco_core.specs.State.{is_renewal};
 
 use disco_history::Change;
@@ -55,9 +55,9 @@ fn end(leases: &mut LeaseBook, key: &Key)
 
 /// Moves the lease of the instance that a change is about.
 pub(crate) fn follow(leases: &mut LeaseBook, change: &Change, now: u64)
-    requires { HasPlace leases.old (key_of (seen change.now)) }
-    ensures lease { Follows (seen change.now) now leases.old leases.new }
-    ensures swept { IsFilled (key_of (seen change.now)) leases.new }
+    requires { HasPlace leases.old (key_of (change_view change.now)) }
+    ensures lease { FollowsChange (change_view change.now) now leases.old leases.new }
+    ensures swept { IsFilled (key_of (change_view change.now)) leases.new }
 {
     match change {
         Change::Put { action, rec } => match action {

@@ -1,6 +1,6 @@
 //! How the queue of recent changes follows a change.
 ghost use Rattle.std.specs.Prelude.{◌≡◌, ◌<◌, ◌-◌, ◌^◌, IfOk, IfSome, option_map, true};
-ghost use Rattle.disco_history.specs.Change.{is_proper, seen};
+ghost use Rattle.disco_history.specs.Change.{is_proper, change_view};
 ghost use Rattle.disco_queue.specs.Queue.{AddsNoneEmpty, version};
 ghost use Rattle.disco_registry.specs.Commit.{version_after};
 ghost use Rattle.disco_core.specs.Past.{Past, with_change};
@@ -13,7 +13,7 @@ use std::alloc::AllocError;
 /// The change once more, if there is one. Its record is shared.
 pub(crate) fn shared(change: Option<&Change>) -> Result<Option<Change>, AllocError>
     requires { IfSome change (λ c. is_proper c.now ≡ true) }
-    ensures same { IfOk result (λ o. option_map seen o ≡ option_map (λ c. seen c.now) change.entry) }
+    ensures same { IfOk result (λ o. option_map change_view o ≡ option_map (λ c. change_view c.now) change.entry) }
     ensures proper { IfOk result (λ o. IfSome o (λ c. is_proper c ≡ true)) }
 {
     match change {
@@ -24,11 +24,11 @@ pub(crate) fn shared(change: Option<&Change>) -> Result<Option<Change>, AllocErr
 
 /// The queue keeps a change more, if there is one. Takes no memory.
 pub(crate) fn remember(queue: &mut ChangedQueue, change: Option<Change>, now: u64)
-    requires room { HasRoomFor queue.old (option_map seen change) }
-    requires version { version_after (version queue.old) (option_map seen change) < 2 ^ 64 }
+    requires room { HasRoomFor queue.old (option_map change_view change) }
+    requires version { version_after (version queue.old) (option_map change_view change) < 2 ^ 64 }
     requires proper { IfSome change (λ c. is_proper c ≡ true) }
-    ensures past { (p : Past) → Remembers queue.old p → Remembers queue.new (with_change queue.old.max p now (option_map seen change)) }
-    ensures version { version queue.new ≡ version_after (version queue.old) (option_map seen change) }
+    ensures past { (p : Past) → Remembers queue.old p → Remembers queue.new (with_change queue.old.max p now (option_map change_view change)) }
+    ensures version { version queue.new ≡ version_after (version queue.old) (option_map change_view change) }
     ensures max { queue.new.max ≡ queue.old.max }
     ensures empty { AddsNoneEmpty queue.old queue.new }
 {

@@ -3,15 +3,15 @@ ghost use Rattle.std.specs.Prelude.{◌≡◌, ◌≢◌, ◌<◌, ◌≤◌, �
 ghost use Rattle.std.specs.FinMap.{len};
 ghost use Rattle.disco_values.specs.declared.fault.Fault.TheVariants.{OutOfMemory};
 ghost use Rattle.disco_instance.specs.Row.{row};
-ghost use Rattle.disco_history.specs.Change.{Entry, is_proper, key_of, seen};
+ghost use Rattle.disco_history.specs.Change.{Entry, is_proper, key_of, change_view};
 ghost use Rattle.disco_history.specs.Held.{record_at};
 ghost use Rattle.disco_history.specs.Query.{is_absent};
-ghost use Rattle.disco_history.specs.Registry.{put_of, reg};
+ghost use Rattle.disco_history.specs.Registry.{put_of, registry_of};
 ghost use Rattle.disco_index.specs.Tally.{tally_in};
 ghost use Rattle.disco_index.specs.Vips as vip;
 ghost use Rattle.disco_lease.specs.Leases as lease;
 ghost use Rattle.disco_queue.specs.Queue as recent;
-ghost use Rattle.disco_registry.specs.Accept.{Refuses, accepts};
+ghost use Rattle.disco_registry.specs.Accept.{MayRefuse, accepts};
 ghost use Rattle.disco_registry.specs.Commit as commit;
 ghost use Rattle.disco_registry.specs.Commit.{Takes, changes_properly, done_by, held_after};
 ghost use Rattle.disco_registry.specs.Op.{Ask, ask_of, asked_key};
@@ -23,7 +23,7 @@ ghost use Rattle.disco_core.specs.Past.{Past, cleaned, history, minute_closed, n
 ghost use Rattle.disco_core.specs.Refusals.{doc_of_id, doc_of_key, refusal_of, refusal_of_id};
 ghost use Rattle.disco_core.specs.Moves.{Moves, OthersStay};
 ghost use Rattle.disco_core.specs.Written.{AreWritten, HasNoEmptyText, HasTextsFor, IsSameWritten, OpensNoText};
-ghost use Rattle.disco_core.specs.State.{AddsNoPlaces, HasPlacesFor, HasRoomFor, IsFor, IsReady, IsSameCore, IsSwept, IsSweptAfter, StandsFor, is_renewal, rules, rules_of};
+ghost use Rattle.disco_core.specs.State.{AddsNoPlaces, HasPlacesFor, HasRoomFor, IsFor, IsCoreReady, IsSameCore, IsSwept, IsSweptAfter, CoreStandsFor, is_renewal, rules, core_rules};
 
 use crate::counts::count;
 use crate::leases::{is_renewal, keep};
@@ -67,10 +67,10 @@ pub struct Core {
 impl Model for Core {
     ghost use Rattle.std.specs.Coded.{codes};
     ghost use Rattle.std.specs.FinMap.{code};
-    ghost use Rattle.disco_core.specs.State.{State};
+    ghost use Rattle.disco_core.specs.State.{CoreState};
     ghost use Rattle.disco_core.specs.Tied.{IsTied};
 
-    ghost Value = { State };
+    ghost Value = { CoreState };
 
     ghost coded = { Prim.hlevel (codes, code) };
 
@@ -93,20 +93,20 @@ pub struct Ready {
 
 impl Model for Ready {
     ghost use Rattle.std.specs.Prelude.{◌≡◌, IfSome, option_map, true};
-    ghost use Rattle.disco_history.specs.Change.{is_proper, seen};
+    ghost use Rattle.disco_history.specs.Change.{is_proper, change_view};
     ghost use Rattle.disco_core.specs.State.{Prepared};
 
     ghost Value = { Prepared };
 
     ghost view = { λ r. record { key = r.key; renewal = r.renewal; moment = r.moment; change = r.ready } };
 
-    ghost invariant = { λ r. (option_map seen r.kept ≡ r.ready) × IfSome r.kept (λ c. is_proper c ≡ true) };
+    ghost invariant = { λ r. (option_map change_view r.kept ≡ r.ready) × IfSome r.kept (λ c. is_proper c ≡ true) };
 }
 
 impl Ready {
     /// The change that its commit makes, where there is one.
     pub fn to_come(&self) -> Option<&Change>
-        ensures change { option_map (λ c. seen c.now) result ≡ self.now.change }
+        ensures change { option_map (λ c. change_view c.now) result ≡ self.now.change }
         ensures proper { IfSome result (λ c. is_proper c.now ≡ true) }
     {
         self.ready.change()
@@ -114,7 +114,7 @@ impl Ready {
 
     /// The change to come once more, where there is one. Refused only as `OutOfMemory`.
     pub fn change(&self) -> Result<Option<Change>, Fault>
-        ensures change { IfOk result (λ o. option_map seen o ≡ self.now.change) }
+        ensures change { IfOk result (λ o. option_map change_view o ≡ self.now.change) }
         ensures proper { IfOk result (λ o. IfSome o (λ c. is_proper c ≡ true)) }
         ensures memory { IfErr result (λ e. e ≡ OutOfMemory) }
     {
@@ -148,7 +148,7 @@ fn accept(held: &mut Registry, op: Op, now: u64) -> Result<Ready, Fault>
     ensures ready { IfOk result (λ r. accepts held.old (ask_of op) now ≡ Ok r.change × commit.IsReady held.new r.change) }
     ensures moment { IfOk result (λ r. r.moment ≡ now) }
     ensures asked { IfOk result (λ r. (r.key ≡ asked_key (ask_of op)) × (r.renewal ≡ is_renewal (ask_of op))) }
-    ensures refused { IfErr result (Refuses held.old (ask_of op) now) }
+    ensures refused { IfErr result (MayRefuse held.old (ask_of op) now) }
 {
     let renewal = is_renewal(&op);
     let key = op.key().clone()?;
@@ -166,14 +166,14 @@ fn open_all(
     change: &Change,
 ) -> Result<(), Fault>
     ensures vips { vip.IsSameVips index.old index.new }
-    ensures other_vips { OthersStay (put_of (seen change.now)) index.old index.new }
+    ensures other_vips { OthersStay (put_of (change_view change.now)) index.old index.new }
     ensures leases { lease.IsSameLeases book.old book.new }
-    ensures other_leases { lease.KeepsOthers (key_of (seen change.now)) book.old book.new }
+    ensures other_leases { lease.KeepsOthers (key_of (change_view change.now)) book.old book.new }
     ensures queue { recent.IsSameQueue queue.old queue.new }
-    ensures places { OnOk result (HasPlacesFor index.new book.new (Some (seen change.now))) }
-    ensures room { OnOk result (HasRoomFor queue.new (Some (seen change.now))) }
+    ensures places { OnOk result (HasPlacesFor index.new book.new (Some (change_view change.now))) }
+    ensures room { OnOk result (HasRoomFor queue.new (Some (change_view change.now))) }
     ensures texts { IsSameWritten texts.old texts.new }
-    ensures written { OnOk result (HasTextsFor texts.new (Some (seen change.now))) }
+    ensures written { OnOk result (HasTextsFor texts.new (Some (change_view change.now))) }
     ensures given_back { OnErr result (queue.new.places ≡ queue.old.places) }
     ensures memory { IfErr result (λ e. e ≡ OutOfMemory) }
 {
@@ -186,11 +186,11 @@ fn open_all(
 /// Gives back the places of a change that stand empty.
 fn sweep_all(index: &mut VipIndex, book: &mut LeaseBook, texts: &mut BothTexts, change: &Change)
     ensures vips { vip.IsSameVips index.old index.new }
-    ensures other_vips { OthersStay (put_of (seen change.now)) index.old index.new }
-    ensures swept_vips { IsSwept index.new (put_of (seen change.now)) }
+    ensures other_vips { OthersStay (put_of (change_view change.now)) index.old index.new }
+    ensures swept_vips { IsSwept index.new (put_of (change_view change.now)) }
     ensures leases { lease.IsSameLeases book.old book.new }
-    ensures other_leases { lease.KeepsOthers (key_of (seen change.now)) book.old book.new }
-    ensures swept_leases { lease.IsFilled (key_of (seen change.now)) book.new }
+    ensures other_leases { lease.KeepsOthers (key_of (change_view change.now)) book.old book.new }
+    ensures swept_leases { lease.IsFilled (key_of (change_view change.now)) book.new }
     ensures texts { IsSameWritten texts.old texts.new }
     ensures swept_texts { HasNoEmptyText texts.new }
 {
@@ -211,12 +211,12 @@ fn open_places(
     ensures vips { vip.IsSameVips index.old index.new }
     ensures leases { lease.IsSameLeases book.old book.new }
     ensures queue { recent.IsSameQueue queue.old queue.new }
-    ensures places { OnOk result (HasPlacesFor index.new book.new (option_map (λ c. seen c.now) change.entry)) }
-    ensures room { OnOk result (HasRoomFor queue.new (option_map (λ c. seen c.now) change.entry)) }
+    ensures places { OnOk result (HasPlacesFor index.new book.new (option_map (λ c. change_view c.now) change.entry)) }
+    ensures room { OnOk result (HasRoomFor queue.new (option_map (λ c. change_view c.now) change.entry)) }
     ensures texts { IsSameWritten texts.old texts.new }
-    ensures written { OnOk result (HasTextsFor texts.new (option_map (λ c. seen c.now) change.entry)) }
+    ensures written { OnOk result (HasTextsFor texts.new (option_map (λ c. change_view c.now) change.entry)) }
     ensures memory { IfErr result (λ e. e ≡ OutOfMemory) }
-    ensures given_back { OnErr result (vip.KeepsPlaces index.new index.old × lease.KeepsPlaces book.new book.old × OpensNoText texts.old texts.new × (queue.new.places ≡ queue.old.places)) }
+    ensures given_back { OnErr result (vip.KeepsVipPlaces index.new index.old × lease.KeepsPlaces book.new book.old × OpensNoText texts.old texts.new × (queue.new.places ≡ queue.old.places)) }
 {
     let Some(change) = change else {
         return Ok(());
@@ -264,8 +264,8 @@ fn follow(
 impl Core {
     /// An empty registry within the limits of the settings, in their run.
     pub fn new(alloc: Global, settings: &Settings) -> Core
-        ensures empty { StandsFor result (nothing settings.now.run) }
-        ensures rules { rules_of result ≡ rules settings.now }
+        ensures empty { CoreStandsFor result (nothing settings.now.run) }
+        ensures rules { core_rules result ≡ rules settings.now }
     {
         Core {
             alloc,
@@ -284,7 +284,7 @@ impl Core {
     /// The number of this run of the server.
     pub fn run(&self) -> u64
         ensures run { result ≡ self.now.run }
-        ensures past { (p : Past) → StandsFor self.now p → result ≡ p.run }
+        ensures past { (p : Past) → CoreStandsFor self.now p → result ≡ p.run }
     {
         self.run
     }
@@ -315,10 +315,10 @@ impl Core {
     /// place of a vip, a lease, a text or a recent change stays that was not there.
     pub fn ready(&mut self, op: Op, now: u64) -> Result<Ready, Fault>
         ensures same { IsSameCore self.old self.new }
-        ensures ready { IfOk result (λ r. accepts self.old.registry (ask_of op) now ≡ Ok r.change × IsReady self.new r) }
+        ensures ready { IfOk result (λ r. accepts self.old.registry (ask_of op) now ≡ Ok r.change × IsCoreReady self.new r) }
         ensures moment { IfOk result (λ r. r.moment ≡ now) }
         ensures asked { IfOk result (λ r. IsFor self.new r (ask_of op)) }
-        ensures refused { IfErr result (Refuses self.old.registry (ask_of op) now) }
+        ensures refused { IfErr result (MayRefuse self.old.registry (ask_of op) now) }
         ensures given_back { OnErr result (AddsNoPlaces self.old self.new) }
     {
         let ready = accept(&mut self.registry, op, now)?;
@@ -335,14 +335,14 @@ impl Core {
     /// Does what is ready, which has to be of this core as it is. Takes no memory, and gives back the
     /// places of vips, of the lease and of a recent change that the change leaves empty.
     pub fn commit(&mut self, ready: Ready) -> Applied
-        requires { IsReady self.old ready }
+        requires { IsCoreReady self.old ready }
         ensures change { done_by result ≡ ready.change }
         ensures proper { changes_properly result ≡ true }
         ensures takes { Takes self.old.registry ready.change self.new.registry }
         ensures swept { IsSweptAfter self.old.registry.held ready.change self.new.vips self.new.leases }
         ensures empty { recent.AddsNoneEmpty self.old.queue self.new.queue }
-        ensures history { (p : Past) (ask : Ask) → IsFor self.old ready ask → StandsFor self.old p → StandsFor self.new (with_done self.old.queue.max p ready.moment ask (done_by result)) }
-        ensures rules { rules_of self.new ≡ rules_of self.old }
+        ensures history { (p : Past) (ask : Ask) → IsFor self.old ready ask → CoreStandsFor self.old p → CoreStandsFor self.new (with_done self.old.queue.max p ready.moment ask (done_by result)) }
+        ensures rules { core_rules self.new ≡ core_rules self.old }
     {
         let _version = self.registry.version();
         follow(
@@ -366,8 +366,8 @@ impl Core {
         ensures vips { self.new.vips ≡ self.old.vips }
         ensures leases { self.new.leases ≡ self.old.leases }
         ensures texts { self.new.texts ≡ self.old.texts }
-        ensures rules { rules_of self.new ≡ rules_of self.old }
-        ensures history { (p : Past) → StandsFor self.old p → StandsFor self.new (cleaned self.old.retention p now) }
+        ensures rules { core_rules self.new ≡ core_rules self.old }
+        ensures history { (p : Past) → CoreStandsFor self.old p → CoreStandsFor self.new (cleaned self.old.retention p now) }
     {
         self.queue.clean(now, self.retention);
         self.queue.base()
@@ -376,7 +376,7 @@ impl Core {
     /// How many instances are held.
     fn instances(&self) -> u64
         ensures held { result ≡ len self.now.registry.held }
-        ensures history { (h : List Entry) → registry.StandsFor self.now.registry h → result ≡ len (reg h) }
+        ensures history { (h : List Entry) → registry.StandsFor self.now.registry h → result ≡ len (registry_of h) }
     {
         self.registry.len() as u64
     }
@@ -384,14 +384,14 @@ impl Core {
     /// Closes a minute: keeps how many renewals were accepted since the last closing, and how many
     /// instances are held. Answers both. Takes no memory.
     pub fn close_minute(&mut self) -> Minute
-        ensures kept { (p : Past) → StandsFor self.old p → result ≡ (minute_closed p).closed }
+        ensures kept { (p : Past) → CoreStandsFor self.old p → result ≡ (minute_closed p).closed }
         ensures registry { self.new.registry ≡ self.old.registry }
         ensures vips { self.new.vips ≡ self.old.vips }
         ensures places { self.new.leases.places ≡ self.old.leases.places }
         ensures queue { self.new.queue ≡ self.old.queue }
         ensures texts { self.new.texts ≡ self.old.texts }
-        ensures rules { rules_of self.new ≡ rules_of self.old }
-        ensures history { (p : Past) → StandsFor self.old p → StandsFor self.new (minute_closed p) }
+        ensures rules { core_rules self.new ≡ core_rules self.old }
+        ensures history { (p : Past) → CoreStandsFor self.old p → CoreStandsFor self.new (minute_closed p) }
     {
         let instances = self.instances();
         let renewals = self.leases.close_minute(instances);
@@ -406,9 +406,9 @@ impl Core {
     /// came in the minute that was closed last. Refused only as `OutOfMemory`, and only where there
     /// is one.
     pub fn due(&self, now: u64) -> Result<Vec<&Key>, Fault>
-        ensures keys { IfOk result (λ found. (p : Past) → StandsFor self.now p → map (λ k. k.now) found.items ≡ taken_in p now) }
+        ensures keys { IfOk result (λ found. (p : Past) → CoreStandsFor self.now p → map (λ k. k.now) found.items ≡ taken_in p now) }
         ensures memory { IfErr result (λ e. e ≡ OutOfMemory) }
-        ensures refused { OnErr result ((p : Past) → StandsFor self.now p → 0 < length (taken_in p now)) }
+        ensures refused { OnErr result ((p : Past) → CoreStandsFor self.now p → 0 < length (taken_in p now)) }
     {
         self.leases.due(self.alloc, now, self.instances())
     }
@@ -431,7 +431,7 @@ impl Core {
         ensures written { IfOk result (λ o. is_delta key.now.query ≡ false
             → (h : List Entry) → registry.StandsFor self.now.registry h → IsWritten key.now.form key.now.query h (length h) (option_map (λ v. v.items) o)) }
         ensures delta { IfOk result (λ o. is_delta key.now.query ≡ true
-            → (p : Past) → StandsFor self.now p → IsWritten key.now.form key.now.query (history p) self.now.queue.base (option_map (λ v. v.items) o)) }
+            → (p : Past) → CoreStandsFor self.now p → IsWritten key.now.form key.now.query (history p) self.now.queue.base (option_map (λ v. v.items) o)) }
         ensures memory { IfErr result (λ e. e ≡ OutOfMemory) }
     {
         write_document(
@@ -453,8 +453,8 @@ impl Core {
         ensures key { IfOk result (λ o. IfSome o (λ d. d.value.key ≡ key.now)) }
         ensures version { IfOk result (λ o. IfSome o (λ d. d.value.version ≡ self.now.registry.version)) }
         ensures base { IfOk result (λ o. IfSome o (λ d. is_delta key.now.query ≡ true → d.value.base ≡ self.now.queue.base)) }
-        ensures true_now { IfOk result (λ o. IfSome o (λ d. (p : Past) → StandsFor self.now p → IsTrue p.run d.value (history p))) }
-        ensures absent { IfOk result (λ o. IfNone o ((p : Past) → StandsFor self.now p → is_absent (reg (history p)) (asked_by key.now.query) ≡ true)) }
+        ensures true_now { IfOk result (λ o. IfSome o (λ d. (p : Past) → CoreStandsFor self.now p → IsTrue p.run d.value (history p))) }
+        ensures absent { IfOk result (λ o. IfNone o ((p : Past) → CoreStandsFor self.now p → is_absent (registry_of (history p)) (asked_by key.now.query) ≡ true)) }
         ensures memory { IfErr result (λ e. e ≡ OutOfMemory) }
     {
         if key.query.is_delta() {
@@ -469,8 +469,8 @@ impl Core {
         ensures key { IfOk result (λ o. IfSome o (λ d. d.value.key ≡ key.now)) }
         ensures version { IfOk result (λ o. IfSome o (λ d. d.value.version ≡ self.now.registry.version)) }
         ensures base { IfOk result (λ o. IfSome o (λ d. d.value.base ≡ self.now.queue.base)) }
-        ensures true_now { IfOk result (λ o. IfSome o (λ d. (p : Past) → StandsFor self.now p → IsTrue p.run d.value (history p))) }
-        ensures absent { IfOk result (λ o. IfNone o ((p : Past) → StandsFor self.now p → is_absent (reg (history p)) (asked_by key.now.query) ≡ true)) }
+        ensures true_now { IfOk result (λ o. IfSome o (λ d. (p : Past) → CoreStandsFor self.now p → IsTrue p.run d.value (history p))) }
+        ensures absent { IfOk result (λ o. IfNone o ((p : Past) → CoreStandsFor self.now p → is_absent (registry_of (history p)) (asked_by key.now.query) ≡ true)) }
         ensures memory { IfErr result (λ e. e ≡ OutOfMemory) }
     {
         match self.text_of(key)? {
@@ -484,7 +484,7 @@ impl Core {
         ensures key { IfOk result (λ o. IfSome o (λ d. d.value.key ≡ key.now)) }
         ensures version { IfOk result (λ o. IfSome o (λ d. d.value.version ≡ self.now.registry.version)) }
         ensures true_now { IfOk result (λ o. IfSome o (λ d. (h : List Entry) → registry.StandsFor self.now.registry h → IsTrue self.now.run d.value h)) }
-        ensures absent { IfOk result (λ o. IfNone o ((h : List Entry) → registry.StandsFor self.now.registry h → is_absent (reg h) (asked_by key.now.query) ≡ true)) }
+        ensures absent { IfOk result (λ o. IfNone o ((h : List Entry) → registry.StandsFor self.now.registry h → is_absent (registry_of h) (asked_by key.now.query) ≡ true)) }
         ensures memory { IfErr result (λ e. e ≡ OutOfMemory) }
     {
         match self.text_of(key)? {

@@ -4,7 +4,7 @@ ghost use Rattle.std.specs.FinMap.{FinMap, insert, remove};
 ghost use Rattle.disco_values.specs.Key.{key_cmp};
 ghost use Rattle.disco_values.specs.declared.fault.Fault.TheVariants.{OutOfMemory};
 ghost use Rattle.disco_instance.specs.Row.{row};
-ghost use Rattle.disco_history.specs.Change.{Entry, key_of, seen};
+ghost use Rattle.disco_history.specs.Change.{Entry, key_of, change_view};
 ghost use Rattle.disco_history.specs.Registry.{put_of};
 ghost use Rattle.disco_registry.specs.Commit.{held_after};
 ghost use Rattle.disco_core.specs.Written.{AreWritten, HasNoEmptyText, HasTexts, IsSameWritten, kept_in, none_written};
@@ -27,9 +27,9 @@ pub(crate) struct BothTexts {
 impl Model for BothTexts {
     ghost use Rattle.std.specs.Coded.{codes};
     ghost use Rattle.std.specs.FinMap.{code};
-    ghost use Rattle.disco_core.specs.Written.{Written};
+    ghost use Rattle.disco_core.specs.Written.{KeptTexts};
 
-    ghost Value = { Written };
+    ghost Value = { KeptTexts };
 
     ghost coded = { Prim.hlevel (codes, code) };
 
@@ -80,7 +80,7 @@ impl BothTexts {
     /// Makes the texts of what a change puts, and places for them. Refused only as `OutOfMemory`.
     pub(crate) fn ready(&mut self, change: &Change) -> Result<(), Fault>
         ensures same { IsSameWritten self.old self.new }
-        ensures texts { OnOk result (HasTexts self.new (put_of (seen change.now))) }
+        ensures texts { OnOk result (HasTexts self.new (put_of (change_view change.now))) }
         ensures memory { IfErr result (λ e. e ≡ OutOfMemory) }
     {
         match change {
@@ -109,8 +109,8 @@ impl BothTexts {
 
     /// Puts the texts of what a change puts, and takes out those of what goes. Takes no memory.
     pub(crate) fn follow(&mut self, change: &Change)
-        requires { HasTexts self.old (put_of (seen change.now)) }
-        ensures { (m : FinMap key_cmp Entry) → AreWritten self.old m → AreWritten self.new (held_after m (Some (seen change.now))) }
+        requires { HasTexts self.old (put_of (change_view change.now)) }
+        ensures { (m : FinMap key_cmp Entry) → AreWritten self.old m → AreWritten self.new (held_after m (Some (change_view change.now))) }
     {
         match change {
             Change::Put { action, rec: _ } => match action {

@@ -2,10 +2,10 @@
 ghost use Rattle.std.specs.Prelude.{◌≡◌, IfErr, IsTrue, OnOk, Some, option_map};
 ghost use Rattle.std.specs.FinMap.{get};
 ghost use Rattle.disco_values.specs.declared.fault.Fault.TheVariants.{OutOfMemory};
-ghost use Rattle.disco_history.specs.Change.{key_of, seen};
+ghost use Rattle.disco_history.specs.Change.{key_of, change_view};
 ghost use Rattle.disco_history.specs.Held.{entry_of};
 ghost use Rattle.disco_history.specs.Registry.{put_of};
-ghost use Rattle.disco_index.specs.Vips.{IsIndexOf, IsSameVips, KeepsPlaces, RemovesAny};
+ghost use Rattle.disco_index.specs.Vips.{IsIndexOf, IsSameVips, KeepsVipPlaces, RemovesAny};
 ghost use Rattle.disco_registry.specs.Commit.{held_after};
 ghost use Rattle.disco_core.specs.Moves.{OthersStay, VipsStay};
 ghost use Rattle.disco_core.specs.State.{AddsAny, HasVipPlaces, IsSwept};
@@ -18,8 +18,8 @@ use disco_values::{Action, Fault};
 /// Makes the places that a change needs. Refused only as `OutOfMemory`.
 pub(crate) fn open(vips: &mut VipIndex, change: &Change) -> Result<(), Fault>
     ensures same { IsSameVips vips.old vips.new }
-    ensures others { OthersStay (put_of (seen change.now)) vips.old vips.new }
-    ensures places { OnOk result (HasVipPlaces vips.new (put_of (seen change.now))) }
+    ensures others { OthersStay (put_of (change_view change.now)) vips.old vips.new }
+    ensures places { OnOk result (HasVipPlaces vips.new (put_of (change_view change.now))) }
     ensures memory { IfErr result (λ e. e ≡ OutOfMemory) }
 {
     match change {
@@ -34,8 +34,8 @@ pub(crate) fn open(vips: &mut VipIndex, change: &Change) -> Result<(), Fault>
 /// Gives back the places of what a change puts that stand empty.
 pub(crate) fn close(vips: &mut VipIndex, change: &Change)
     ensures same { IsSameVips vips.old vips.new }
-    ensures others { OthersStay (put_of (seen change.now)) vips.old vips.new }
-    ensures swept { IsSwept vips.new (put_of (seen change.now)) }
+    ensures others { OthersStay (put_of (change_view change.now)) vips.old vips.new }
+    ensures swept { IsSwept vips.new (put_of (change_view change.now)) }
 {
     match change {
         Change::Put {
@@ -49,7 +49,7 @@ pub(crate) fn close(vips: &mut VipIndex, change: &Change)
 /// The instance of a held record has no vip any more.
 fn take(vips: &mut VipIndex, held: Option<&Held>)
     ensures vips { RemovesAny (option_map (λ h. entry_of h.now) held.entry) vips.old vips.new }
-    ensures places { KeepsPlaces vips.old vips.new }
+    ensures places { KeepsVipPlaces vips.old vips.new }
 {
     if let Some(held) = held {
         vips.take(&held.rec);
@@ -58,8 +58,8 @@ fn take(vips: &mut VipIndex, held: Option<&Held>)
 
 /// The instance has the vips of the record that a change puts.
 fn add(vips: &mut VipIndex, change: &Change)
-    requires { HasVipPlaces vips.old (put_of (seen change.now)) }
-    ensures { AddsAny (put_of (seen change.now)) vips.old vips.new }
+    requires { HasVipPlaces vips.old (put_of (change_view change.now)) }
+    ensures { AddsAny (put_of (change_view change.now)) vips.old vips.new }
 {
     match change {
         Change::Put { action, rec } => match action {
@@ -83,7 +83,7 @@ fn sweep(vips: &mut VipIndex, held: Option<&Held>)
 
 /// Whether a change puts a record with the vips of the held one.
 fn stay(held: Option<&Held>, change: &Change) -> bool
-    ensures { IsTrue result → VipsStay (option_map (λ h. entry_of h.now) held.entry) (put_of (seen change.now)) }
+    ensures { IsTrue result → VipsStay (option_map (λ h. entry_of h.now) held.entry) (put_of (change_view change.now)) }
 {
     match (held, change) {
         (
@@ -100,10 +100,10 @@ fn stay(held: Option<&Held>, change: &Change) -> bool
 /// Does to the vips what a change is about to do to the registry, and gives back the places that it
 /// leaves empty.
 pub(crate) fn follow(vips: &mut VipIndex, registry: &Registry, change: &Change)
-    requires places { HasVipPlaces vips.old (put_of (seen change.now)) }
+    requires places { HasVipPlaces vips.old (put_of (change_view change.now)) }
     requires index { IsIndexOf vips.old registry.now.held }
-    ensures index { IsIndexOf vips.new (held_after registry.now.held (Some (seen change.now))) }
-    ensures swept { IsSwept vips.new (get registry.now.held (key_of (seen change.now))) }
+    ensures index { IsIndexOf vips.new (held_after registry.now.held (Some (change_view change.now))) }
+    ensures swept { IsSwept vips.new (get registry.now.held (key_of (change_view change.now))) }
 {
     let held = registry.held(change.key());
     if stay(held, change) {

@@ -1,6 +1,6 @@
 //! Accepts that fail.
 use crate::client::visit;
-use disco_connections::{Door, Post, Workers, listen, next_connection};
+use disco_connections::{Acceptor, Post, Workers, listen, next_connection};
 use std::alloc::Global;
 use std::net::{Net, OpenListener, SocketAddr, TcpListener, TcpStream};
 use std::sync::atomic::{AtomicU64, Ordering};
@@ -47,10 +47,10 @@ fn is_taken<R: Net<Stream = TcpStream> + Wait + rt::Clock>(
     };
     let workers = Workers::new(alloc, 1)?;
     let mut post = Post::new(rt, alloc, &workers, 0, &listener)?;
-    let door = Mutex::new(Door::new(0));
+    let acceptor = Mutex::new(Acceptor::new(0));
     let _visit = visit(rt, listener.local_addr()?)?;
-    let taken = next_connection(rt, &failing, &door, &mut post);
-    Ok(taken.is_some() && door.into_inner().outcome().is_ok())
+    let taken = next_connection(rt, &failing, &acceptor, &mut post);
+    Ok(taken.is_some() && acceptor.into_inner().outcome().is_ok())
 }
 
 /// A failure that passes is waited out, and one that doesn't shuts the door.

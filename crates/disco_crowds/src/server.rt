@@ -1,5 +1,7 @@
 //! The server of the trials.
-use disco_connections::{Buffers, Door, Post, Waits, Workers, attend, next_connection};
+use disco_connections::{
+    Acceptor, Buffers, Post, Waits, Workers, next_connection, serve_connection,
+};
 use disco_http::Service;
 use disco_message::{Document, Limits, Reply, Request, StatusLine};
 use std::alloc::Global;
@@ -48,7 +50,7 @@ impl Service for Always {
 #[derive(Clone, Copy)]
 struct Entrance<'a> {
     listener: &'a TcpListener,
-    door: &'a Mutex<Door>,
+    acceptor: &'a Mutex<Acceptor>,
     workers: &'a Workers,
     waits: &'a Waits,
 }
@@ -63,11 +65,11 @@ fn work<R: Net<Listener = TcpListener, Stream = TcpStream> + Wait + rt::Clock>(
     let mut post = Post::new(rt, alloc, entrance.workers, number, entrance.listener)?;
     let mut buffers = Buffers::new(alloc, Limits::of_server())?;
     for _ in rt.forever() {
-        let Some((stream, _)) = next_connection(rt, entrance.listener, entrance.door, &mut post)
+        let Some((stream, _)) = next_connection(rt, entrance.listener, entrance.acceptor, &mut post)
         else {
             return Ok(());
         };
-        buffers = attend(
+        buffers = serve_connection(
             rt,
             alloc,
             buffers,
@@ -90,11 +92,11 @@ pub(crate) fn serve<
     waits: &Waits,
     connections: u64,
 ) -> io::Result<()> {
-    let door = Mutex::new(Door::new(connections));
+    let acceptor = Mutex::new(Acceptor::new(connections));
     let workers = Workers::new(alloc, WORKERS)?;
     let entrance = Entrance {
         listener,
-        door: &door,
+        acceptor: &acceptor,
         workers: &workers,
         waits,
     };

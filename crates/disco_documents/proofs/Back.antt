@@ -8,7 +8,7 @@ use Rattle.disco_values.specs.declared.status.Status.TheVariants.{Unknown, Up}
 use Rattle.disco_values.specs.Status.{status_name, status_named}
 use Rattle.disco_instance.specs.Row.{Row, IsWellFormed}
 use Rattle.disco_values.specs.Text.{in_upper_case}
-use Rattle.disco_instance.specs.Instance.{key_at, key_by, row_at, action_at, lease_at}
+use Rattle.disco_instance.specs.Instance.{key_at, key_by, row_at, action_at, lease_in}
 use Rattle.disco_instance.specs.Members.{not_empty, port_at}
 use Rattle.disco_digits.specs.Digits.{digits_number}
 use Rattle.disco_wire.specs.Meaning.{told_in}
@@ -25,7 +25,7 @@ use Rattle.serde_json.specs.Data.{object, member, no_members}
 pub_port : (p : Port) (default : ℕ) (enabled : Bool) → p.number < 2 ^ 16 → port_at (codes "port") default enabled (object (member (codes "port") (port_tree p) no_members)) ≡ p
 pub_port p default enabled small = λ i. record { number = in_range 0 65535 default p.number (omega arith) (omega arith) i; enabled = unwrap_or (flag_again p.enabled i) enabled }
 
-lease_again : (l : Lease) → 0 < l.duration_secs → l.duration_secs < 2 ^ 31 → l.renewal_interval_secs < 2 ^ 31 → l.eviction < 2 ^ 64 → l.last_renewal < 2 ^ 64 → l.registration < 2 ^ 64 → l.service_up < 2 ^ 64 → lease_at (lease_tree l) ≡ l
+lease_again : (l : Lease) → 0 < l.duration_secs → l.duration_secs < 2 ^ 31 → l.renewal_interval_secs < 2 ^ 31 → l.eviction < 2 ^ 64 → l.last_renewal < 2 ^ 64 → l.registration < 2 ^ 64 → l.service_up < 2 ^ 64 → lease_in (lease_tree l) ≡ l
 lease_again l a b c d e f g = λ i. record {
   duration_secs = in_range 1 2147483647 90 l.duration_secs (omega arith) (omega arith) i;
   renewal_interval_secs = in_range 0 2147483647 30 l.renewal_interval_secs (omega arith) (omega arith) i;

@@ -3,11 +3,11 @@ use Rattle.std.specs.Prelude.{◌≡◌, ◌≤◌, ℕ, Bool, true, false, List
 use Rattle.std.specs.FinMap.{values}
 use Rattle.serde_json.specs.Written.{compact_text}
 use Rattle.disco_values.specs.declared.form.Form.{Form}
-use Rattle.disco_history.specs.Change.{Entry, front}
+use Rattle.disco_history.specs.Change.{Entry, prefix}
 use Rattle.disco_history.specs.Hash.{hash}
 use Rattle.disco_history.specs.Mentions.{delta}
-use Rattle.disco_history.specs.Query.{Asked, all, of_app, of_vip, of_secure_vip, of_key, is_absent, restrict}
-use Rattle.disco_history.specs.Registry.{reg, said}
+use Rattle.disco_history.specs.Query.{Selector, all, of_app, of_vip, of_secure_vip, of_key, is_absent, restrict}
+use Rattle.disco_history.specs.Registry.{registry_of, mentions_of}
 use Rattle.disco_wire.specs.Documents.{document_of}
 use Rattle.disco_wire.specs.Meaning.{Meaning}
 use Rattle.disco_wire.specs.declared.wire.Shape.{Shape}
@@ -20,7 +20,7 @@ use Rattle.disco_query.specs.declared.query.Query.TheVariants as query
 
 -- a kind of document: of which records it is, its shape, and whether it is kept while other changes come
 pub record Kind : Type 0 where
-  pub asked : Asked
+  pub asked : Selector
   pub shape : Shape
   pub kept : Bool
 
@@ -34,7 +34,7 @@ kind (query.Svip vip) = record { asked = of_secure_vip vip; shape = Many; kept =
 kind (query.Instance key) = record { asked = of_key key; shape = One; kept = false }
 
 -- which records a query asks for; a delta is of all of them
-abbrev pub asked_by : Query → Asked
+abbrev pub asked_by : Query → Selector
 asked_by q = (kind q).asked
 
 -- a document of many apps has a hash code and a version, another one neither
@@ -44,8 +44,8 @@ if_many App x = None
 if_many One x = None
 
 -- the mentions of the records that are asked for after a history, by app, then id
-abbrev pub mentioned : Asked → List Entry → List Entry
-mentioned a h = values (said h (restrict (reg h) a))
+abbrev pub mentioned : Selector → List Entry → List Entry
+mentioned a h = values (mentions_of h (restrict (registry_of h) a))
 
 -- the mentions of a query's document: the last changes from the base on, or those of the records
 abbrev pub told : Query → List Entry → ℕ → List Entry
@@ -53,7 +53,7 @@ told q h base = if is_delta q then values (delta h base) else mentioned (asked_b
 
 -- the hash code of the records that are asked for: a delta's is that of all
 abbrev pub hash_of : Query → List Entry → List ℕ
-hash_of q h = hash (values (restrict (reg h) (asked_by q)))
+hash_of q h = hash (values (restrict (registry_of h) (asked_by q)))
 
 -- what a document in a form means after a history, from a base, where it was built at a version
 abbrev pub meaning_for : Query → Form → List Entry → ℕ → ℕ → Meaning
@@ -71,12 +71,12 @@ text_for q f h base v = compact_text (tree_of f (asked_by q) (told q h base) (ha
 -- a text means a document after a history, however it is written: a delta from its base to now; another one of now, or, where it is kept, of an earlier version since which nothing that is asked for has changed
 pub record MeansFor (q : Query) (text : List ℕ) (base version : ℕ) (f : Form) (h : List Entry) : Type 0 where
   pub meaning : document_of text ≡ Ok (meaning_for q f h base version)
-  pub there : is_absent (reg h) (asked_by q) ≡ false
+  pub there : is_absent (registry_of h) (asked_by q) ≡ false
   pub start : base ≤ version
   pub whole : is_delta q ≡ false → base ≡ version
   pub past : version ≤ length h
   pub now : (kind q).kept ≡ false → version ≡ length h
-  pub same : meaning_for q f (front h version) base version ≡ meaning_for q f h base version
+  pub same : meaning_for q f (prefix h version) base version ≡ meaning_for q f h base version
 
 -- a true document after a history: it means what it has to, and is the one text that is written of it
 pub record IsTrueFor (q : Query) (text : List ℕ) (base version : ℕ) (f : Form) (h : List Entry) : Type 0 where
@@ -85,5 +85,5 @@ pub record IsTrueFor (q : Query) (text : List ℕ) (base version : ℕ) (f : For
 
 -- what is written of a query in a form after a history, a delta from a base: nothing exactly where it is absent, else the compact text of its tree, which means what is asked for
 abbrev pub IsWritten : Form → Query → List Entry → ℕ → Option (List ℕ) → Type 0
-IsWritten f q h base None = is_absent (reg h) (asked_by q) ≡ true
-IsWritten f q h base (Some text) = (is_absent (reg h) (asked_by q) ≡ false) × (text ≡ text_for q f h base (length h)) × (document_of text ≡ Ok (meaning_for q f h base (length h)))
+IsWritten f q h base None = is_absent (registry_of h) (asked_by q) ≡ true
+IsWritten f q h base (Some text) = (is_absent (registry_of h) (asked_by q) ≡ false) × (text ≡ text_for q f h base (length h)) × (document_of text ≡ Ok (meaning_for q f h base (length h)))

@@ -11,7 +11,7 @@ use Rattle.disco_values.specs.declared.form.Form.TheVariants.{Full, Compact}
 use Rattle.disco_instance.specs.declared.lease.Lease.{Lease}
 use Rattle.disco_instance.specs.declared.port.Port.{Port}
 use Rattle.disco_history.specs.Change.{Entry}
-use Rattle.disco_history.specs.Query.{Asked, all, of_app, of_vip, of_secure_vip, of_key}
+use Rattle.disco_history.specs.Query.{Selector, all, of_app, of_vip, of_secure_vip, of_key}
 
 -- members in this order
 abbrev pub in_order : List (List ℕ × Data) → Members
@@ -137,7 +137,7 @@ instance_document f [] = tree []
 instance_document f (e ∷ es) = tree ((codes "instance", instance_tree f e) ∷ [])
 
 -- the document of these instances, with this hash code where it is of many apps
-abbrev pub tree_of : Form → Asked → List Entry → List ℕ → ℕ → Data
+abbrev pub tree_of : Form → Selector → List Entry → List ℕ → ℕ → Data
 tree_of f all es hash version = document_tree f es hash version
 tree_of f (of_app name) es hash version = app_document f name es
 tree_of f (of_vip vip) es hash version = document_tree f es hash version

@@ -1,8 +1,8 @@
 -- What readers take: the rule that each step of readers and writer keeps, and that a publish has to show.
 use Rattle.std.specs.Prelude.{◌≡◌, ℕ, List}
 use Rattle.disco_rounds.specs.Press.{Edition, IsLegal, IsPublishable, Note, edition_of}
-use Rattle.disco_editions.specs.Rolls.{notes_in, publications}
-use Rattle.disco_editions.specs.declared.shown.Shown.{Shown}
+use Rattle.disco_editions.specs.Logs.{notes_in, publications}
+use Rattle.disco_editions.specs.declared.snapshot.Snapshot.{Snapshot}
 
 -- the documents are the edition of these publications, which are legal in one run and may be seen
 pub record IsEditionOf (ps : List (List Note)) (docs : Edition) : Type 0 where
@@ -12,5 +12,5 @@ pub record IsEditionOf (ps : List (List Note)) (docs : Edition) : Type 0 where
   pub publishable : IsPublishable (notes_in ps)
 
 -- they are those of publications of the desk of this name
-abbrev pub IsShown : ℕ → Shown → Type 0
-IsShown name x = (x.page.leaf.name ≡ name) × IsEditionOf (publications x.page.leaf.items) x.docs
+abbrev pub IsShown : ℕ → Snapshot → Type 0
+IsShown name x = (x.prefix.leaf.name ≡ name) × IsEditionOf (publications x.prefix.leaf.items) x.docs

@@ -1,3 +1,3 @@
 pub mod Editions
+pub mod Logs
 pub mod Looks
-pub mod Rolls

@@ -1,20 +1,20 @@
 //! Editions that readers take without a lock, each with the press list that it is of.
 #![tactic(auto)]
 
-mod front;
+mod entry;
 mod heard;
+mod log;
 mod looking;
-mod mark;
-mod printer;
-mod roll;
-mod shown;
-mod window;
+mod published_log;
+mod snapshot;
+mod snapshot_reader;
+mod snapshot_writer;
 
-pub use front::{Front, Naming, Page};
+pub use entry::LogEntry;
 pub use heard::Heard;
+pub use log::PublicationLog;
 pub use looking::Looked;
-pub use mark::Mark;
-pub use printer::Printer;
-pub use roll::Roll;
-pub use shown::Shown;
-pub use window::Window;
+pub use published_log::{LogPrefix, Naming, PublishedLog};
+pub use snapshot::Snapshot;
+pub use snapshot_reader::SnapshotReader;
+pub use snapshot_writer::SnapshotWriter;

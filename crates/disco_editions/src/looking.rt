@@ -2,11 +2,11 @@
 ghost use Rattle.std.specs.Prelude.{IfSome};
 ghost use Rattle.std.specs.FinMap.{get};
 ghost use Rattle.disco_editions.specs.Looks.{Finds, Shows};
-ghost use Rattle.disco_editions.specs.Rolls.{notes_in};
+ghost use Rattle.disco_editions.specs.Logs.{notes_in};
 
-use crate::front::{Front, Naming};
-use crate::printer::PressReader;
-use crate::shown::Sees;
+use crate::published_log::{Naming, PublishedLog};
+use crate::snapshot::Sees;
+use crate::snapshot_writer::PressReader;
 use disco_cache::{Edition, Payload};
 use disco_query::DocKey;
 use std::alloc::Global;
@@ -41,16 +41,16 @@ fn find(edition: &Edition, key: &DocKey) -> Looked
 pub(crate) fn look_in<J: Naming>(
     reader: PressReader<J>,
     key: &DocKey,
-) -> (PressReader<J>, (Looked, Option<Front<J>>))
+) -> (PressReader<J>, (Looked, Option<PublishedLog<J>>))
     ensures { IfSome result.1.1 (λ ps. Shows (notes_in ps) key.now result.1.0) }
 {
     match reader.enter_as::<Sees<J>>() {
         Err(reader) => (reader, (Looked::Shut, None)),
         Ok(reading) => {
             let shown = reading.get();
-            let front = Front::of(shown.page.again());
+            let published = PublishedLog::of(shown.prefix.again());
             let looked = find(&shown.docs, key);
-            (reading.leave(), (looked, Some(front)))
+            (reading.leave(), (looked, Some(published)))
         }
     }
 }

@@ -8,19 +8,19 @@ use Rattle.clap.specs.declared.error.kind.ErrorKind.TheVariants as kind
 use Rattle.disco_options.specs.Ending.{EndsBy}
 use Rattle.disco_options.specs.Faults.{IsStatusAmong, SaysAny, status_of_kind}
 use Rattle.disco_options.specs.Options.{AreMatches, faults_of, flag_given, matches_for, number_given}
-use Rattle.disco_options.specs.declared.verb.Verb.TheVariants.{Fleet}
-use Rattle.disco_fleet.specs.Fleets.{IsGiven, ask_for_no_run, faults_of_fleet, faults_of_restart, is_last}
+use Rattle.disco_options.specs.declared.subcommand.Subcommand.TheVariants.{Fleet}
+use Rattle.disco_fleet.specs.Fleets.{IsFleetPlan, ask_for_no_run, faults_of_fleet, faults_of_restart, is_last_run}
 use Rattle.disco_fleet.specs.declared.fleets.plan.Plan.{Plan}
 
 -- the plan asks for it exactly where the words do
-asked : (words : List Text) (rows : List Given) (p : Plan) → AreMatches Fleet words rows → IsGiven rows p → ask_for_no_run words ≡ is_last p.restart p.settings.run
+asked : (words : List Text) (rows : List Given) (p : Plan) → AreMatches Fleet words rows → IsFleetPlan rows p → ask_for_no_run words ≡ is_last_run p.restart p.settings.run
 unfolding ask_for_no_run
 asked words rows p m g =
-    let test : List Given → Bool = λ rows. is_last (flag_given (codes "restart") rows) (unwrap_or (number_given (codes "run") rows) 0) in
-    ap (λ o. option_map_or (λ options. test (matches_for Fleet options)) o false) m.1 ∙ ap test (sym m.2) ∙ (λ i. is_last (sym g.restart i) (sym g.settings.run i))
+    let test : List Given → Bool = λ rows. is_last_run (flag_given (codes "restart") rows) (unwrap_or (number_given (codes "run") rows) 0) in
+    ap (λ o. option_map_or (λ options. test (matches_for Fleet options)) o false) m.1 ∙ ap test (sym m.2) ∙ (λ i. is_last_run (sym g.restart i) (sym g.settings.run i))
 
 -- what is wrong with words that are good by themselves
-good_words : (words : List Text) (rows : List Given) (p : Plan) → faults_of Fleet words ≡ [] → AreMatches Fleet words rows → IsGiven rows p → faults_of_fleet words ≡ faults_of_restart (is_last p.restart p.settings.run)
+good_words : (words : List Text) (rows : List Given) (p : Plan) → faults_of Fleet words ≡ [] → AreMatches Fleet words rows → IsFleetPlan rows p → faults_of_fleet words ≡ faults_of_restart (is_last_run p.restart p.settings.run)
 good_words words rows p good m g =
     ap (λ ks. or_else ks (faults_of_restart (ask_for_no_run words))) good ∙ ap faults_of_restart (asked words rows p m g)
 
@@ -93,6 +93,6 @@ module _ {W E : Type 0} (contents : E → Option (List ℕ)) (failed : E → ℕ
   }
   refused_restart false e two same = absurd (cc)
 
-  pub carried_out : (words : List Text) (rows : List Given) (p : Plan) → faults_of Fleet words ≡ [] → AreMatches Fleet words rows → IsGiven rows p
-      → EndsBy contents failed (faults_of_restart (is_last p.restart p.settings.run)) status out-old out-new errors-old errors-new → EndsBy contents failed (faults_of_fleet words) status out-old out-new errors-old errors-new
+  pub carried_out : (words : List Text) (rows : List Given) (p : Plan) → faults_of Fleet words ≡ [] → AreMatches Fleet words rows → IsFleetPlan rows p
+      → EndsBy contents failed (faults_of_restart (is_last_run p.restart p.settings.run)) status out-old out-new errors-old errors-new → EndsBy contents failed (faults_of_fleet words) status out-old out-new errors-old errors-new
   carried_out words rows p good m g e = subst (λ ks. EndsBy contents failed ks status out-old out-new errors-old errors-new) (sym (good_words words rows p good m g)) e

@@ -1,7 +1,7 @@
 //! The command `fleet`.
 ghost use Rattle.std.specs.Prelude.{◌≡◌, ◌+◌, false, IfSome, map, string_bytes};
 ghost use Rattle.clap.specs.Words.{found_of, rows_of};
-ghost use Rattle.disco_fleet.specs.Fleets.{IsGiven, faults_of_fleet, faults_of_restart, is_last};
+ghost use Rattle.disco_fleet.specs.Fleets.{IsFleetPlan, faults_of_fleet, faults_of_restart, is_last_run};
 ghost use Rattle.disco_options.specs.Ending.{EndsBy};
 
 mod following;
@@ -14,7 +14,7 @@ mod showing;
 
 use clap::ArgMatches;
 use disco_options::{
-    MOST_THREADS, Verb, count, flag_given, read_words, refused, report, settings_from,
+    MOST_THREADS, Subcommand, count, flag_given, read_words, refused, report, settings_from,
 };
 use disco_press::Opening;
 use disco_settings::{MOST_INSTANCES, Settings};
@@ -33,7 +33,7 @@ use std::thread::Threads;
 
 /// What the words of `fleet` name.
 fn plan_from(matches: &ArgMatches<'_>) -> Plan
-    ensures { IsGiven (rows_of (found_of matches.now)) result }
+    ensures { IsFleetPlan (rows_of (found_of matches.now)) result }
 {
     Plan {
         settings: settings_from(matches, 0),
@@ -47,7 +47,7 @@ fn plan_from(matches: &ArgMatches<'_>) -> Plan
 
 /// The settings of the next run, if a restart is asked for.
 fn restarted(plan: &Plan) -> Option<Settings>
-    requires { is_last plan.now.restart plan.now.settings.run ≡ false }
+    requires { is_last_run plan.now.restart plan.now.settings.run ≡ false }
     ensures { IfSome result (λ s. s.run ≡ plan.now.settings.run + 1) }
 {
     if !plan.restart {
@@ -62,7 +62,7 @@ fn restarted(plan: &Plan) -> Option<Settings>
 fn run_all<R, W: Sink>(rt: &R, alloc: Global, plan: &Plan, out: &mut W) -> Result<(), Fault>
 where
     R: Net<Listener = TcpListener, Stream = TcpStream> + Threads + Wait + Clock + Sync,
-    requires { is_last plan.now.restart plan.now.settings.run ≡ false }
+    requires { is_last_run plan.now.restart plan.now.settings.run ≡ false }
 {
     let restarted = restarted(plan);
     let clients = followers(alloc, plan)?;
@@ -114,7 +114,7 @@ fn carry_out<R, W: Sink, E: Sink>(
 ) -> u8
 where
     R: Net<Listener = TcpListener, Stream = TcpStream> + Threads + Wait + Clock + Sync,
-    ensures { EndsBy E.contents E.failed (faults_of_restart (is_last plan.now.restart plan.now.settings.run)) result out.old out.new errors.old errors.new }
+    ensures { EndsBy E.contents E.failed (faults_of_restart (is_last_run plan.now.restart plan.now.settings.run)) result out.old out.new errors.old errors.new }
 {
     if plan.restart && plan.settings.run == u64::MAX {
         return refuse_restart(errors);
@@ -151,7 +151,7 @@ where
     R: Net<Listener = TcpListener, Stream = TcpStream> + Threads + Wait + Clock + Sync,
     ensures { EndsBy E.contents E.failed (faults_of_fleet (map string_bytes words.now)) result out.old out.new errors.old errors.new }
 {
-    match read_words(alloc, Verb::Fleet, words) {
+    match read_words(alloc, Subcommand::Fleet, words) {
         Ok(matches) => carry_out(rt, alloc, &plan_from(&matches), out, errors),
         Err(error) => refused(alloc, &error, out, errors),
     }

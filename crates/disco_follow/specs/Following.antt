@@ -3,8 +3,8 @@ use Rattle.std.specs.Prelude.{◌≡◌, ℕ, List, Option, None, if◌then◌el
 use Rattle.clap.specs.Words.{Row as Given, Text}
 use Rattle.disco_follow.specs.declared.plan.Plan.{Plan}
 use Rattle.disco_options.specs.Options.{AreMatches, flag_given, number_given, port_in, text_given, within}
-use Rattle.disco_options.specs.declared.verb.Verb.TheVariants.{Follow}
-use Rattle.disco_reconcile.specs.State.{State}
+use Rattle.disco_options.specs.declared.subcommand.Subcommand.TheVariants.{Follow}
+use Rattle.disco_reconcile.specs.State.{ClientState}
 use Rattle.disco_reconcile.specs.declared.kept.Kept.TheVariants.{Certified}
 use Rattle.disco_telling.specs.Following.{Follows, turns_of}
 use Rattle.disco_values.specs.declared.form.Form.{Form}
@@ -23,7 +23,7 @@ abbrev pub times_in : List Given → ℕ
 times_in rows = unwrap_or (number_given (codes "times") rows) 0
 
 -- the port, the form, the pause in milliseconds (30 seconds where none is given) and the number of refreshes (0, which is no end) are those given
-pub record IsGiven (rows : List Given) (p : Plan) : Type 0 where
+pub record IsFollowPlan (rows : List Given) (p : Plan) : Type 0 where
   pub port : p.port ≡ port_in rows
   pub form : p.form ≡ form_in rows
   pub pause : p.pause ≡ within 18446744073709551615 30000 (number_given (codes "every") rows)
@@ -31,7 +31,7 @@ pub record IsGiven (rows : List Given) (p : Plan) : Type 0 where
 
 -- a certified client without a copy is refreshed so many times, by what a server answers, and what is told of it is written; of its fetcher only the number of failures is known
 abbrev pub Tells : Option (List ℕ) → Form → ℕ → Option (List ℕ) → Option (List ℕ) → Type 0
-Tells vip form times old new = (left : State ℕ) × Follows (λ _ _ _ _. Unit {0}) (λ l. l) vip (turns_of times) (record { fetcher = 0; form = form; kept = Certified None }) left old new
+Tells vip form times old new = (left : ClientState ℕ) × Follows (λ _ _ _ _. Unit {0}) (λ l. l) vip (turns_of times) (record { fetcher = 0; form = form; kept = Certified None }) left old new
 
 -- the words are `follow` and options, and what these ask for is told
 unfoldable pub TellsFor : List Text → Option (List ℕ) → Option (List ℕ) → Type 0

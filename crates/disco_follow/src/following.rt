@@ -1,7 +1,7 @@
 //! The command `follow`.
 ghost use Rattle.std.specs.Prelude.{◌≡◌, [], IfOk, OnOk, map, string_bytes};
 ghost use Rattle.clap.specs.Words.{found_of, rows_of};
-ghost use Rattle.disco_follow.specs.Following.{IsGiven, Tells, TellsFor, form_in, vip_in};
+ghost use Rattle.disco_follow.specs.Following.{IsFollowPlan, Tells, TellsFor, form_in, vip_in};
 ghost use Rattle.disco_options.specs.Ending.{EndsBy};
 ghost use Rattle.disco_options.specs.Options.{faults_of};
 
@@ -10,7 +10,7 @@ use crate::line::Line;
 use crate::plan::Plan;
 use clap::ArgMatches;
 use disco_options::{
-    MOST_PORT, PAUSE, Verb, count, flag_given, number_given, read_words, refused, report,
+    MOST_PORT, PAUSE, Subcommand, count, flag_given, number_given, read_words, refused, report,
     report_address, text_given,
 };
 use disco_reconcile::Client;
@@ -34,7 +34,7 @@ fn form_from(matches: &ArgMatches<'_>) -> Form
 
 /// What the words of `follow` name, but for the vip.
 fn plan_from(matches: &ArgMatches<'_>) -> Plan
-    ensures { IsGiven (rows_of (found_of matches.now)) result }
+    ensures { IsFollowPlan (rows_of (found_of matches.now)) result }
 {
     Plan {
         port: count(matches, "port", MOST_PORT, 1) as u16,
@@ -140,13 +140,13 @@ pub fn follow<R, W: Sink, E: Sink>(
 ) -> u8
 where
     R: Net<Stream = TcpStream> + Clock,
-    ensures ends { EndsBy E.contents E.failed (faults_of Verb.Follow (map string_bytes words.now)) result out.old out.new errors.old errors.new }
+    ensures ends { EndsBy E.contents E.failed (faults_of Subcommand.Follow (map string_bytes words.now)) result out.old out.new errors.old errors.new }
 
     // Words with no fault are `follow` with options: 0 says that all that these ask for was told.
-    ensures told { faults_of Verb.Follow (map string_bytes words.now) ≡ [] → result ≡ 0
+    ensures told { faults_of Subcommand.Follow (map string_bytes words.now) ≡ [] → result ≡ 0
         → TellsFor (map string_bytes words.now) (W.contents out.old) (W.contents out.new) }
 {
-    let matches = match read_words(alloc, Verb::Follow, words) {
+    let matches = match read_words(alloc, Subcommand::Follow, words) {
         Ok(matches) => matches,
         Err(error) => return refused(alloc, &error, out, errors),
     };

@@ -16,7 +16,7 @@ use Rattle.disco_history.specs.Hash.{count_of, hash, hash_by}
 use Rattle.disco_history.specs.Laws.{FormLaw}
 use Rattle.disco_instance.specs.Mention.{Mention}
 use Rattle.disco_history.specs.Mentions.{copied, known, overlaid_by, overlay}
-use Rattle.disco_history.specs.Query.{Asked, all, of_app, of_vip, of_secure_vip, of_key, asks_for, restrict}
+use Rattle.disco_history.specs.Query.{Selector, all, of_app, of_vip, of_secure_vip, of_key, asks_for, restrict}
 use Rattle.disco_history.specs.Registry.{put_of}
 use Rattle.disco_history.proofs.Keys.{keys_total, exact_keys, get-chosen}
 use Rattle.disco_history.proofs.Lasts.{last_mapped}
@@ -90,7 +90,7 @@ copied_formed f ms = same_map keys_total exact_keys _ _ (λ q.
 
 -- ---- restrictions
 
-asks_alike : (f : Form) (a : Asked) (r : Row) → asks_for a (formed f r) ≡ asks_for a r
+asks_alike : (f : Form) (a : Selector) (r : Row) → asks_for a (formed f r) ≡ asks_for a r
 asks_alike Full a r = refl
 asks_alike Compact all r = refl
 asks_alike Compact (of_app name) r = refl
@@ -98,7 +98,7 @@ asks_alike Compact (of_vip vip) r = refl
 asks_alike Compact (of_secure_vip vip) r = refl
 asks_alike Compact (of_key k) r = refl
 
-asked_formed : (f : Form) (a : Asked) (o : Option Row) → asked_of a (formed_at f o) ≡ formed_at f (asked_of a o)
+asked_formed : (f : Form) (a : Selector) (o : Option Row) → asked_of a (formed_at f o) ≡ formed_at f (asked_of a o)
 asked_formed f a None = refl
 asked_formed f a (Some r) = ap (λ b. cond b (Some (formed f r)) None) (asks_alike f a r) ∙ one (asks_for a r)
   where
@@ -106,7 +106,7 @@ asked_formed f a (Some r) = ap (λ b. cond b (Some (formed f r)) None) (asks_ali
     one true = refl
     one false = refl
 
-restrict_formed : (f : Form) (s : FinMap key_cmp Row) (a : Asked) → restrict (in_form f s) a ≡ in_form f (restrict s a)
+restrict_formed : (f : Form) (s : FinMap key_cmp Row) (a : Selector) → restrict (in_form f s) a ≡ in_form f (restrict s a)
 restrict_formed f s a = same_map keys_total exact_keys _ _ (λ q.
     get-restrict (in_form f s) a q
     ∙ ap (asked_of a) (get-in_form f s q)

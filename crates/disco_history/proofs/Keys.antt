@@ -14,7 +14,7 @@ use Rattle.std.proofs.Common.{◌&&◌}
 use Rattle.std.proofs.lemmas.Map.Lookups.{CmpEqualImpliesEq, exact_pairs, exact_bytes}
 use Rattle.disco_values.specs.declared.key.Key.{Key}
 use Rattle.disco_values.specs.Key.{key_cmp, same_key}
-use Rattle.disco_history.specs.Chosen.{chosen}
+use Rattle.disco_history.specs.Chosen.{map_at}
 
 pub keys_total : IsTotalOrder key_cmp
 keys_total = then_total (on_total (λ k. k.app) nat_list_cmp_total) (on_total (λ k. k.id) nat_list_cmp_total)
@@ -60,14 +60,14 @@ module _ {V : Type 0} (f : Key → Option V) (q : Key) where
   find_chosen [] = refl
   find_chosen (k ∷ ks) = step k _ _ (f k) (same_key q k) refl (λ e. ap f (same_is q k e)) (find_chosen ks)
 
-  -- nothing but at the keys that it was chosen from
-  pub get-chosen_in : (ks : List Key) → get (chosen f ks) q ≡ cond (list_any (same_key q) ks) (f q) None
-  unfolding chosen
+  -- nothing but at the keys that it was map_at from
+  pub get-chosen_in : (ks : List Key) → get (map_at f ks) q ≡ cond (list_any (same_key q) ks) (f q) None
+  unfolding map_at
   get-chosen_in ks = get-from_entries keys_total _ q ∙ find_chosen ks
 
   all_found : (b : Bool) → (b ≡ false → f q ≡ None) → cond b (f q) None ≡ f q
   all_found true absent = refl
   all_found false absent = sym (absent refl)
 
-  pub get-chosen : (ks : List Key) → (list_any (same_key q) ks ≡ false → f q ≡ None) → get (chosen f ks) q ≡ f q
+  pub get-chosen : (ks : List Key) → (list_any (same_key q) ks ≡ false → f q ≡ None) → get (map_at f ks) q ≡ f q
   get-chosen ks absent = get-chosen_in ks ∙ all_found (list_any (same_key q) ks) absent

@@ -8,10 +8,10 @@ use Rattle.disco_values.specs.Key.{key_cmp, same_key}
 use Rattle.disco_instance.specs.Row.{Row}
 use Rattle.disco_values.specs.declared.action.Action.TheVariants.{Added, Modified, Deleted}
 use Rattle.disco_values.specs.declared.key.Key.{Key}
-use Rattle.disco_history.specs.Change.{Entry, front, key_of, last}
+use Rattle.disco_history.specs.Change.{Entry, prefix, key_of, last}
 use Rattle.disco_history.specs.Laws.{CopyLaw, OverlayLaw}
 use Rattle.disco_history.specs.Mentions.{delta, known, mention_of, overlaid_by}
-use Rattle.disco_history.specs.Registry.{put_of, reg, said}
+use Rattle.disco_history.specs.Registry.{put_of, registry_of, mentions_of}
 use Rattle.disco_history.proofs.Keys.{keys_total, exact_keys, same_is}
 use Rattle.disco_history.proofs.Lasts.{last_by_parts, last_mapped, last_of_front}
 use Rattle.disco_history.proofs.Restrictions.{held_key, last_key}
@@ -73,10 +73,10 @@ put_again r x (s, Deleted) = refl
 
 pub overlay_law : OverlayLaw
 overlay_law h o a le inside = same_map keys_total exact_keys _ _ (λ q.
-    get-overlay (reg (front h a)) (map mention_of (values (delta h o))) q
-    ∙ ap (λ es. overlaid_by (get (reg (front h a)) q) (last es q)) (known_all (values (delta h o)))
-    ∙ ap (overlaid_by (get (reg (front h a)) q)) (last_value (delta h o) (delta_key h o) q ∙ get-delta h o q)
-    ∙ ap (λ x. overlaid_by x (last (drop o h) q)) (get-reg (front h a) q)
+    get-overlay (registry_of (prefix h a)) (map mention_of (values (delta h o))) q
+    ∙ ap (λ es. overlaid_by (get (registry_of (prefix h a)) q) (last es q)) (known_all (values (delta h o)))
+    ∙ ap (overlaid_by (get (registry_of (prefix h a)) q)) (last_value (delta h o) (delta_key h o) q ∙ get-delta h o q)
+    ∙ ap (λ x. overlaid_by x (last (drop o h) q)) (get-reg (prefix h a) q)
     ∙ cases q (last (drop o h) q) refl
     ∙ ap left (sym (last_by_parts h o q))
     ∙ sym (get-reg h q))
@@ -84,8 +84,8 @@ overlay_law h o a le inside = same_map keys_total exact_keys _ _ (λ q.
     left : Option Entry → Option Row
     left e = option_map (λ e. e.0) (option_and_then put_of e)
 
-    cases : (q : Key) (new : Option Entry) → last (drop o h) q ≡ new → overlaid_by (left (last (front h a) q)) new ≡ left (option_or new (last (take o h) q))
-    cases q (Some e) is = put_again e.0 (left (last (front h a) q)) e
+    cases : (q : Key) (new : Option Entry) → last (drop o h) q ≡ new → overlaid_by (left (last (prefix h a) q)) new ≡ left (option_or new (last (take o h) q))
+    cases q (Some e) is = put_again e.0 (left (last (prefix h a) q)) e
     cases q None is = ap left (last_of_front h o a q le is ∙ last_by_parts h o q ∙ ap (λ x. option_or x (last (take o h) q)) is)
 
 -- ---- a full document
@@ -103,10 +103,10 @@ put_added (Some e) = refl
 
 pub copy_law : CopyLaw
 copy_law h = same_map keys_total exact_keys _ _ (λ q.
-    let es = values (said h (reg h)) in
+    let es = values (mentions_of h (registry_of h)) in
     get-reg (map (λ m. (m.0, Added)) (map mention_of es)) q
     ∙ ap (λ xs. option_map (λ e. e.0) (option_and_then put_of (last xs q))) (added_all es)
     ∙ ap (λ x. option_map (λ e. e.0) (option_and_then put_of x)) (last_mapped as_added (λ e. refl) es q)
     ∙ put_added (last es q)
-    ∙ ap first_of (last_value (said h (reg h)) (held_key h) q)
+    ∙ ap first_of (last_value (mentions_of h (registry_of h)) (held_key h) q)
     ∙ get-said_reg h q)

@@ -11,8 +11,8 @@ use Rattle.disco_values.specs.declared.key.Key.{Key}
 use Rattle.disco_history.specs.Change.{Entry, key_of, last}
 use Rattle.disco_instance.specs.Mention.{Mention}
 use Rattle.disco_history.specs.Mentions.{delta, known, overlaid_by, overlay}
-use Rattle.disco_history.specs.Query.{Asked, asks_for, restrict}
-use Rattle.disco_history.specs.Registry.{put_of, reg, said}
+use Rattle.disco_history.specs.Query.{Selector, asks_for, restrict}
+use Rattle.disco_history.specs.Registry.{put_of, registry_of, mentions_of}
 use Rattle.disco_history.proofs.Keys.{keys_total, exact_keys, get-chosen}
 use Rattle.disco_history.proofs.Lasts.{last_absent, last_more}
 
@@ -27,7 +27,7 @@ not_there m q e = none_from_test (get m q) (contains_key-keys m q ∙ e)
 abbrev pub first_of : Option Entry → Option Row
 first_of o = option_map (λ e. e.0) o
 
-pub get-reg : (h : List Entry) (q : Key) → get (reg h) q ≡ option_map (λ e. e.0) (option_and_then put_of (last h q))
+pub get-reg : (h : List Entry) (q : Key) → get (registry_of h) q ≡ option_map (λ e. e.0) (option_and_then put_of (last h q))
 get-reg h q = get-chosen _ q (map key_of h) (λ e. ap (λ o. first_of (option_and_then put_of o)) (last_absent q h e))
 
 none_first : (o : Option Entry) → first_of o ≡ None → o ≡ None
@@ -35,15 +35,15 @@ none_first None e = refl
 none_first (Some x) e = absurd (cc)
 
 -- the mentions of the registry have at a key what its last change put
-pub get-said : (h : List Entry) (q : Key) → get (said h (reg h)) q ≡ option_and_then put_of (last h q)
-get-said h q = get-chosen _ q (keys (reg h)) (λ e. none_first (option_and_then put_of (last h q)) (sym (get-reg h q) ∙ not_there (reg h) q e))
+pub get-said : (h : List Entry) (q : Key) → get (mentions_of h (registry_of h)) q ≡ option_and_then put_of (last h q)
+get-said h q = get-chosen _ q (keys (registry_of h)) (λ e. none_first (option_and_then put_of (last h q)) (sym (get-reg h q) ∙ not_there (registry_of h) q e))
 
-pub get-said_reg : (h : List Entry) (q : Key) → option_map (λ e. e.0) (get (said h (reg h)) q) ≡ get (reg h) q
+pub get-said_reg : (h : List Entry) (q : Key) → option_map (λ e. e.0) (get (mentions_of h (registry_of h)) q) ≡ get (registry_of h) q
 get-said_reg h q = ap first_of (get-said h q) ∙ sym (get-reg h q)
 
 -- ---- one more change
 
-held_more : (h : List Entry) (e : Entry) (q : Key) → get (said (h ++ e ∷ []) (reg (h ++ e ∷ []))) q ≡ cond (same_key q (key_of e)) (put_of e) (get (said h (reg h)) q)
+held_more : (h : List Entry) (e : Entry) (q : Key) → get (mentions_of (h ++ e ∷ []) (registry_of (h ++ e ∷ []))) q ≡ cond (same_key q (key_of e)) (put_of e) (get (mentions_of h (registry_of h)) q)
 held_more h e q = get-said (h ++ e ∷ []) q ∙ ap (option_and_then put_of) (last_more h e q) ∙ one (same_key q (key_of e)) ∙ ap (cond (same_key q (key_of e)) (put_of e)) (sym (get-said h q))
   where
     one : (b : Bool) → option_and_then put_of (cond b (Some e) (last h q)) ≡ cond b (put_of e) (option_and_then put_of (last h q))
@@ -51,13 +51,13 @@ held_more h e q = get-said (h ++ e ∷ []) q ∙ ap (option_and_then put_of) (la
     one false = refl
 
 -- a put goes in, and what is gone goes out
-pub said_put : (h : List Entry) (e : Entry) → put_of e ≡ Some e → said (h ++ e ∷ []) (reg (h ++ e ∷ [])) ≡ insert (said h (reg h)) (key_of e) e
-said_put h e is = same_map keys_total exact_keys _ _ (λ q. held_more h e q ∙ ap (λ o. cond (same_key q (key_of e)) o (get (said h (reg h)) q)) is ∙ sym (get-insert keys_total (said h (reg h)) (key_of e) e q))
+pub said_put : (h : List Entry) (e : Entry) → put_of e ≡ Some e → mentions_of (h ++ e ∷ []) (registry_of (h ++ e ∷ [])) ≡ insert (mentions_of h (registry_of h)) (key_of e) e
+said_put h e is = same_map keys_total exact_keys _ _ (λ q. held_more h e q ∙ ap (λ o. cond (same_key q (key_of e)) o (get (mentions_of h (registry_of h)) q)) is ∙ sym (get-insert keys_total (mentions_of h (registry_of h)) (key_of e) e q))
 
-pub said_gone : (h : List Entry) (e : Entry) → put_of e ≡ None → said (h ++ e ∷ []) (reg (h ++ e ∷ [])) ≡ remove (said h (reg h)) (key_of e)
-said_gone h e is = same_map keys_total exact_keys _ _ (λ q. held_more h e q ∙ ap (λ o. cond (same_key q (key_of e)) o (get (said h (reg h)) q)) is ∙ sym (get-remove keys_total (said h (reg h)) (key_of e) q))
+pub said_gone : (h : List Entry) (e : Entry) → put_of e ≡ None → mentions_of (h ++ e ∷ []) (registry_of (h ++ e ∷ [])) ≡ remove (mentions_of h (registry_of h)) (key_of e)
+said_gone h e is = same_map keys_total exact_keys _ _ (λ q. held_more h e q ∙ ap (λ o. cond (same_key q (key_of e)) o (get (mentions_of h (registry_of h)) q)) is ∙ sym (get-remove keys_total (mentions_of h (registry_of h)) (key_of e) q))
 
-pub said_nil : said [] (reg []) ≡ empty
+pub said_nil : mentions_of [] (registry_of []) ≡ empty
 said_nil = same_map keys_total exact_keys _ _ (λ q. get-said [] q ∙ sym (get-empty key_cmp q))
 
 -- ---- the records of the mentions are those of the registry
@@ -100,11 +100,11 @@ values_first s t at = ap (map (λ p. p.1)) (entries_first s t at) ∙ values_rec
 pub len_first : (s : FinMap key_cmp Row) (t : FinMap key_cmp Entry) → ((q : Key) → get s q ≡ first_of (get t q)) → len s ≡ len t
 len_first s t at = len-entries s ∙ ap length (entries_first s t at) ∙ length-map (entries t) (λ (p : Key × Entry). (p.0, p.1.0)) ∙ sym (len-entries t)
 
-pub values-reg : (h : List Entry) → values (reg h) ≡ map (λ e. e.0) (values (said h (reg h)))
-values-reg h = values_first (reg h) (said h (reg h)) (λ q. sym (get-said_reg h q))
+pub values-reg : (h : List Entry) → values (registry_of h) ≡ map (λ e. e.0) (values (mentions_of h (registry_of h)))
+values-reg h = values_first (registry_of h) (mentions_of h (registry_of h)) (λ q. sym (get-said_reg h q))
 
-pub len-reg : (h : List Entry) → len (reg h) ≡ len (said h (reg h))
-len-reg h = len_first (reg h) (said h (reg h)) (λ q. sym (get-said_reg h q))
+pub len-reg : (h : List Entry) → len (registry_of h) ≡ len (mentions_of h (registry_of h))
+len-reg h = len_first (registry_of h) (mentions_of h (registry_of h)) (λ q. sym (get-said_reg h q))
 
 -- ---- the delta, the overlay and the restriction
 
@@ -124,8 +124,8 @@ get-overlay s ms q = get-chosen _ q (keys s ++ map key_of (known ms)) (λ e.
     let parts = any_both (keys s) (map key_of (known ms)) q e in
     ap (overlaid_by (get s q)) (last_absent q (known ms) parts.1) ∙ not_there s q parts.0)
 
-abbrev pub asked_of : Asked → Option Row → Option Row
+abbrev pub asked_of : Selector → Option Row → Option Row
 asked_of a o = option_and_then (λ r. cond (asks_for a r) (Some r) None) o
 
-pub get-restrict : (s : FinMap key_cmp Row) (a : Asked) (q : Key) → get (restrict s a) q ≡ option_and_then (λ r. cond (asks_for a r) (Some r) None) (get s q)
+pub get-restrict : (s : FinMap key_cmp Row) (a : Selector) (q : Key) → get (restrict s a) q ≡ option_and_then (λ r. cond (asks_for a r) (Some r) None) (get s q)
 get-restrict s a q = get-chosen _ q (keys s) (λ e. ap (asked_of a) (not_there s q e))

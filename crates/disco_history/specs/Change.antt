@@ -14,9 +14,9 @@ abbrev pub Entry : Type 0
 Entry = Row × Action
 
 -- a change as plain data
-abbrev pub seen : Change → Entry
-seen (Put action rec) = (row rec.value, action)
-seen (Gone rec) = (row rec.value, Deleted)
+abbrev pub change_view : Change → Entry
+change_view (Put action rec) = (row rec.value, action)
+change_view (Gone rec) = (row rec.value, Deleted)
 
 -- a put isn't DELETED: a record that went is told as gone
 abbrev pub is_proper : Change → Bool
@@ -28,8 +28,8 @@ abbrev pub key_of : Entry → Key
 key_of e = e.0.key
 
 -- version v of a history: its first v changes
-abbrev pub front : List Entry → ℕ → List Entry
-front h v = take v h
+abbrev pub prefix : List Entry → ℕ → List Entry
+prefix h v = take v h
 
 -- the last change of the key
 abbrev pub last : List Entry → Key → Option Entry

@@ -6,5 +6,5 @@ use Rattle.disco_values.specs.Key.{key_cmp}
 use Rattle.disco_values.specs.declared.key.Key.{Key}
 
 -- at each of the keys what f gives there, if anything
-unfoldable pub chosen : {V : Type 0} → (Key → Option V) → List Key → FinMap key_cmp V
-chosen f keys = from_entries (filter_map (λ k. option_map (λ v. (k, v)) (f k)) keys)
+unfoldable pub map_at : {V : Type 0} → (Key → Option V) → List Key → FinMap key_cmp V
+map_at f keys = from_entries (filter_map (λ k. option_map (λ v. (k, v)) (f k)) keys)

@@ -6,7 +6,7 @@ use Rattle.disco_instance.specs.Row.{Row}
 use Rattle.disco_values.specs.declared.form.Form.{Form}
 use Rattle.disco_values.specs.declared.form.Form.TheVariants.{Full, Compact}
 use Rattle.disco_instance.specs.declared.lease.Lease.{Lease}
-use Rattle.disco_history.specs.Chosen.{chosen}
+use Rattle.disco_history.specs.Chosen.{map_at}
 use Rattle.disco_instance.specs.Mention.{Mention}
 
 -- the lease of an instance that says nothing of it
@@ -32,4 +32,4 @@ mention_in f m = (formed f m.0, m.1)
 
 -- the records in a form
 abbrev pub in_form : Form → FinMap key_cmp Row → FinMap key_cmp Row
-in_form f s = chosen (λ k. option_map (formed f) (get s k)) (keys s)
+in_form f s = map_at (λ k. option_map (formed f) (get s k)) (keys s)

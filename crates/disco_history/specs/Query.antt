@@ -7,15 +7,15 @@ use Rattle.std.specs.FinMap.{FinMap, get, keys, len, values}
 use Rattle.disco_values.specs.Key.{key_cmp, same_key}
 use Rattle.disco_instance.specs.Row.{Row}
 use Rattle.disco_values.specs.declared.key.Key.{Key}
-use Rattle.disco_history.specs.Chosen.{chosen}
+use Rattle.disco_history.specs.Chosen.{map_at}
 
 -- what a query asks for
-pub data Asked : Type 0 where
-  all : Asked
-  of_app : List ℕ → Asked
-  of_vip : List ℕ → Asked
-  of_secure_vip : List ℕ → Asked
-  of_key : Key → Asked
+pub data Selector : Type 0 where
+  all : Selector
+  of_app : List ℕ → Selector
+  of_vip : List ℕ → Selector
+  of_secure_vip : List ℕ → Selector
+  of_key : Key → Selector
 
 -- the pieces between commas, empty ones too
 abbrev pub between_commas : List ℕ → List (List ℕ)
@@ -27,7 +27,7 @@ abbrev pub vips : List ℕ → List (List ℕ)
 vips address = filter (λ p. not (length p == 0)) (between_commas address)
 
 -- a query asks for the record
-abbrev pub asks_for : Asked → Row → Bool
+abbrev pub asks_for : Selector → Row → Bool
 asks_for all r = true
 asks_for (of_app name) r = bytes_eq r.key.app name
 asks_for (of_vip vip) r = list_any (bytes_eq vip) (vips r.vip_address)
@@ -35,20 +35,20 @@ asks_for (of_secure_vip vip) r = list_any (bytes_eq vip) (vips r.secure_vip_addr
 asks_for (of_key k) r = same_key r.key k
 
 -- what asks for the record of a key before a change or for the one after it, where they are there, is named by the change; so all apps always are
-abbrev pub is_named : Option Row → Option Row → Asked → Bool
+abbrev pub is_named : Option Row → Option Row → Selector → Bool
 is_named old new a = option_map_or (asks_for a) old false || option_map_or (asks_for a) new false
 
 -- the restriction: the records that are asked for
-abbrev pub restrict : FinMap key_cmp Row → Asked → FinMap key_cmp Row
-restrict s q = chosen (λ k. option_and_then (λ r. if asks_for q r then Some r else None) (get s k)) (keys s)
+abbrev pub restrict : FinMap key_cmp Row → Selector → FinMap key_cmp Row
+restrict s q = map_at (λ k. option_and_then (λ r. if asks_for q r then Some r else None) (get s k)) (keys s)
 
 -- a query that has an answer where it asks for no record: that of all
-abbrev pub may_be_empty : Asked → Bool
+abbrev pub may_be_empty : Selector → Bool
 may_be_empty all = true
 may_be_empty _ = false
 
 -- absent: no record is asked for, and the query wants one
-abbrev pub is_absent : FinMap key_cmp Row → Asked → Bool
+abbrev pub is_absent : FinMap key_cmp Row → Selector → Bool
 is_absent s q = (len (restrict s q) == 0) && not (may_be_empty q)
 
 -- the record of that id with the least app: the first in the order of keys

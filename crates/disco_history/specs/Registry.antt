@@ -6,7 +6,7 @@ use Rattle.disco_instance.specs.Row.{Row}
 use Rattle.disco_values.specs.declared.action.Action.{Action}
 use Rattle.disco_values.specs.declared.action.Action.TheVariants.{Added, Modified, Deleted}
 use Rattle.disco_history.specs.Change.{Entry, key_of, last}
-use Rattle.disco_history.specs.Chosen.{chosen}
+use Rattle.disco_history.specs.Chosen.{map_at}
 
 -- x, unless the action took it out
 abbrev pub kept_by : {X : Type 0} → Action → X → Option X
@@ -19,9 +19,9 @@ abbrev pub put_of : Entry → Option Entry
 put_of e = kept_by e.1 e
 
 -- the registry: the records whose key's last change is a put
-abbrev pub reg : List Entry → FinMap key_cmp Row
-reg h = chosen (λ k. option_map (λ e. e.0) (option_and_then put_of (last h k))) (map key_of h)
+abbrev pub registry_of : List Entry → FinMap key_cmp Row
+registry_of h = map_at (λ k. option_map (λ e. e.0) (option_and_then put_of (last h k))) (map key_of h)
 
 -- the mentions of records s of the registry of h: each with what its key's last change did. It says so where s is a part of that registry alone, as it is wherever this is used
-abbrev pub said : List Entry → FinMap key_cmp Row → FinMap key_cmp Entry
-said h s = chosen (λ k. option_and_then put_of (last h k)) (keys s)
+abbrev pub mentions_of : List Entry → FinMap key_cmp Row → FinMap key_cmp Entry
+mentions_of h s = map_at (λ k. option_and_then put_of (last h k)) (keys s)

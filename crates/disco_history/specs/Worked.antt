@@ -7,13 +7,13 @@ use Rattle.disco_values.specs.declared.form.Form.TheVariants.{Full, Compact}
 use Rattle.disco_values.specs.declared.key.Key.{Key}
 use Rattle.disco_values.specs.declared.status.Status.{Status}
 use Rattle.disco_values.specs.declared.status.Status.TheVariants.{Up, Down, Unknown}
-use Rattle.disco_history.specs.Change.{Entry, front}
+use Rattle.disco_history.specs.Change.{Entry, prefix}
 use Rattle.disco_history.specs.Forms.{default_lease, formed}
 use Rattle.disco_history.specs.Hash.{hash}
 use Rattle.disco_digits.specs.Digits.{digits}
 use Rattle.disco_history.specs.Mentions.{delta, mention_of, overlay}
 use Rattle.disco_history.specs.Query.{of_app, of_vip, restrict, vips}
-use Rattle.disco_history.specs.Registry.{reg, said}
+use Rattle.disco_history.specs.Registry.{registry_of, mentions_of}
 
 abbrev pub key : List ℕ → List ℕ → Key
 key app id = record { app = app; id = id }
@@ -59,18 +59,18 @@ pub record Worked : Type 0 where
   pub count_of_two_digits : digits 10 ≡ codes "10"
   pub empty_hash_code : hash [] ≡ []
   pub vips_of : vips (codes ",a,,b") ≡ codes "a" ∷ codes "b" ∷ []
-  pub registry : get (reg story) a1 ≡ Some (instance (codes "A") (codes "1") Down)
-  pub registry_lacks : get (reg story) b1 ≡ None
-  pub registry_before : get (reg (front story 3)) b1 ≡ Some (instance (codes "B") (codes "1") Up)
-  pub mention : get (said story (reg story)) a1 ≡ Some (instance (codes "A") (codes "1") Down, Modified)
+  pub registry : get (registry_of story) a1 ≡ Some (instance (codes "A") (codes "1") Down)
+  pub registry_lacks : get (registry_of story) b1 ≡ None
+  pub registry_before : get (registry_of (prefix story 3)) b1 ≡ Some (instance (codes "B") (codes "1") Up)
+  pub mention : get (mentions_of story (registry_of story)) a1 ≡ Some (instance (codes "A") (codes "1") Down, Modified)
   pub delta_last : get (delta story 0) a1 ≡ Some (instance (codes "A") (codes "1") Down, Modified)
   pub delta_gone : get (delta story 2) b1 ≡ Some (instance (codes "B") (codes "1") Down, Deleted)
   pub delta_none : get (delta story 3) a1 ≡ None
-  pub overlay_puts : get (overlay (reg (front story 1)) (map mention_of story)) a1 ≡ Some (instance (codes "A") (codes "1") Down)
-  pub overlay_takes : get (overlay (reg (front story 2)) (map mention_of story)) b1 ≡ None
-  pub overlay_skips : get (overlay (reg (front story 1)) ((instance (codes "A") (codes "1") Down, None) ∷ [])) a1 ≡ Some (instance (codes "A") (codes "1") Up)
-  pub vip_has : get (restrict (reg (front story 1)) (of_vip (codes "b"))) a1 ≡ Some (instance (codes "A") (codes "1") Up)
-  pub vip_lacks : get (restrict (reg (front story 1)) (of_vip (codes "a,,b"))) a1 ≡ None
-  pub app_lacks : get (restrict (reg (front story 1)) (of_app (codes "B"))) a1 ≡ None
+  pub overlay_puts : get (overlay (registry_of (prefix story 1)) (map mention_of story)) a1 ≡ Some (instance (codes "A") (codes "1") Down)
+  pub overlay_takes : get (overlay (registry_of (prefix story 2)) (map mention_of story)) b1 ≡ None
+  pub overlay_skips : get (overlay (registry_of (prefix story 1)) ((instance (codes "A") (codes "1") Down, None) ∷ [])) a1 ≡ Some (instance (codes "A") (codes "1") Up)
+  pub vip_has : get (restrict (registry_of (prefix story 1)) (of_vip (codes "b"))) a1 ≡ Some (instance (codes "A") (codes "1") Up)
+  pub vip_lacks : get (restrict (registry_of (prefix story 1)) (of_vip (codes "a,,b"))) a1 ≡ None
+  pub app_lacks : get (restrict (registry_of (prefix story 1)) (of_app (codes "B"))) a1 ≡ None
   pub compact : (formed Compact (instance (codes "A") (codes "1") Up)).country_id ≡ 1
   pub full : formed Full (instance (codes "A") (codes "1") Up) ≡ instance (codes "A") (codes "1") Up

@@ -1,6 +1,6 @@
 //! Changes of a registry.
 ghost use Rattle.std.specs.Prelude.{◌≡◌, ◌+◌, ◌<◌, None, IfOk, IfSome, MatchOption, drop, length, map, slice_get, option_map};
-ghost use Rattle.disco_history.specs.Change.{is_proper, key_of, last, seen};
+ghost use Rattle.disco_history.specs.Change.{is_proper, key_of, last, change_view};
 
 use disco_instance::Record;
 use disco_values::{Action, Key};
@@ -24,7 +24,7 @@ pub enum Change {
 impl Change {
     /// The key of its record.
     pub fn key(&self) -> &Key
-        ensures { result.now ≡ key_of (seen self.now) }
+        ensures { result.now ≡ key_of (change_view self.now) }
     {
         match self {
             Change::Put { action: _, rec } => &rec.key,
@@ -34,7 +34,7 @@ impl Change {
 
     /// The same once more. The record is shared, not copied.
     pub fn share(&self) -> Result<Change, AllocError>
-        ensures same { IfOk result (λ c. seen c ≡ seen self.now) }
+        ensures same { IfOk result (λ c. change_view c ≡ change_view self.now) }
         ensures proper { IfOk result (λ c. is_proper c ≡ is_proper self.now) }
     {
         match self {
@@ -52,9 +52,9 @@ impl Change {
 /// The index of the last change of a key.
 pub fn last_of(changes: &[Change], key: &Key) -> Option<usize>
     ensures found { MatchOption result
-        (last (map seen changes.now) key.now ≡ None)
-        (λ i. (i < length changes.now) × (last (map seen changes.now) key.now ≡ option_map seen (slice_get changes.now i))) }
-    ensures is_last { IfSome result (λ i. last (map seen (drop (i + 1) changes.now)) key.now ≡ None) }
+        (last (map change_view changes.now) key.now ≡ None)
+        (λ i. (i < length changes.now) × (last (map change_view changes.now) key.now ≡ option_map change_view (slice_get changes.now i))) }
+    ensures is_last { IfSome result (λ i. last (map change_view (drop (i + 1) changes.now)) key.now ≡ None) }
 {
     let mut last = None;
     for (i, change) in changes.iter().enumerate() {

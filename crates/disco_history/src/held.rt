@@ -1,6 +1,6 @@
 //! A held record.
 ghost use Rattle.std.specs.Prelude.{◌≡◌, IfOk};
-ghost use Rattle.disco_history.specs.Change.{seen};
+ghost use Rattle.disco_history.specs.Change.{change_view};
 ghost use Rattle.disco_history.specs.Held.{entry_of};
 
 use crate::change::Change;
@@ -19,7 +19,7 @@ pub struct Held {
 impl Held {
     /// What a change did, and to which record. The record is shared, not copied.
     pub fn of(change: &Change) -> Result<Held, AllocError>
-        ensures { IfOk result (λ h. entry_of h ≡ seen change.now) }
+        ensures { IfOk result (λ h. entry_of h ≡ change_view change.now) }
     {
         match change {
             Change::Put { action, rec } => Ok(Held {

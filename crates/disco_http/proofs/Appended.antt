@@ -3,7 +3,7 @@ use Rattle.std.proofs.Common.{◌≡◌, ◌≢◌, ℕ, ◌+◌, ◌-◌, ◌<�
 use Rattle.std.proofs.Math.Seq.{take-add}
 use Rattle.std.proofs.lemmas.List.{take_rest}
 use Rattle.std.specs.Io.KnownBytes.{Keeps, Appends}
-use Rattle.disco_http.specs.Sinks.{AppendsFront}
+use Rattle.disco_http.specs.Sinks.{AppendsProperFront}
 
 pub Appends-kept : (a b c : Option (List ℕ)) (xs : List ℕ) → Keeps a b → Appends b c xs → Appends a c xs
 Appends-kept None b c xs h k = tt
@@ -43,8 +43,8 @@ pub some_left : (text : List ℕ) (at : ℕ) → at < length text → drop at te
 some_left text at more none = omega (arith, more, length-drop at text, ap length none)
 
 -- a front of a part, and a front of what follows it
-pub front_more : (a b : Option (List ℕ)) (xs ys : List ℕ) → AppendsFront a b xs → AppendsFront a b (xs ++ ys)
+pub front_more : (a b : Option (List ℕ)) (xs ys : List ℕ) → AppendsProperFront a b xs → AppendsProperFront a b (xs ++ ys)
 front_more a b xs ys h = (h.0, h.1 ++ ys, ap (λ zs. zs ++ ys) h.2 ∙ append_assoc h.0 h.1 ys, λ e. h.3 (front_none h.1 ys e), h.4)
 
-pub front_then : (a b c : Option (List ℕ)) (xs ys : List ℕ) → Appends a b xs → AppendsFront b c ys → AppendsFront a c (xs ++ ys)
+pub front_then : (a b c : Option (List ℕ)) (xs ys : List ℕ) → Appends a b xs → AppendsProperFront b c ys → AppendsProperFront a c (xs ++ ys)
 front_then a b c xs ys h k = (xs ++ k.0, k.1, ap (λ zs. xs ++ zs) k.2 ∙ sym (append_assoc xs k.0 k.1), k.3, Appends-then a b c xs k.0 h k.4)

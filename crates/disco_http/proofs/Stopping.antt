@@ -10,8 +10,8 @@ use Rattle.disco_reader.specs.Streams.{Came}
 use Rattle.disco_http.specs.declared.serving.End.TheVariants.{Fault}
 use Rattle.disco_http.specs.declared.serving.Step.{Step}
 use Rattle.disco_http.specs.declared.serving.Step.TheVariants.{Goes, Last, Stops}
-use Rattle.disco_http.specs.Exchanges.{Exchanged, Refuses}
-use Rattle.disco_http.specs.Served.{Left, Ends, Written, end_texts, ends_by_reply, refused}
+use Rattle.disco_http.specs.Exchanges.{Exchanged, RefusesRequest}
+use Rattle.disco_http.specs.Served.{Left, EndsStream, Written, end_texts, ends_by_reply, refused}
 use Rattle.disco_http.proofs.Appended.{Appends-none}
 use Rattle.disco_http.proofs.Breaking.{written_one}
 
@@ -19,12 +19,12 @@ other : Fault ReadFailed ≢ Fault WriteFailed
 other e = cc e
 
 -- a read failed
-pub read_failed : {S : Type 0} (answers : S → message.Asked → Answer → S → Type 0) (limits : Limits) (first : Option (List ℕ)) (left : Left) (old : S) (before : Option (List ℕ)) (last : Bool)
+pub read_failed : {S : Type 0} (answers : S → message.RequestView → Answer → S → Type 0) (limits : Limits) (first : Option (List ℕ)) (left : Left) (old : S) (before : Option (List ℕ)) (last : Bool)
     → IfSome first (λ stream. Came (HasNone limits) stream left.source) → IfSome first (λ stream. Exchanged answers limits stream left old old before before last (Stops (Fault ReadFailed)))
 read_failed answers limits None left old before last came = tt
 read_failed answers limits (Some stream) left old before last came = (Fault ReadFailed, refl, came, inl (refl, other, Appends-none before))
 
-ends_refused : (limits : Limits) (stream : List ℕ) (left : Left) (f : fault.Fault) → f ≢ ReadFailed → f ≢ WriteFailed → Refused limits f stream → Ends limits stream left (Fault f)
+ends_refused : (limits : Limits) (stream : List ℕ) (left : Left) (f : fault.Fault) → f ≢ ReadFailed → f ≢ WriteFailed → Refused limits f stream → EndsStream limits stream left (Fault f)
 ends_refused limits stream left ReadFailed read wrote h = absurd (read refl)
 ends_refused limits stream left WriteFailed read wrote h = absurd (wrote refl)
 ends_refused limits stream left f read wrote h = h
@@ -39,8 +39,8 @@ by_reply ReadFailed read = absurd (read refl)
 by_reply f read = refl
 
 -- a request was refused
-pub refused_stops : {S : Type 0} (answers : S → message.Asked → Answer → S → Type 0) (limits : Limits) (first : Option (List ℕ)) (left : Left) (old : S) (before after : Option (List ℕ)) (last : Bool) (f : fault.Fault) (step : Step)
-    → f ≢ ReadFailed → f ≢ WriteFailed → IfSome first (Refused limits f) → Refuses before after f step → IfSome first (λ stream. Exchanged answers limits stream left old old before after last step)
+pub refused_stops : {S : Type 0} (answers : S → message.RequestView → Answer → S → Type 0) (limits : Limits) (first : Option (List ℕ)) (left : Left) (old : S) (before after : Option (List ℕ)) (last : Bool) (f : fault.Fault) (step : Step)
+    → f ≢ ReadFailed → f ≢ WriteFailed → IfSome first (Refused limits f) → RefusesRequest before after f step → IfSome first (λ stream. Exchanged answers limits stream left old old before after last step)
 refused_stops answers limits None left old before after last f step read wrote refused stopped = tt
 refused_stops answers limits (Some stream) left old before after last f Goes read wrote refused stopped = elim stopped [ ]
 refused_stops answers limits (Some stream) left old before after last f (Last at) read wrote refused stopped = elim stopped [ ]

@@ -6,20 +6,20 @@ use Rattle.disco_values.specs.declared.fault.Fault as fault
 use Rattle.disco_message.specs.declared.limits.Limits.{Limits}
 use Rattle.disco_message.specs.Asked as message
 use Rattle.disco_message.specs.ReplyText.{Answer, reply_text}
-use Rattle.disco_reader.specs.Chunks.{joined}
-use Rattle.disco_reader.specs.Requests.{Takes}
+use Rattle.disco_reader.specs.Chunks.{bytes_in_chunks}
+use Rattle.disco_reader.specs.Requests.{TakesRequest}
 use Rattle.disco_http.specs.declared.serving.End.{End}
 use Rattle.disco_http.specs.declared.serving.End.TheVariants.{Fault}
 use Rattle.disco_http.specs.declared.serving.Step.{Step}
 use Rattle.disco_http.specs.declared.serving.Step.TheVariants.{Goes, Last, Stops}
-use Rattle.disco_http.specs.Served.{Left, end_behind, is_last, end_texts, Ends, Requests, Chain, refused, Written}
-use Rattle.disco_http.specs.Sinks.{AppendsFront}
+use Rattle.disco_http.specs.Served.{Left, end_behind, is_last, end_texts, EndsStream, Requests, Chain, refused, Written}
+use Rattle.disco_http.specs.Sinks.{AppendsProperFront}
 
 -- the step ends the connection by this fault
-abbrev pub Fails : fault.Fault → Step → Type 0
-Fails f Goes = ⊥
-Fails f (Last at) = at ≡ Fault f
-Fails f (Stops at) = at ≡ Fault f
+abbrev pub EndsByFault : fault.Fault → Step → Type 0
+EndsByFault f Goes = ⊥
+EndsByFault f (Last at) = at ≡ Fault f
+EndsByFault f (Stops at) = at ≡ Fault f
 
 -- the end that a last reply speaks of; where it could not be written, the connection could have gone on
 abbrev pub Closing : Option End → End → Type 0
@@ -28,36 +28,36 @@ Closing None end = end ≡ Fault WriteFailed
 
 -- one text was written, or its write failed, and a front of it was written
 abbrev pub WrittenOne : End → End → Option (List ℕ) → Option (List ℕ) → List ℕ → Type 0
-WrittenOne at end before after text = ((at ≡ end) × (at ≢ Fault WriteFailed) × Appends before after text) ⊎ ((at ≡ Fault WriteFailed) × AppendsFront before after text)
+WrittenOne at end before after text = ((at ≡ end) × (at ≢ Fault WriteFailed) × Appends before after text) ⊎ ((at ≡ Fault WriteFailed) × AppendsProperFront before after text)
 
 -- a request was given to the service
-abbrev pub AnswersOne : {S : Type 0} → (S → message.Asked → Answer → S → Type 0) → S → S → Option (List ℕ) → Option (List ℕ) → message.Asked → Bool → Step → Type 0
+abbrev pub AnswersOne : {S : Type 0} → (S → message.RequestView → Answer → S → Type 0) → S → S → Option (List ℕ) → Option (List ℕ) → message.RequestView → Bool → Step → Type 0
 AnswersOne answers old new before after a last Goes = (r : Answer) × answers old a r new × Appends before after (reply_text r false) × (end_behind a.closes last ≡ None)
 AnswersOne answers old new before after a last (Last at) = (r : Answer) × (end : End) × answers old a r new × Closing (end_behind a.closes last) end × WrittenOne at end before after (reply_text r (is_last [] end))
 AnswersOne answers old new before after a last (Stops at) = ⊥
 
 -- a request was refused
-abbrev pub Refuses : Option (List ℕ) → Option (List ℕ) → fault.Fault → Step → Type 0
-Refuses before after f Goes = ⊥
-Refuses before after f (Last at) = ⊥
-Refuses before after f (Stops at) = WrittenOne at (Fault f) before after (reply_text (refused f) true)
+abbrev pub RefusesRequest : Option (List ℕ) → Option (List ℕ) → fault.Fault → Step → Type 0
+RefusesRequest before after f Goes = ⊥
+RefusesRequest before after f (Last at) = ⊥
+RefusesRequest before after f (Stops at) = WrittenOne at (Fault f) before after (reply_text (refused f) true)
 
 -- a request was read and answered, or there was none
-abbrev pub Exchanged : {S : Type 0} → (S → message.Asked → Answer → S → Type 0) → Limits → List ℕ → Left → S → S → Option (List ℕ) → Option (List ℕ) → Bool → Step → Type 0
-Exchanged answers limits stream left old new before after last (Stops at) = (end : End) × (new ≡ old) × Ends limits stream left end × Written at end before after (end_texts end)
+abbrev pub Exchanged : {S : Type 0} → (S → message.RequestView → Answer → S → Type 0) → Limits → List ℕ → Left → S → S → Option (List ℕ) → Option (List ℕ) → Bool → Step → Type 0
+Exchanged answers limits stream left old new before after last (Stops at) = (end : End) × (new ≡ old) × EndsStream limits stream left end × Written at end before after (end_texts end)
 Exchanged answers limits stream left old new before after last step =
-    (a : message.Asked) × (rest : List ℕ) × Takes limits stream a rest × (left.ahead ≡ Some rest) × AnswersOne answers old new before after a last step
+    (a : message.RequestView) × (rest : List ℕ) × TakesRequest limits stream a rest × (left.ahead ≡ Some rest) × AnswersOne answers old new before after a last step
 
 -- the texts of replies behind which others come
 abbrev pub open_texts : List Answer → List (List ℕ)
 open_texts replies = map (λ r. reply_text r false) replies
 
 -- After so many answered requests: what stands before them with what stands ahead is what stands in the stream
-abbrev pub SoFar : {S : Type 0} → (S → message.Asked → Answer → S → Type 0) → Limits → ℕ → List ℕ → S → S → Option (List ℕ) → Option (List ℕ) → Option (List ℕ) → ℕ → Type 0
+abbrev pub SoFar : {S : Type 0} → (S → message.RequestView → Answer → S → Type 0) → Limits → ℕ → List ℕ → S → S → Option (List ℕ) → Option (List ℕ) → Option (List ℕ) → ℕ → Type 0
 SoFar answers limits most stream old new before after left count =
-    (asks : List message.Asked) × (replies : List Answer) × (now : List ℕ)
+    (asks : List message.RequestView) × (replies : List Answer) × (now : List ℕ)
     × (left ≡ Some now)
-    × ((at : Left) (more : List message.Asked) (end : End) → Requests limits (most - count) now at more end → Requests limits most stream at (asks ++ more) end)
+    × ((at : Left) (more : List message.RequestView) (end : End) → Requests limits (most - count) now at more end → Requests limits most stream at (asks ++ more) end)
     × Chain answers old asks replies new
     × (length asks ≡ count)
-    × Appends before after (joined (open_texts replies))
+    × Appends before after (bytes_in_chunks (open_texts replies))

@@ -7,14 +7,14 @@ use Rattle.disco_message.specs.declared.limits.Limits.{Limits}
 use Rattle.disco_message.specs.Asked as message
 use Rattle.disco_message.specs.ReplyText.{Answer, reply_text}
 use Rattle.disco_message.specs.StatusLine.{refusal}
-use Rattle.disco_reader.specs.Chunks.{joined}
-use Rattle.disco_reader.specs.Requests.{HasNone, Takes, Refused}
+use Rattle.disco_reader.specs.Chunks.{bytes_in_chunks}
+use Rattle.disco_reader.specs.Requests.{HasNone, TakesRequest, Refused}
 use Rattle.disco_reader.specs.Streams.{Came, ahead, source_of}
 use Rattle.disco_reader.specs.declared.reader.Reader.{Reader}
 use Rattle.disco_http.specs.declared.serving.End.{End}
 use Rattle.disco_http.specs.declared.serving.End.TheVariants.{Closed, Asked, Limit, Fault}
 use Rattle.disco_http.specs.declared.serving.Served.{Served}
-use Rattle.disco_http.specs.Sinks.{AppendsFront}
+use Rattle.disco_http.specs.Sinks.{AppendsProperFront}
 
 -- how a connection ends behind a request, if it does
 abbrev pub end_behind : Bool → Bool → Option End
@@ -29,27 +29,27 @@ abbrev pub left_by : {R : Type 0} → (R → Option (List ℕ)) → Reader R →
 left_by remaining reader = record { ahead = ahead remaining reader; source = remaining (source_of reader) }
 
 -- how a stream ends that has no more requests: where a read failed no whole one had come, and behind a failed write nothing is read
-abbrev pub Ends : Limits → List ℕ → Left → End → Type 0
-Ends limits stream left Closed = stream ≡ []
-Ends limits stream left Asked = ⊥
-Ends limits stream left Limit = ⊥
-Ends limits stream left (Fault ReadFailed) = Came (HasNone limits) stream left.source
-Ends limits stream left (Fault WriteFailed) = left.ahead ≡ Some stream
-Ends limits stream left (Fault f) = Refused limits f stream
+abbrev pub EndsStream : Limits → List ℕ → Left → End → Type 0
+EndsStream limits stream left Closed = stream ≡ []
+EndsStream limits stream left Asked = ⊥
+EndsStream limits stream left Limit = ⊥
+EndsStream limits stream left (Fault ReadFailed) = Came (HasNone limits) stream left.source
+EndsStream limits stream left (Fault WriteFailed) = left.ahead ≡ Some stream
+EndsStream limits stream left (Fault f) = Refused limits f stream
 
 -- what comes behind a request: where it was the last, nothing, and the rest stays ahead
-abbrev pub Behind : Option End → Type 0 → List ℕ → Left → List message.Asked → End → Type 0
+abbrev pub Behind : Option End → Type 0 → List ℕ → Left → List message.RequestView → End → Type 0
 Behind (Some at) later rest left asks end = (asks ≡ []) × (end ≡ at) × (left.ahead ≡ Some rest)
 Behind None later rest left asks end = later
 
 -- the requests that stand in a stream, one after another, of at most so many, and how they end
-abbrev pub Requests : Limits → ℕ → List ℕ → Left → List message.Asked → End → Type 0
-Requests limits most stream left [] end = Ends limits stream left end
+abbrev pub Requests : Limits → ℕ → List ℕ → Left → List message.RequestView → End → Type 0
+Requests limits most stream left [] end = EndsStream limits stream left end
 Requests limits most stream left (a ∷ asks) end =
-    (rest : List ℕ) × Takes limits stream a rest × Behind (end_behind a.closes (most == 1)) (Requests limits (most - 1) rest left asks end) rest left asks end
+    (rest : List ℕ) × TakesRequest limits stream a rest × Behind (end_behind a.closes (most == 1)) (Requests limits (most - 1) rest left asks end) rest left asks end
 
 -- the answers answer the requests, each from the state that the one before left
-abbrev pub Chain : {S : Type 0} → (S → message.Asked → Answer → S → Type 0) → S → List message.Asked → List Answer → S → Type 0
+abbrev pub Chain : {S : Type 0} → (S → message.RequestView → Answer → S → Type 0) → S → List message.RequestView → List Answer → S → Type 0
 Chain answers old [] [] new = new ≡ old
 Chain {S} answers old (a ∷ asks) (r ∷ replies) new = (mid : S) × answers old a r mid × Chain answers mid asks replies new
 Chain answers old [] (r ∷ replies) new = ⊥
@@ -84,7 +84,7 @@ texts (r ∷ replies) end = reply_text r (is_last replies end) ∷ texts replies
 -- all texts but the last were written, and a front of that one
 abbrev pub Breaks : Option (List ℕ) → Option (List ℕ) → List (List ℕ) → Type 0
 Breaks before after texts =
-    (whole : List (List ℕ)) × (last : List ℕ) × (mid : Option (List ℕ)) × (texts ≡ whole ++ last ∷ []) × Appends before mid (joined whole) × AppendsFront mid after last
+    (whole : List (List ℕ)) × (last : List ℕ) × (mid : Option (List ℕ)) × (texts ≡ whole ++ last ∷ []) × Appends before mid (bytes_in_chunks whole) × AppendsProperFront mid after last
 
 -- the connection ends by a reply, and not at the end of its input, nor by a failed read
 abbrev pub ends_by_reply : End → Bool
@@ -94,12 +94,12 @@ ends_by_reply end = true
 
 -- all texts were written, or the write of the last one failed, which ended the connection
 abbrev pub Written : End → End → Option (List ℕ) → Option (List ℕ) → List (List ℕ) → Type 0
-Written at end before after texts = ((at ≡ end) × (at ≢ Fault WriteFailed) × Appends before after (joined texts)) ⊎ ((at ≡ Fault WriteFailed) × IsTrue (ends_by_reply end) × Breaks before after texts)
+Written at end before after texts = ((at ≡ end) × (at ≢ Fault WriteFailed) × Appends before after (bytes_in_chunks texts)) ⊎ ((at ≡ Fault WriteFailed) × IsTrue (ends_by_reply end) × Breaks before after texts)
 
 -- the connection's replies are exactly the answers to the stream's requests
-abbrev pub AnswersAll : {S : Type 0} → (S → message.Asked → Answer → S → Type 0) → Limits → List ℕ → Left → S → S → Option (List ℕ) → Option (List ℕ) → Served → Type 0
+abbrev pub AnswersAll : {S : Type 0} → (S → message.RequestView → Answer → S → Type 0) → Limits → List ℕ → Left → S → S → Option (List ℕ) → Option (List ℕ) → Served → Type 0
 AnswersAll answers limits stream left old new before after served =
-    (asks : List message.Asked) × (replies : List Answer) × (end : End)
+    (asks : List message.RequestView) × (replies : List Answer) × (end : End)
     × Requests limits limits.requests stream left asks end
     × Chain answers old asks replies new
     × (length asks ≡ served.requests)

@@ -4,7 +4,7 @@ ghost use Rattle.std.specs.Io.KnownBytes.{Appends};
 ghost use Rattle.disco_values.specs.declared.fault.Fault.TheVariants.{WriteFailed};
 ghost use Rattle.disco_message.specs.ReplyText.{answer_of, reply_text, reply_body};
 ghost use Rattle.disco_reader.specs.Causes.{Raises};
-ghost use Rattle.disco_http.specs.Sinks.{AppendsFront, is_spent, sink_of};
+ghost use Rattle.disco_http.specs.Sinks.{AppendsProperFront, is_writer_spent, sink_of};
 
 use crate::writer::{SMALL_BODY, Writer};
 use disco_message::{Document, Reply, StatusLine};
@@ -14,7 +14,7 @@ use disco_values::Fault;
 /// Writes all of these bytes.
 pub(crate) fn write_all<W: Sink>(sink: &mut W, bytes: &[u8]) -> Result<(), Failed>
     ensures written { OnOk result (Appends (W.contents sink.old) (W.contents sink.new) bytes.now) }
-    ensures front { OnErr result (AppendsFront (W.contents sink.old) (W.contents sink.new) bytes.now) }
+    ensures front { OnErr result (AppendsProperFront (W.contents sink.old) (W.contents sink.new) bytes.now) }
     ensures cause { OnErr result (Raises (W.failed sink.old) (W.failed sink.new)) }
     ensures none_failed { OnOk result (W.failed sink.new ≡ W.failed sink.old) }
 {
@@ -57,10 +57,10 @@ fn send_reply<W: Sink, D: Document>(
     last: bool,
 ) -> Result<(), Failed>
     ensures written { OnOk result (Appends (W.contents (sink_of writer.old)) (W.contents (sink_of writer.new)) (reply_text (answer_of D.content reply.now) last)) }
-    ensures front { OnErr result (AppendsFront (W.contents (sink_of writer.old)) (W.contents (sink_of writer.new)) (reply_text (answer_of D.content reply.now) last)) }
+    ensures front { OnErr result (AppendsProperFront (W.contents (sink_of writer.old)) (W.contents (sink_of writer.new)) (reply_text (answer_of D.content reply.now) last)) }
     ensures cause { OnErr result (Raises (W.failed (sink_of writer.old)) (W.failed (sink_of writer.new))) }
     ensures none_failed { OnOk result (W.failed (sink_of writer.new) ≡ W.failed (sink_of writer.old)) }
-    ensures spent { is_spent writer.new ≡ is_spent writer.old }
+    ensures spent { is_writer_spent writer.new ≡ is_writer_spent writer.old }
 {
     let body = body_of(reply);
     writer.put_head(reply.status, reply.allow, size_of(reply), reply.cert, last);
@@ -81,13 +81,13 @@ pub fn write_reply<W: Sink, D: Document>(
     reply: &Reply<D>,
     last: bool,
 ) -> Result<(), Fault>
-    requires { IsFalse (is_spent writer.old) }
+    requires { IsFalse (is_writer_spent writer.old) }
     ensures written { OnOk result (Appends (W.contents (sink_of writer.old)) (W.contents (sink_of writer.new)) (reply_text (answer_of D.content reply.now) last)) }
-    ensures front { OnErr result (AppendsFront (W.contents (sink_of writer.old)) (W.contents (sink_of writer.new)) (reply_text (answer_of D.content reply.now) last)) }
+    ensures front { OnErr result (AppendsProperFront (W.contents (sink_of writer.old)) (W.contents (sink_of writer.new)) (reply_text (answer_of D.content reply.now) last)) }
     ensures fault { IfErr result (λ fault. fault ≡ WriteFailed) }
     ensures cause { OnErr result (Raises (W.failed (sink_of writer.old)) (W.failed (sink_of writer.new))) }
     ensures none_failed { OnOk result (W.failed (sink_of writer.new) ≡ W.failed (sink_of writer.old)) }
-    ensures spent { is_spent writer.new ≡ is_err result }
+    ensures spent { is_writer_spent writer.new ≡ is_err result }
 {
     match send_reply(writer, reply, last) {
         Ok(()) => Ok(()),

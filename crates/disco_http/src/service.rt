@@ -1,5 +1,5 @@
 //! What answers requests.
-ghost use Rattle.disco_message.specs.Asked.{Asked};
+ghost use Rattle.disco_message.specs.Asked.{RequestView};
 ghost use Rattle.disco_message.specs.ReplyText.{Answer, answer_of};
 
 use disco_message::{Document, Reply, Request};
@@ -10,7 +10,7 @@ pub trait Service {
     type Body: Document + Drop;
 
     // From the first state the reply answers what is asked, and leaves the second state.
-    ghost answers: { Self → Asked → Answer → Self → Type 0 };
+    ghost answers: { Self → RequestView → Answer → Self → Type 0 };
 
     /// The reply to a request.
     fn call(&mut self, request: &Request) -> Reply<Self::Body>

@@ -2,8 +2,8 @@
 ghost use Rattle.std.specs.Prelude.{◌≡◌, ◌≢◌, IfSome, IsFalse, IsTrue};
 ghost use Rattle.disco_values.specs.declared.fault.Fault.TheVariants.{ReadFailed, WriteFailed};
 ghost use Rattle.disco_reader.specs.Causes.{Raises};
-ghost use Rattle.disco_reader.specs.Streams.{ahead, is_spent, limits_of, source_of};
-ghost use Rattle.disco_http.specs.Exchanges.{AnswersOne, Refuses, Exchanged, Fails};
+ghost use Rattle.disco_reader.specs.Streams.{ahead, is_spent, reader_limits, source_of};
+ghost use Rattle.disco_http.specs.Exchanges.{AnswersOne, RefusesRequest, Exchanged, EndsByFault};
 ghost use Rattle.disco_http.specs.Served.{end_behind, left_by, AnswersAll};
 ghost use Rattle.disco_http.specs.Sinks.{sink_of};
 ghost use Rattle.disco_http.specs.Sinks as sinks;
@@ -68,13 +68,13 @@ fn answer<W: Sink, S: Service>(
     request: &Request,
     last: bool,
 ) -> Step
-    requires { IsFalse (sinks.is_spent writer.old) }
+    requires { IsFalse (sinks.is_writer_spent writer.old) }
     ensures step { AnswersOne S.answers service.old service.new (W.contents (sink_of writer.old)) (W.contents (sink_of writer.new)) request.now last result }
     ensures cause { Fails WriteFailed result → Raises (W.failed (sink_of writer.old)) (W.failed (sink_of writer.new)) }
     ensures none_failed { result ≡ Step.Goes → W.failed (sink_of writer.new) ≡ W.failed (sink_of writer.old) }
     ensures goes { result ≡ Step.Goes → IsFalse last }
-    ensures fresh { result ≡ Step.Goes → IsFalse (sinks.is_spent writer.new) }
-    ensures no_read { Fails ReadFailed result → ⊥ }
+    ensures fresh { result ≡ Step.Goes → IsFalse (sinks.is_writer_spent writer.new) }
+    ensures no_read { EndsByFault ReadFailed result → ⊥ }
 {
     let end = end_behind(request.closes(), last);
     let reply = service.call(request);
@@ -94,10 +94,10 @@ fn answer<W: Sink, S: Service>(
 fn refuse<W: Sink, D: Document + Drop>(writer: &mut Writer<W>, fault: Fault) -> Step
     requires not_read { fault ≢ ReadFailed }
     requires not_written { fault ≢ WriteFailed }
-    requires fresh { IsFalse (sinks.is_spent writer.old) }
-    ensures step { Refuses (W.contents (sink_of writer.old)) (W.contents (sink_of writer.new)) fault result }
+    requires fresh { IsFalse (sinks.is_writer_spent writer.old) }
+    ensures step { RefusesRequest (W.contents (sink_of writer.old)) (W.contents (sink_of writer.new)) fault result }
     ensures cause { Fails WriteFailed result → Raises (W.failed (sink_of writer.old)) (W.failed (sink_of writer.new)) }
-    ensures no_read { Fails ReadFailed result → ⊥ }
+    ensures no_read { EndsByFault ReadFailed result → ⊥ }
     ensures stops { result ≢ Step.Goes }
 {
     let refused: Reply<D> = Reply {
@@ -120,12 +120,12 @@ fn exchange<R: Source, W: Sink, S: Service>(
     service: &mut S,
     last: bool,
 ) -> Step
-    requires { IsFalse (is_spent reader.old) × IsFalse (sinks.is_spent writer.old) }
+    requires { IsFalse (is_spent reader.old) × IsFalse (sinks.is_writer_spent writer.old) }
     ensures step { IfSome (ahead R.remaining reader.old) (λ stream.
-        Exchanged S.answers (limits_of reader.old) stream (left_by R.remaining reader.new) service.old service.new (W.contents (sink_of writer.old)) (W.contents (sink_of writer.new)) last result) }
-    ensures limits { limits_of reader.new ≡ limits_of reader.old }
+        Exchanged S.answers (reader_limits reader.old) stream (left_by R.remaining reader.new) service.old service.new (W.contents (sink_of writer.old)) (W.contents (sink_of writer.new)) last result) }
+    ensures limits { reader_limits reader.new ≡ reader_limits reader.old }
     ensures goes { result ≡ Step.Goes → IsFalse last }
-    ensures fresh { result ≡ Step.Goes → IsFalse (is_spent reader.new) × IsFalse (sinks.is_spent writer.new) }
+    ensures fresh { result ≡ Step.Goes → IsFalse (is_spent reader.new) × IsFalse (sinks.is_writer_spent writer.new) }
     ensures read_cause { Fails ReadFailed result → Raises (R.failed (source_of reader.old)) (R.failed (source_of reader.new)) }
     ensures write_cause { Fails WriteFailed result → Raises (W.failed (sink_of writer.old)) (W.failed (sink_of writer.new)) }
     ensures none_failed { result ≡ Step.Goes → (R.failed (source_of reader.new) ≡ R.failed (source_of reader.old)) × (W.failed (sink_of writer.new) ≡ W.failed (sink_of writer.old)) }
@@ -149,9 +149,9 @@ fn answer_all<R: Source, W: Sink, S: Service>(
     writer: &mut Writer<W>,
     service: &mut S,
 ) -> Served
-    requires { IsFalse (is_spent reader.old) × IsFalse (sinks.is_spent writer.old) }
+    requires { IsFalse (is_spent reader.old) × IsFalse (sinks.is_writer_spent writer.old) }
     ensures answers { IfSome (ahead R.remaining reader.old) (λ stream.
-        AnswersAll S.answers (limits_of reader.old) stream (left_by R.remaining reader.new) service.old service.new (W.contents (sink_of writer.old)) (W.contents (sink_of writer.new)) result) }
+        AnswersAll S.answers (reader_limits reader.old) stream (left_by R.remaining reader.new) service.old service.new (W.contents (sink_of writer.old)) (W.contents (sink_of writer.new)) result) }
     ensures read_cause { result.end ≡ End.Fault ReadFailed → Raises (R.failed (source_of reader.old)) (R.failed (source_of reader.new)) }
     ensures write_cause { result.end ≡ End.Fault WriteFailed → Raises (W.failed (sink_of writer.old)) (W.failed (sink_of writer.new)) }
 {
@@ -179,16 +179,16 @@ pub fn serve<R: Source, W: Sink, S: Service>(
     writer: &mut Writer<W>,
     service: &mut S,
 ) -> Served
-    requires { IsFalse (is_spent reader.old) × IsFalse (sinks.is_spent writer.old) }
+    requires { IsFalse (is_spent reader.old) × IsFalse (sinks.is_writer_spent writer.old) }
     // What was written is exactly the answers to the requests of what is read. After a failed read
     // these are the whole requests that had come; at a failed write the last of them was answered in
     // part, and nothing more is read.
     ensures answers { IfSome (ahead R.remaining reader.old) (λ stream.
-        AnswersAll S.answers (limits_of reader.old) stream (left_by R.remaining reader.new) service.old service.new (W.contents (sink_of writer.old)) (W.contents (sink_of writer.new)) result) }
+        AnswersAll S.answers (reader_limits reader.old) stream (left_by R.remaining reader.new) service.old service.new (W.contents (sink_of writer.old)) (W.contents (sink_of writer.new)) result) }
     // A connection ends by a failed read or write only where the count of failures rose.
     ensures read_cause { result.end ≡ End.Fault ReadFailed → Raises (R.failed (source_of reader.old)) (R.failed (source_of reader.new)) }
     ensures write_cause { result.end ≡ End.Fault WriteFailed → Raises (W.failed (sink_of writer.old)) (W.failed (sink_of writer.new)) }
-    ensures spent { IsTrue (is_spent reader.new) × IsTrue (sinks.is_spent writer.new) }
+    ensures spent { IsTrue (is_spent reader.new) × IsTrue (sinks.is_writer_spent writer.new) }
 {
     let served = answer_all(alloc, reader, writer, service);
     reader.spend();

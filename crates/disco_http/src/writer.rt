@@ -24,12 +24,12 @@ pub struct Writer<W> {
 
 impl<W: Drop> Writer<W> {
     ghost use Rattle.std.specs.Prelude.{◌≡◌, IfOk, IsFalse};
-    ghost use Rattle.disco_http.specs.Sinks.{is_spent, sink_of};
+    ghost use Rattle.disco_http.specs.Sinks.{is_writer_spent, sink_of};
 
     /// Room in front of a sink, with nothing written.
     pub fn new(alloc: Global, sink: W) -> Result<Writer<W>, AllocError>
         ensures sink { IfOk result (λ writer. sink_of writer ≡ sink) }
-        ensures spent { IfOk result (λ writer. IsFalse (is_spent writer)) }
+        ensures spent { IfOk result (λ writer. IsFalse (is_writer_spent writer)) }
     {
         let room = Vec::with_capacity(alloc, HEAD_ROOM + SMALL_BODY)?;
         Ok(Writer {
@@ -42,7 +42,7 @@ impl<W: Drop> Writer<W> {
     /// The same room in front of another sink, with nothing written. Takes no memory.
     pub fn over<V>(self, sink: V) -> Writer<V>
         ensures sink { sink_of result ≡ sink }
-        ensures spent { IsFalse (is_spent result) }
+        ensures spent { IsFalse (is_writer_spent result) }
     {
         let Writer {
             sink: _sink,
@@ -62,18 +62,18 @@ impl<W: Sink> Writer<W> {
     ghost use Rattle.std.specs.Io.KnownBytes.{Appends};
     ghost use Rattle.disco_message.specs.ReplyText.{reply_head};
     ghost use Rattle.disco_reader.specs.Causes.{Raises};
-    ghost use Rattle.disco_http.specs.Sinks.{AppendsFront, is_spent, sink_of};
+    ghost use Rattle.disco_http.specs.Sinks.{AppendsProperFront, is_writer_spent, sink_of};
 
     /// Whether a write failed, or the connection has ended. Then nothing more is written.
     pub fn is_spent(&self) -> bool
-        ensures { result ≡ is_spent self.now }
+        ensures { result ≡ is_writer_spent self.now }
     {
         self.spent
     }
 
     /// Writes nothing more.
     pub(crate) fn spend(&mut self)
-        ensures spent { IsTrue (is_spent self.new) }
+        ensures spent { IsTrue (is_writer_spent self.new) }
         ensures sink { sink_of self.new ≡ sink_of self.old }
     {
         self.spent = true;
@@ -111,7 +111,7 @@ impl<W: Sink> Writer<W> {
     /// Writes what is in the room.
     pub(crate) fn send(&mut self) -> Result<(), Failed>
         ensures written { OnOk result (Appends (W.contents self.old.sink) (W.contents self.new.sink) self.old.room.items) }
-        ensures front { OnErr result (AppendsFront (W.contents self.old.sink) (W.contents self.new.sink) self.old.room.items) }
+        ensures front { OnErr result (AppendsProperFront (W.contents self.old.sink) (W.contents self.new.sink) self.old.room.items) }
         ensures cause { OnErr result (Raises (W.failed self.old.sink) (W.failed self.new.sink)) }
         ensures none_failed { OnOk result (W.failed self.new.sink ≡ W.failed self.old.sink) }
         ensures spent { self.new.spent ≡ self.old.spent }
@@ -122,13 +122,13 @@ impl<W: Sink> Writer<W> {
     /// Writes these bytes as they are, as the head of a request. Takes no memory. Refused only as
     /// `WriteFailed`; then a front of them was written, and the writer is spent.
     pub fn write_bytes(&mut self, bytes: &[u8]) -> Result<(), Fault>
-        requires { IsFalse (is_spent self.old) }
+        requires { IsFalse (is_writer_spent self.old) }
         ensures written { OnOk result (Appends (W.contents (sink_of self.old)) (W.contents (sink_of self.new)) bytes.now) }
-        ensures front { OnErr result (AppendsFront (W.contents (sink_of self.old)) (W.contents (sink_of self.new)) bytes.now) }
+        ensures front { OnErr result (AppendsProperFront (W.contents (sink_of self.old)) (W.contents (sink_of self.new)) bytes.now) }
         ensures fault { IfErr result (λ fault. fault ≡ WriteFailed) }
         ensures cause { OnErr result (Raises (W.failed (sink_of self.old)) (W.failed (sink_of self.new))) }
         ensures none_failed { OnOk result (W.failed (sink_of self.new) ≡ W.failed (sink_of self.old)) }
-        ensures spent { is_spent self.new ≡ is_err result }
+        ensures spent { is_writer_spent self.new ≡ is_err result }
     {
         match write_all(&mut self.sink, bytes) {
             Ok(()) => Ok(()),

@@ -8,14 +8,14 @@ use Rattle.disco_history.specs.Change.{Entry}
 use Rattle.disco_registry.specs.Accept.{accepts}
 use Rattle.disco_registry.specs.Op.{cancel}
 use Rattle.disco_registry.proofs.Histories.{accepts_after}
-use Rattle.disco_history.specs.Registry.{reg}
+use Rattle.disco_history.specs.Registry.{registry_of}
 use Rattle.disco_cache.specs.Docs.{Docs}
 use Rattle.std.specs.FinMap.{get}
 use Rattle.disco_hub.specs.Kept.{Forgets}
 use Rattle.disco_hub.specs.Expiry.{Expires, ForgetsEach, ForgetsNext, after_next, cancel_of, cancelled}
 use Rattle.disco_core.specs.Past.{Past, after_ask, history, with_done}
 use Rattle.disco_core.specs.State.{Rules}
-use Rattle.disco_hub.specs.State.{State, StandsFor, rules_of}
+use Rattle.disco_hub.specs.State.{HubState, HubStandsFor, rules_of}
 use Rattle.disco_hub.specs.Cancelling.{Cancels, CancelsNone, HasCancelled}
 use Rattle.disco_hub.specs.Transitions.{Declines, Writes}
 
@@ -33,9 +33,9 @@ forgot_more : (rules : Rules) (p : Past) (now : ℕ) (ks : List Key) (i : ℕ) (
 unfolding ForgetsEach
 forgot_more rules p now ks i old mid new did next = subst (λ n. ForgetsEach rules p now ks n old new) (sym (add-one i)) (mid, did, next)
 
-pub did_nothing : (s : State) (now : ℕ) (ks : List Key) → HasCancelled s s now ks 0
+pub did_nothing : (s : HubState) (now : ℕ) (ks : List Key) → HasCancelled s s now ks 0
 did_nothing s now ks = record {
-  stands = λ p stands. subst (StandsFor s) (none_yet (rules_of s) p now ks) stands;
+  stands = λ p stands. subst (HubStandsFor s) (none_yet (rules_of s) p now ks) stands;
   accepted = λ p stands i k lt is. absurd (omega (arith, lt));
   docs = λ p stands. none_forgot (rules_of s) p now ks s.docs;
   rules = refl;
@@ -63,7 +63,7 @@ below_of (suc i) (suc n) lt = by (below_of i n (omega (arith, lt)))
     by (before l) = before (omega (arith, l))
     by (last e) = last (ap suc e)
 
-module _ (old mid new : State) (now : ℕ) (ks : List Key) (i : ℕ) (k : Key) (there : slice_get ks i ≡ Some k) (did : HasCancelled old mid now ks i) where
+module _ (old mid new : HubState) (now : ℕ) (ks : List Key) (i : ℕ) (k : Key) (there : slice_get ks i ≡ Some k) (did : HasCancelled old mid now ks i) where
   abbrev so_far : Past → Past
   so_far p = cancelled (rules_of old) p now ks i
 
@@ -77,7 +77,7 @@ module _ (old mid new : State) (now : ℕ) (ks : List Key) (i : ℕ) (k : Key) (
       ∙ ap (after_next (rules_of old) (so_far p) now) (sym there)
       ∙ sym (one_more (rules_of old) p now ks i)
 
-  accepted_too : Cancels mid new now k → (p : Past) → StandsFor old p → (j : ℕ) (q : Key) → Below j i → slice_get ks j ≡ Some q → IsOk (cancel_of (rules_of old) (cancelled (rules_of old) p now ks j) now q)
+  accepted_too : Cancels mid new now k → (p : Past) → HubStandsFor old p → (j : ℕ) (q : Key) → Below j i → slice_get ks j ≡ Some q → IsOk (cancel_of (rules_of old) (cancelled (rules_of old) p now ks j) now q)
   accepted_too cancels p stands j q (before lt) is = did.accepted p stands j q lt is
   accepted_too cancels p stands j q (last e) is =
       let does = cancels (so_far p) (did.stands p stands) in
@@ -87,7 +87,7 @@ module _ (old mid new : State) (now : ℕ) (ks : List Key) (i : ℕ) (k : Key) (
 
   pub did_more : Cancels mid new now k → rules_of new ≡ rules_of mid → HasCancelled old new now ks (i + 1)
   did_more cancels same = record {
-    stands = λ p stands. let does = cancels (so_far p) (did.stands p stands) in subst (StandsFor new) (left p does.0 (says p (Ok does.0) does.1)) does.2;
+    stands = λ p stands. let does = cancels (so_far p) (did.stands p stands) in subst (HubStandsFor new) (left p does.0 (says p (Ok does.0) does.1)) does.2;
     accepted = λ p stands j q lt is. accepted_too cancels p stands j q (below_of j i lt) is;
     docs = λ p stands.
         let does = cancels (so_far p) (did.stands p stands) in
@@ -110,7 +110,7 @@ module _ (old mid new : State) (now : ℕ) (ks : List Key) (i : ℕ) (k : Key) (
       )
 
 -- no list was found
-pub none_gone : (s : State) (now : ℕ) (ks : Past → List Key) (e : Fault) → e ≡ OutOfMemory → ((p : Past) → StandsFor s p → 0 < length (ks p)) → Expires s s now ks 0 (Some e)
+pub none_gone : (s : HubState) (now : ℕ) (ks : Past → List Key) (e : Fault) → e ≡ OutOfMemory → ((p : Past) → HubStandsFor s p → 0 < length (ks p)) → Expires s s now ks 0 (Some e)
 none_gone s now ks e memory some = λ p stands. (
   record {
     accepted = λ i k lt is. absurd (omega (arith, lt));
@@ -124,14 +124,14 @@ none_gone s now ks e memory some = λ p stands. (
 
 -- ---- one cancel
 
-pub at_history : (s : State) (p : Past) (k : Key) (now : ℕ) → StandsFor s p → accepts s.core.registry (cancel k) now ≡ cancel_of (rules_of s) p now k
+pub at_history : (s : HubState) (p : Past) (k : Key) (now : ℕ) → HubStandsFor s p → accepts s.core.registry (cancel k) now ≡ cancel_of (rules_of s) p now k
 at_history s p k now stands = accepts_after s.core.registry (history p) stands.core.registry (cancel k) now
 
-pub one_gone : (old new : State) (now : ℕ) (k key : Key) (c : Option Entry) → key ≡ k → Writes old new (cancel key) now c → Cancels old new now k
+pub one_gone : (old new : HubState) (now : ℕ) (k key : Key) (c : Option Entry) → key ≡ k → Writes old new (cancel key) now c → Cancels old new now k
 one_gone old new now k key c same done = λ p stands.
-    subst (λ (x : Key). (c : Option Entry) × (cancel_of (rules_of old) p now x ≡ Ok c) × StandsFor new (with_done (rules_of old).queue p now (cancel x) c) × Forgets (get (reg (history p))) c old.docs new.docs) same
+    subst (λ (x : Key). (c : Option Entry) × (cancel_of (rules_of old) p now x ≡ Ok c) × HubStandsFor new (with_done (rules_of old).queue p now (cancel x) c) × Forgets (get (registry_of (history p))) c old.docs new.docs) same
     (c, sym (at_history old p key now stands) ∙ done.accepted, done.history p stands, done.docs p stands)
 
-pub one_refused : (old new : State) (now : ℕ) (k key : Key) (e : Fault) → key ≡ k → Declines old new (cancel key) now e → CancelsNone old new now k e
+pub one_refused : (old new : HubState) (now : ℕ) (k key : Key) (e : Fault) → key ≡ k → Declines old new (cancel key) now e → CancelsNone old new now k e
 one_refused old new now k key e same refused = λ p stands.
     (refused.history p stands, λ other. ap (cancel_of (rules_of old) p now) (sym same) ∙ sym (at_history old p key now stands) ∙ refused.cause other, refused.docs)

@@ -18,7 +18,7 @@ use Rattle.disco_history.specs.Hash.{hash}
 use Rattle.disco_history.specs.Held.{record_at}
 use Rattle.disco_history.specs.Mentions.{delta}
 use Rattle.disco_history.specs.Query.{asks_for, is_absent, is_named, may_be_empty, restrict}
-use Rattle.disco_history.specs.Registry.{put_of, reg, said}
+use Rattle.disco_history.specs.Registry.{put_of, registry_of, mentions_of}
 use Rattle.disco_history.proofs.Sets.{get-said_reg}
 use Rattle.disco_history.proofs.Untouched.{untouched_law}
 use Rattle.disco_queue.specs.Timed.{Timed}
@@ -40,7 +40,7 @@ use Rattle.disco_core.specs.Past.{Past, history, with_done}
 use Rattle.disco_core.specs.Refusals.{refusal_of}
 use Rattle.disco_core.specs.State as core
 use Rattle.disco_hub.specs.Kept.{Forgets, IsAsKept, Keeps, KeepsAtMost}
-use Rattle.disco_hub.specs.State.{AreKept, MayServe, is_cached}
+use Rattle.disco_hub.specs.State.{AreServable, MayServe, is_cached}
 
 -- ---- a change that doesn't name a document
 
@@ -64,11 +64,11 @@ told_held : (q : Query) (h : List Entry) (base : ℕ) → is_delta q ≡ false �
 told_held q h base held = ap (λ b. cond b (values (delta h base)) (mentioned (asked_by q) h)) held
 
 module _ (q : Query) (text : List ℕ) (base version : ℕ) (f : Form) (h : List Entry) (c : Entry)
-    (unnamed : is_named (get (reg h) (key_of c)) (Some c.0) (asked_by q) ≡ false) (held : is_delta q ≡ false) (kept : (kind q).kept ≡ true) (t : IsTrueFor q text base version f h) where
+    (unnamed : is_named (get (registry_of h) (key_of c)) (Some c.0) (asked_by q) ≡ false) (held : is_delta q ≡ false) (kept : (kind q).kept ≡ true) (t : IsTrueFor q text base version f h) where
   abbrev now : List Entry
   now = h ++ c ∷ []
 
-  law : (restrict (reg now) (asked_by q) ≡ restrict (reg h) (asked_by q)) × (said now (restrict (reg now) (asked_by q)) ≡ said h (restrict (reg h) (asked_by q)))
+  law : (restrict (registry_of now) (asked_by q) ≡ restrict (registry_of h) (asked_by q)) × (mentions_of now (restrict (registry_of now) (asked_by q)) ≡ mentions_of h (restrict (registry_of h) (asked_by q)))
   law = untouched_law h c (asked_by q) (both _ _ (left _ _ unnamed) (put_unasked (asks_for (asked_by q)) c (right _ _ unnamed)))
 
   told_same : told q now base ≡ told q h base
@@ -106,7 +106,7 @@ always : (a : Bool) → (a || true) ≡ false → ⊥
 always true e = absurd (cc)
 always false e = absurd (cc)
 
-stays_true : (on : Bool) (q : Query) (text : List ℕ) (base version : ℕ) (f : Form) (h : List Entry) (c : Entry) → is_named (get (reg h) (key_of c)) (Some c.0) (asked_by q) ≡ false → is_cached on q ≡ true
+stays_true : (on : Bool) (q : Query) (text : List ℕ) (base version : ℕ) (f : Form) (h : List Entry) (c : Entry) → is_named (get (registry_of h) (key_of c)) (Some c.0) (asked_by q) ≡ false → is_cached on q ≡ true
     → IsTrueFor q text base version f h → IsTrueFor q text base version f (h ++ c ∷ [])
 stays_true on query.Apps text base version f h c unnamed kept t = absurd (always _ unnamed)
 stays_true on query.Delta text base version f h c unnamed kept t = absurd (always _ unnamed)
@@ -123,11 +123,11 @@ none_there k d is = absurd (the (sym (get-empty doc_cmp k) ∙ is))
     the : None ≡ Some d → ⊥
     the e = absurd (cc)
 
-pub none_kept : (on : Bool) (p : Past) → AreKept on empty p
+pub none_kept : (on : Bool) (p : Past) → AreServable on empty p
 none_kept on p = record { keys = λ k d is. absurd (none_there k d is); served = λ k d is. absurd (none_there k d is) }
 
 -- nothing but the base moves, and that forward
-pub moved_on : (on : Bool) (docs : FinMap doc_cmp Payload) (p q : Past) → q.run ≡ p.run → history q ≡ history p → p.base ≤ q.base → AreKept on docs p → AreKept on docs q
+pub moved_on : (on : Bool) (docs : FinMap doc_cmp Payload) (p q : Past) → q.run ≡ p.run → history q ≡ history p → p.base ≤ q.base → AreServable on docs p → AreServable on docs q
 moved_on on docs p q run same le kept = record {
   keys = kept.keys;
   served = λ k d is. let may = kept.served k d is in record { true_now = subst (λ (x : ℕ × List Entry). IsTrue x.0 d x.1) (λ i. (sym run i, sym same i)) may.true_now; start = λ of_delta. omega (arith, may.start of_delta, le) };
@@ -139,23 +139,23 @@ there_before true o d is = absurd (cc)
 there_before false o d is = (refl, is)
 
 -- what the registry holds of a key is what its history says
-held_is : (s : registry.State) (h : List Entry) → registry.StandsFor s h → (k : Key) → record_at s.held k ≡ get (reg h) k
+held_is : (s : registry.RegistryState) (h : List Entry) → registry.StandsFor s h → (k : Key) → record_at s.held k ≡ get (registry_of h) k
 held_is s h stands k = ap (λ m. record_at m k) stands.held ∙ get-said_reg h k
 
-pub forgets_in : (s : registry.State) (h : List Entry) → registry.StandsFor s h → (o : Option Entry) (old new : Docs) → Forgets (record_at s.held) o old new → Forgets (get (reg h)) o old new
+pub forgets_in : (s : registry.RegistryState) (h : List Entry) → registry.StandsFor s h → (o : Option Entry) (old new : Docs) → Forgets (record_at s.held) o old new → Forgets (get (registry_of h)) o old new
 forgets_in s h stands None old new is = is
 forgets_in s h stands (Some c) old new is = record {
   docs = λ k. is.docs k ∙ ap (λ (r : Option Row). cond (is_named r (Some c.0) (asked_by k.query)) None (get old.docs k)) (held_is s h stands (key_of c));
   max = is.max;
 }
 
-module _ (on : Bool) (p q : Past) (c : Entry) (old new : Docs) (forgets : Forgets (get (reg (history p))) (Some c) old new) (run : q.run ≡ p.run) (same : history q ≡ history p ++ c ∷ []) (le : p.base ≤ q.base) (kept : AreKept on old.docs p) where
+module _ (on : Bool) (p q : Past) (c : Entry) (old new : Docs) (forgets : Forgets (get (registry_of (history p))) (Some c) old new) (run : q.run ≡ p.run) (same : history q ≡ history p ++ c ∷ []) (le : p.base ≤ q.base) (kept : AreServable on old.docs p) where
   module _ (k : DocKey) (d : Payload) (is : get new.docs k ≡ Some d) where
-    before : (is_named (get (reg (history p)) (key_of c)) (Some c.0) (asked_by k.query) ≡ false) × (get old.docs k ≡ Some d)
+    before : (is_named (get (registry_of (history p)) (key_of c)) (Some c.0) (asked_by k.query) ≡ false) × (get old.docs k ≡ Some d)
     before = there_before _ _ d (sym (forgets.docs k) ∙ is)
 
-    unnamed : is_named (get (reg (history p)) (key_of c)) (Some c.0) (asked_by d.key.query) ≡ false
-    unnamed = ap (λ (x : DocKey). is_named (get (reg (history p)) (key_of c)) (Some c.0) (asked_by x.query)) (kept.keys k d before.1).0 ∙ before.0
+    unnamed : is_named (get (registry_of (history p)) (key_of c)) (Some c.0) (asked_by d.key.query) ≡ false
+    unnamed = ap (λ (x : DocKey). is_named (get (registry_of (history p)) (key_of c)) (Some c.0) (asked_by x.query)) (kept.keys k d before.1).0 ∙ before.0
 
     served_on : MayServe d q
     served_on =
@@ -169,12 +169,12 @@ module _ (on : Bool) (p q : Past) (c : Entry) (old new : Docs) (forgets : Forget
           start = λ of_delta. omega (arith, may.start of_delta, le);
         }
 
-  changed : AreKept on new.docs q
+  changed : AreServable on new.docs q
   changed = record { keys = λ k d is. kept.keys k d (before k d is).1; served = served_on }
 
 -- what is kept after an operation
-pub docs_after : (on : Bool) (p : Past) (most now : ℕ) (ask : Ask) (o : Option Entry) (old new : Docs) → Forgets (get (reg (history p))) o old new → AreKept on old.docs p → AreKept on new.docs (with_done most p now ask o)
-docs_after on p most now ask None old new is kept = moved_on on new.docs p (with_done most p now ask None) refl refl (omega arith) (subst (λ (v : Docs). AreKept on v.docs p) (sym is) kept)
+pub docs_after : (on : Bool) (p : Past) (most now : ℕ) (ask : Ask) (o : Option Entry) (old new : Docs) → Forgets (get (registry_of (history p))) o old new → AreServable on old.docs p → AreServable on new.docs (with_done most p now ask o)
+docs_after on p most now ask None old new is kept = moved_on on new.docs p (with_done most p now ask None) refl refl (omega arith) (subst (λ (v : Docs). AreServable on v.docs p) (sym is) kept)
 docs_after on p most now ask (Some c) old new forgets kept =
     changed on p (with_done most p now ask (Some c)) c old new forgets refl (map-append (λ (t : Timed). t.0) p.timed ((c, now) ∷ [])) (omega arith) kept
 
@@ -193,16 +193,16 @@ one_of on d e k old true same kept is =
     inr (sym (same_Some d e is), sym key, ap (λ (x : DocKey). is_cached on x.query) key ∙ kept)
 one_of on d e k old false same kept is = inl is
 
-module _ (on : Bool) (d : Payload) (old new : Docs) (p : Past) (may : MayServe d p) (kept : AreKept on old.docs p) where
-  one_more : Keeps on d old new → AreKept on new.docs p
+module _ (on : Bool) (d : Payload) (old new : Docs) (p : Past) (may : MayServe d p) (kept : AreServable on old.docs p) where
+  one_more : Keeps on d old new → AreServable on new.docs p
   one_more one =
       let found = λ (k : DocKey) (e : Payload) (is : get new.docs k ≡ Some e). one_of on d e k old.docs (same_doc k d.key) refl one.cached (sym (ap (λ (v : Docs). get v.docs k) one.kept ∙ get-insert docs_total old.docs d.key d k) ∙ is) in record {
         keys = λ k e is. elim (found k e is) [ inl before ↦ kept.keys k e before | inr it ↦ (ap (λ (x : Payload). x.key) it.0 ∙ it.1, it.2) ];
         served = λ k e is. elim (found k e is) [ inl before ↦ kept.served k e before | inr it ↦ subst (λ (x : Payload). MayServe x p) (sym it.0) may ];
       }
 
-  pub keeps : KeepsAtMost on d old new → AreKept on new.docs p
-  keeps (inl same) = subst (λ (v : Docs). AreKept on v.docs p) (sym same) kept
+  pub keeps : KeepsAtMost on d old new → AreServable on new.docs p
+  keeps (inl same) = subst (λ (v : Docs). AreServable on v.docs p) (sym same) kept
   keeps (inr one) = one_more one
 
 pub kept_at_most : (on : Bool) (d : Payload) (old new : Docs) (r : Result Bool Fault) → is_cached on d.key.query ≡ true → get old.docs d.key ≡ None → IfOk r (λ kept. kept ≡ (contains_key old.docs d.key || nat_lt (len old.docs) old.max))
@@ -236,13 +236,13 @@ is_not_kept s k d none = subst (λ (o : Option Payload). IfSome o (λ e. d ≡ e
 pub allowed : (run : ℕ) (on : Bool) (q : Query) (h : List Entry) (d : Payload) → d.key.query ≡ q → IsTrue run d h → (is_delta q ≡ true → on ≡ true) → refusal_of on q h ≡ None
 allowed run on q h d key true_now deltas = one (is_delta q) refl
   where
-    there : is_absent (reg h) (asked_by q) ≡ false
-    there = ap (λ x. is_absent (reg h) (asked_by x)) (sym key) ∙ true_now.1.means.there
+    there : is_absent (registry_of h) (asked_by q) ≡ false
+    there = ap (λ x. is_absent (registry_of h) (asked_by x)) (sym key) ∙ true_now.1.means.there
 
-    one : (b : Bool) → is_delta q ≡ b → cond b (cond on None (Some DeltaDisabled)) (cond (is_absent (reg h) (asked_by q)) (Some NotFound) None) ≡ None
+    one : (b : Bool) → is_delta q ≡ b → cond b (cond on None (Some DeltaDisabled)) (cond (is_absent (registry_of h) (asked_by q)) (Some NotFound) None) ≡ None
     one true e = ap (λ x. cond x None (Some DeltaDisabled)) (deltas e)
     one false e = ap (λ x. cond x (Some NotFound) None) there
 
 -- a document that is written now
-pub written_now : (s : core.State) (p : Past) (d : Payload) → core.StandsFor s p → IsTrue p.run d (history p) → (is_delta d.key.query ≡ true → d.base ≡ s.queue.base) → MayServe d p
+pub written_now : (s : core.CoreState) (p : Past) (d : Payload) → core.CoreStandsFor s p → IsTrue p.run d (history p) → (is_delta d.key.query ≡ true → d.base ≡ s.queue.base) → MayServe d p
 written_now s p d stands true_now base = record { true_now = true_now; start = λ of_delta. omega (arith, base of_delta, stands.queue.base) }

@@ -3,7 +3,7 @@ use Rattle.std.proofs.Common.{◌≡◌, ℕ, Bool, true, false, List, [], ◌�
 use Rattle.std.specs.FinMap.{empty, insert, len, remove}
 use Rattle.disco_history.specs.Change.{Entry}
 use Rattle.disco_history.specs.Query.{is_absent}
-use Rattle.disco_history.specs.Registry.{reg}
+use Rattle.disco_history.specs.Registry.{registry_of}
 use Rattle.disco_documents.specs.Documents.{asked_by}
 use Rattle.disco_query.specs.declared.key.DocKey.{DocKey}
 use Rattle.disco_core.specs.Past.{Past, history, nothing}
@@ -12,7 +12,7 @@ use Rattle.disco_hub.specs.Levels.{AreLevels}
 use Rattle.disco_rounds.specs.Press.{put_copy}
 use Rattle.disco_rounds.specs.Press.{Edition, IsLegal, IsPressed, IsPublishable, Note, begin, change, copied_in, doc, edition_of, gone, note_of}
 use Rattle.disco_rounds.specs.Rounds.{Advances, Begins, Ends, Round, Rounds, kept_keys, round_keys}
-use Rattle.disco_hub.specs.State.{AreKept, IsCopied, State, StandsFor}
+use Rattle.disco_hub.specs.State.{AreServable, IsCopied, HubState, HubStandsFor}
 use Rattle.disco_rounds.specs.Press.{is_doc}
 use Rattle.disco_rounds.specs.declared.copied.Copied.{Copied}
 use Rattle.disco_rounds.specs.declared.copied.Copied.TheVariants as copied
@@ -22,10 +22,10 @@ use Rattle.disco_rounds.proofs.Pressed.{IsNoted, begun_pressed, copied_pressed, 
 
 -- ---- the levels, one deed on
 
-pub stands_on : (old new : State) (p : Past) → new ≡ record old { rounds = new.rounds } → StandsFor old p → StandsFor new p
+pub stands_on : (old new : HubState) (p : Past) → new ≡ record old { rounds = new.rounds } → HubStandsFor old p → HubStandsFor new p
 stands_on old new p is stands = record {
-  core = subst (λ (x : State). core.StandsFor x.core p) (sym is) stands.core;
-  docs = subst (λ (x : State). AreKept x.core.delta x.docs.docs p) (sym is) stands.docs;
+  core = subst (λ (x : HubState). core.CoreStandsFor x.core p) (sym is) stands.core;
+  docs = subst (λ (x : HubState). AreServable x.core.delta x.docs.docs p) (sym is) stands.docs;
 }
 
 pub copied_changes : (cs : List Entry) (l : List Note) → copied_in (l ++ map change cs) ≡ copied_in l
@@ -36,22 +36,22 @@ some_on : {P Q : Type 0} (o : Option Round) → IfSome o (λ _. P) → (P → Q)
 some_on None p f = tt
 some_on (Some r) p f = f p
 
-gone_key : (j k : DocKey) (p : Past) → IsCopied k (copied.Drop j) p → is_absent (reg (history p)) (asked_by j.query) ≡ true
-gone_key j k p it = subst (λ (x : DocKey). is_absent (reg (history p)) (asked_by x.query) ≡ true) (sym it.0) it.1
+gone_key : (j k : DocKey) (p : Past) → IsCopied k (copied.Drop j) p → is_absent (registry_of (history p)) (asked_by j.query) ≡ true
+gone_key j k p it = subst (λ (x : DocKey). is_absent (registry_of (history p)) (asked_by x.query) ≡ true) (sym it.0) it.1
 
-pub first_levels : (run : ℕ) (s : State) (next : Edition) → StandsFor s (nothing run) → s.rounds ≡ record { edition = empty; round = None } → AreLevels s next [] [] (nothing run)
+pub first_levels : (run : ℕ) (s : HubState) (next : Edition) → HubStandsFor s (nothing run) → s.rounds ≡ record { edition = empty; round = None } → AreLevels s next [] [] (nothing run)
 first_levels run s next stands rounds = record {
   stands = stands;
   pressed = subst (λ (r : Rounds). IsPressed run [] [] [] r.edition r.round) (sym rounds) (first_pressed run);
   copied = subst (λ (r : Rounds). IfSome r.round (λ _. next ≡ copied_in [])) (sym rounds) tt;
 }
 
-module _ (old new : State) (next next' : Edition) (published pending : List Note) (p : Past) (levels : AreLevels old next published pending p) where
+module _ (old new : HubState) (next next' : Edition) (published pending : List Note) (p : Past) (levels : AreLevels old next published pending p) where
   abbrev whole : List Note
   whole = published ++ pending
 
   -- changes, or none
-  pub plain_levels : (q : Past) (cs : List Entry) → q.run ≡ p.run → history q ≡ history p ++ cs → StandsFor new q → new.rounds ≡ old.rounds → next' ≡ next → AreLevels new next' published (pending ++ map change cs) q
+  pub plain_levels : (q : Past) (cs : List Entry) → q.run ≡ p.run → history q ≡ history p ++ cs → HubStandsFor new q → new.rounds ≡ old.rounds → next' ≡ next → AreLevels new next' published (pending ++ map change cs) q
   plain_levels q cs run more stands rounds same =
       let pressed = plain_pressed p.run published pending (history p) old.rounds.edition old.rounds.round cs levels.pressed in
       let stays : copied_in (published ++ (pending ++ map change cs)) ≡ copied_in whole = ap copied_in (sym (append_assoc published pending (map change cs))) ∙ copied_changes cs whole in
@@ -90,12 +90,12 @@ module _ (old new : State) (next next' : Edition) (published pending : List Note
   next_is : (before : Round) → old.rounds.round ≡ Some before → next ≡ copied_in whole
   next_is before was = subst (λ o. IfSome o (λ _. next ≡ copied_in whole)) was levels.copied
 
-  pub copied_is : (c : Copied) → ((q : Past) → StandsFor old q → IfSome old.rounds.round (λ r. IfSome (slice_get r.left 0) (λ k. IsCopied k c q))) → (before : Round) (k : DocKey) (left : List DocKey) → old.rounds.round ≡ Some before → before.left ≡ k ∷ left → IsCopied k c p
+  pub copied_is : (c : Copied) → ((q : Past) → HubStandsFor old q → IfSome old.rounds.round (λ r. IfSome (slice_get r.left 0) (λ k. IsCopied k c q))) → (before : Round) (k : DocKey) (left : List DocKey) → old.rounds.round ≡ Some before → before.left ≡ k ∷ left → IsCopied k c p
   copied_is c is before k left was first =
       let it = subst (λ o. IfSome o (λ r. IfSome (slice_get r.left 0) (λ k. IsCopied k c p))) was (is p levels.stands) in
       subst (λ ks. IfSome (slice_get ks 0) (λ k. IsCopied k c p)) first it
 
-  pub copied_levels : (c : Copied) → ((q : Past) → StandsFor old q → IfSome old.rounds.round (λ r. IfSome (slice_get r.left 0) (λ k. IsCopied k c q))) → Advances (is_doc c) old.rounds new.rounds → new ≡ record old { rounds = new.rounds } → next' ≡ put_copy next c
+  pub copied_levels : (c : Copied) → ((q : Past) → HubStandsFor old q → IfSome old.rounds.round (λ r. IfSome (slice_get r.left 0) (λ k. IsCopied k c q))) → Advances (is_doc c) old.rounds new.rounds → new ≡ record old { rounds = new.rounds } → next' ≡ put_copy next c
       → AreLevels new next' published (pending ++ note_of c ∷ []) p
   copied_levels (copied.Doc d) is m rest put =
       let it = copied_is (copied.Doc d) is m.before m.marks.key m.after.left m.was m.marks.first in

@@ -12,14 +12,14 @@ use Rattle.disco_query.specs.declared.key.DocKey.{DocKey}
 use Rattle.disco_cache.specs.declared.payload.Payload.{Payload}
 use Rattle.disco_core.specs.Past.{Past}
 use Rattle.disco_hub.specs.Kept.{Forgets, KeepsAtMost}
-use Rattle.disco_hub.specs.State.{State, StandsFor, rules_of}
+use Rattle.disco_hub.specs.State.{HubState, HubStandsFor, rules_of}
 use Rattle.disco_hub.specs.Transitions.{KeepsRest, Loads}
 
 -- nothing moves
-pub rest_of : (s : State) → KeepsRest s s
+pub rest_of : (s : HubState) → KeepsRest s s
 rest_of s = record { rules = refl; rounds = refl; room = refl }
 
-pub rest_on : (a b c : State) → KeepsRest a b → KeepsRest b c → KeepsRest a c
+pub rest_on : (a b c : HubState) → KeepsRest a b → KeepsRest b c → KeepsRest a c
 rest_on a b c one two = record { rules = two.rules ∙ one.rules; rounds = two.rounds ∙ one.rounds; room = two.room ∙ one.room }
 
 -- no document that is dropped makes room for more
@@ -38,15 +38,15 @@ kept_room : (on : Bool) (d : Payload) (old new : Docs) → KeepsAtMost on d old 
 kept_room on d old new (inl same) = ap (λ (v : Docs). v.max) same
 kept_room on d old new (inr one) = ap (λ (v : Docs). v.max) one.kept
 
-module _ (old new : State) (k : DocKey) where
-  pub loaded_stands : (r : Result (Arc Payload Global) Fault) → IfOk r (λ d. Loads old new k d.value) → OnErr r (new ≡ old) → (p : Past) → StandsFor old p → StandsFor new p
+module _ (old new : HubState) (k : DocKey) where
+  pub loaded_stands : (r : Result (Arc Payload Global) Fault) → IfOk r (λ d. Loads old new k d.value) → OnErr r (new ≡ old) → (p : Past) → HubStandsFor old p → HubStandsFor new p
   loaded_stands (Ok d) loads before p stands = loads.history p stands
-  loaded_stands (Err e) loads before p stands = subst (λ (s : State). StandsFor s p) (sym before) stands
+  loaded_stands (Err e) loads before p stands = subst (λ (s : HubState). HubStandsFor s p) (sym before) stands
 
   pub loaded_rest : (r : Result (Arc Payload Global) Fault) → IfOk r (λ d. Loads old new k d.value) → OnErr r (new ≡ old) → KeepsRest old new
   loaded_rest (Ok d) loads before = record {
-    rules = ap (λ (s : State). rules_of s) loads.rest;
-    rounds = ap (λ (s : State). s.rounds) loads.rest;
+    rules = ap (λ (s : HubState). rules_of s) loads.rest;
+    rounds = ap (λ (s : HubState). s.rounds) loads.rest;
     room = kept_room old.core.delta d.value old.docs new.docs loads.keeps;
   }
   loaded_rest (Err e) loads before = subst (KeepsRest old) (sym before) (rest_of old)

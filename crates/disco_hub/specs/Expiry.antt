@@ -5,14 +5,14 @@ use Rattle.disco_values.specs.declared.fault.Fault.{Fault}
 use Rattle.disco_values.specs.declared.fault.Fault.TheVariants.{OutOfMemory}
 use Rattle.disco_values.specs.declared.key.Key.{Key}
 use Rattle.disco_history.specs.Change.{Entry}
-use Rattle.disco_history.specs.Registry.{reg}
+use Rattle.disco_history.specs.Registry.{registry_of}
 use Rattle.disco_registry.specs.Accept.{accept_after}
 use Rattle.disco_registry.specs.Op.{cancel}
 use Rattle.disco_core.specs.Past.{Past, after_ask, history}
 use Rattle.disco_core.specs.State.{Rules}
 use Rattle.disco_cache.specs.Docs.{Docs}
 use Rattle.disco_hub.specs.Kept.{Forgets}
-use Rattle.disco_hub.specs.State.{State, StandsFor, rules_of}
+use Rattle.disco_hub.specs.State.{HubState, HubStandsFor, rules_of}
 
 -- what a cancel does at a moment after what has happened: its change, or the first cause against it
 abbrev pub cancel_of : Rules → Past → ℕ → Key → Result (Option Entry) Fault
@@ -41,7 +41,7 @@ pub record ForgetsNext (rules : Rules) (p : Past) (now : ℕ) (next : Option Key
   pub change : Option Entry
   pub is_next : next ≡ Some key
   pub accepted : cancel_of rules p now key ≡ Ok change
-  pub docs : Forgets (get (reg (history p))) change old new
+  pub docs : Forgets (get (registry_of (history p))) change old new
 
 -- and so of the first i of these keys, one after the other
 unfoldable pub ForgetsEach : Rules → Past → ℕ → List Key → ℕ → Docs → Docs → Type 0
@@ -49,6 +49,6 @@ ForgetsEach rules p now ks zero old new = new ≡ old
 ForgetsEach rules p now ks (suc i) old new = (mid : Docs) × ForgetsEach rules p now ks i old mid × ForgetsNext rules (cancelled rules p now ks i) now (slice_get ks i) mid new
 
 -- a hub cancels these keys as far as it says, then stands for what has happened with that, and keeps what the cancels leave
-abbrev pub Expires : State → State → ℕ → (Past → List Key) → ℕ → Option Fault → Type 0
-Expires old new now ks gone stopped = (p : Past) → StandsFor old p
-    → IsExpired (rules_of old) p now (ks p) gone stopped × StandsFor new (cancelled (rules_of old) p now (ks p) gone) × ForgetsEach (rules_of old) p now (ks p) gone old.docs new.docs
+abbrev pub Expires : HubState → HubState → ℕ → (Past → List Key) → ℕ → Option Fault → Type 0
+Expires old new now ks gone stopped = (p : Past) → HubStandsFor old p
+    → IsExpired (rules_of old) p now (ks p) gone stopped × HubStandsFor new (cancelled (rules_of old) p now (ks p) gone) × ForgetsEach (rules_of old) p now (ks p) gone old.docs new.docs

@@ -2,7 +2,7 @@
 use Rattle.std.specs.Prelude.{◌≡◌, ◌≤◌, ℕ, Bool, true, false, Option, Some, None}
 use Rattle.std.specs.FinMap.{FinMap, empty, get}
 use Rattle.disco_history.specs.Query.{is_absent}
-use Rattle.disco_history.specs.Registry.{reg}
+use Rattle.disco_history.specs.Registry.{registry_of}
 use Rattle.disco_documents.specs.Documents.{asked_by}
 use Rattle.disco_query.specs.Query.{is_delta}
 use Rattle.disco_query.specs.declared.query.Query.{Query}
@@ -19,20 +19,20 @@ use Rattle.disco_rounds.specs.declared.copied.Copied.{Copied}
 use Rattle.disco_rounds.specs.declared.copied.Copied.TheVariants.{Doc, Drop}
 use Rattle.disco_settings.specs.declared.settings.Settings.{Settings}
 
-pub record State : Type 0 where
-  pub core : core.State
+pub record HubState : Type 0 where
+  pub core : core.CoreState
   pub docs : Docs
   pub rounds : Rounds
 
-abbrev pub rules_of : State → core.Rules
-rules_of s = core.rules_of s.core
+abbrev pub rules_of : HubState → core.Rules
+rules_of s = core.core_rules s.core
 
 -- how many changes were accepted
-abbrev pub version_of : State → ℕ
+abbrev pub version_of : HubState → ℕ
 version_of s = s.core.registry.version
 
 -- the round that is open, if one is
-abbrev pub open_round : State → Option Round
+abbrev pub open_round : HubState → Option Round
 open_round s = s.rounds.round
 
 -- a document may be served after what has happened: it is of the run and true, and a delta starts no later than the queue does
@@ -47,24 +47,24 @@ is_cached on query.Delta = on
 is_cached on _ = true
 
 -- each kept document is of its key, may be cached, where deltas are on or off, and may be served
-pub record AreKept (on : Bool) (docs : FinMap doc_cmp Payload) (p : Past) : Type 0 where
+pub record AreServable (on : Bool) (docs : FinMap doc_cmp Payload) (p : Past) : Type 0 where
   pub keys : (k : DocKey) (d : Payload) → get docs k ≡ Some d → (d.key ≡ k) × (is_cached on k.query ≡ true)
   pub served : (k : DocKey) (d : Payload) → get docs k ≡ Some d → MayServe d p
 
 -- it holds what is left of what happened, and each document that it keeps may be served now
-pub record StandsFor (s : State) (p : Past) : Type 0 where
-  pub core : core.StandsFor s.core p
-  pub docs : AreKept s.core.delta s.docs.docs p
+pub record HubStandsFor (s : HubState) (p : Past) : Type 0 where
+  pub core : core.CoreStandsFor s.core p
+  pub docs : AreServable s.core.delta s.docs.docs p
 
 -- nothing has happened to it in its run, no document is kept and none was published, and no round is open
-pub record IsEmptyHub (settings : Settings) (s : State) : Type 0 where
-  pub stands : StandsFor s (nothing settings.run)
+pub record IsEmptyHub (settings : Settings) (s : HubState) : Type 0 where
+  pub stands : HubStandsFor s (nothing settings.run)
   pub rules : rules_of s ≡ core.rules settings
   pub docs : s.docs ≡ record { docs = empty; max = settings.entries }
   pub rounds : s.rounds ≡ record { edition = empty; round = None }
 
 -- the same but for places and room, which no answer shows
-pub record IsSameHub (old new : State) : Type 0 where
+pub record IsSameHub (old new : HubState) : Type 0 where
   pub core : core.IsSameCore old.core new.core
   pub docs : new.docs ≡ old.docs
   pub rounds : new.rounds ≡ old.rounds
@@ -72,4 +72,4 @@ pub record IsSameHub (old new : State) : Type 0 where
 -- what was copied of a key after what has happened: a document that may be served, or that there is none
 abbrev pub IsCopied : DocKey → Copied → Past → Type 0
 IsCopied k (Doc d) p = (d.value.key ≡ k) × MayServe d.value p
-IsCopied k (Drop j) p = (j ≡ k) × (is_absent (reg (history p)) (asked_by k.query) ≡ true)
+IsCopied k (Drop j) p = (j ≡ k) × (is_absent (registry_of (history p)) (asked_by k.query) ≡ true)

@@ -5,8 +5,8 @@ use Rattle.disco_values.specs.declared.fault.Fault.TheVariants.{NoRound, OutOfMe
 use Rattle.disco_values.specs.declared.form.Form.{Form}
 use Rattle.std.specs.FinMap.{get}
 use Rattle.disco_history.specs.Change.{Entry}
-use Rattle.disco_history.specs.Registry.{reg}
-use Rattle.disco_registry.specs.Accept.{Refuses, accepts}
+use Rattle.disco_history.specs.Registry.{registry_of}
+use Rattle.disco_registry.specs.Accept.{MayRefuse, accepts}
 use Rattle.disco_registry.specs.Op.{Ask}
 use Rattle.disco_lease.specs.declared.minute.Minute.{Minute}
 use Rattle.disco_query.specs.declared.key.DocKey.{DocKey}
@@ -18,42 +18,42 @@ use Rattle.disco_core.specs.Past.{Past, cleaned, history, minute_closed, with_do
 use Rattle.disco_core.specs.Refusals.{doc_of_id, refusal_of, refusal_of_id}
 use Rattle.disco_core.specs.State.{AddsNoPlaces, IsSweptAfter}
 use Rattle.disco_hub.specs.Kept.{Forgets, IsAsKept, IsCopiedAsKept, KeepsAtMost}
-use Rattle.disco_hub.specs.State.{IsCopied, MayServe, State, StandsFor, open_round, rules_of}
+use Rattle.disco_hub.specs.State.{IsCopied, MayServe, HubState, HubStandsFor, open_round, rules_of}
 
 -- ---- operations
 
 -- no operation, load or cleaning moves the rules, the rounds or how many documents may be kept
-pub record KeepsRest (old new : State) : Type 0 where
+pub record KeepsRest (old new : HubState) : Type 0 where
   pub rules : rules_of new ≡ rules_of old
   pub rounds : new.rounds ≡ old.rounds
   pub room : new.docs.max ≡ old.docs.max
 
 -- an operation is accepted at a moment, with this change or none: it has happened then, no place of what it found stands empty, and just the kept documents that it names are dropped
-pub record Writes (old new : State) (ask : Ask) (now : ℕ) (change : Option Entry) : Type 0 where
+pub record Writes (old new : HubState) (ask : Ask) (now : ℕ) (change : Option Entry) : Type 0 where
   pub accepted : accepts old.core.registry ask now ≡ Ok change
-  pub docs : (p : Past) → StandsFor old p → Forgets (get (reg (history p))) change old.docs new.docs
-  pub history : (p : Past) → StandsFor old p → StandsFor new (with_done (rules_of old).queue p now ask change)
+  pub docs : (p : Past) → HubStandsFor old p → Forgets (get (registry_of (history p))) change old.docs new.docs
+  pub history : (p : Past) → HubStandsFor old p → HubStandsFor new (with_done (rules_of old).queue p now ask change)
   pub swept : IsSweptAfter old.core.registry.held change new.core.vips new.core.leases
 
 -- an operation is refused at a moment: nothing has happened, no place is there that was not, and what was kept is
-pub record Declines (old new : State) (ask : Ask) (now : ℕ) (e : Fault) : Type 0 where
-  pub cause : Refuses old.core.registry ask now e
-  pub history : (p : Past) → StandsFor old p → StandsFor new p
+pub record Declines (old new : HubState) (ask : Ask) (now : ℕ) (e : Fault) : Type 0 where
+  pub cause : MayRefuse old.core.registry ask now e
+  pub history : (p : Past) → HubStandsFor old p → HubStandsFor new p
   pub given_back : AddsNoPlaces old.core new.core
   pub docs : new.docs ≡ old.docs
 
 -- the recent changes that are older than the retention are forgotten, so that deltas start from this version, and nothing else is
-pub record Cleans (old new : State) (now from : ℕ) : Type 0 where
+pub record Cleans (old new : HubState) (now from : ℕ) : Type 0 where
   pub base : from ≡ new.core.queue.base
-  pub history : (p : Past) → StandsFor old p → StandsFor new (cleaned (rules_of old).retention p now)
+  pub history : (p : Past) → HubStandsFor old p → HubStandsFor new (cleaned (rules_of old).retention p now)
   pub registry : new.core.registry ≡ old.core.registry
   pub docs : new.docs ≡ old.docs
   pub rest : KeepsRest old new
 
 -- a minute is closed, with these numbers
-pub record Closes (old new : State) (minute : Minute) : Type 0 where
-  pub kept : (p : Past) → StandsFor old p → minute ≡ (minute_closed p).closed
-  pub history : (p : Past) → StandsFor old p → StandsFor new (minute_closed p)
+pub record Closes (old new : HubState) (minute : Minute) : Type 0 where
+  pub kept : (p : Past) → HubStandsFor old p → minute ≡ (minute_closed p).closed
+  pub history : (p : Past) → HubStandsFor old p → HubStandsFor new (minute_closed p)
   pub registry : new.core.registry ≡ old.core.registry
   pub docs : new.docs ≡ old.docs
   pub rest : KeepsRest old new
@@ -61,68 +61,68 @@ pub record Closes (old new : State) (minute : Minute) : Type 0 where
 -- ---- documents
 
 -- the document of a key is served, where deltas are on or off
-pub record IsDocOf (s : State) (on : Bool) (k : DocKey) (d : Payload) : Type 0 where
+pub record IsDocOf (s : HubState) (on : Bool) (k : DocKey) (d : Payload) : Type 0 where
   pub key : d.key ≡ k
-  pub served : (p : Past) → StandsFor s p → MayServe d p
-  pub allowed : (p : Past) → StandsFor s p → refusal_of on k.query (history p) ≡ None
+  pub served : (p : Past) → HubStandsFor s p → MayServe d p
+  pub allowed : (p : Past) → HubStandsFor s p → refusal_of on k.query (history p) ≡ None
 
 -- it is refused for its cause, or for want of memory
-abbrev pub Withholds : State → Bool → DocKey → Fault → Type 0
-Withholds s on k e = e ≢ OutOfMemory → (p : Past) → StandsFor s p → refusal_of on k.query (history p) ≡ Some e
+abbrev pub Withholds : HubState → Bool → DocKey → Fault → Type 0
+Withholds s on k e = e ≢ OutOfMemory → (p : Past) → HubStandsFor s p → refusal_of on k.query (history p) ≡ Some e
 
 -- the document of the instance of an id is served
-pub record IsDocOfId (s : State) (id : List ℕ) (f : Form) (d : Payload) : Type 0 where
-  pub key : (p : Past) → StandsFor s p → doc_of_id id f (history p) ≡ Some d.key
-  pub served : (p : Past) → StandsFor s p → MayServe d p
-  pub allowed : (p : Past) → StandsFor s p → refusal_of_id id (history p) ≡ None
+pub record IsDocOfId (s : HubState) (id : List ℕ) (f : Form) (d : Payload) : Type 0 where
+  pub key : (p : Past) → HubStandsFor s p → doc_of_id id f (history p) ≡ Some d.key
+  pub served : (p : Past) → HubStandsFor s p → MayServe d p
+  pub allowed : (p : Past) → HubStandsFor s p → refusal_of_id id (history p) ≡ None
 
 -- it is refused for its cause, or for want of memory
-abbrev pub WithholdsId : State → List ℕ → Fault → Type 0
-WithholdsId s id e = e ≢ OutOfMemory → (p : Past) → StandsFor s p → refusal_of_id id (history p) ≡ Some e
+abbrev pub WithholdsId : HubState → List ℕ → Fault → Type 0
+WithholdsId s id e = e ≢ OutOfMemory → (p : Past) → HubStandsFor s p → refusal_of_id id (history p) ≡ Some e
 
 -- a load of a key gives this document, as it is kept where it is kept, keeps it at most, and moves nothing else
-pub record Loads (old new : State) (k : DocKey) (d : Payload) : Type 0 where
+pub record Loads (old new : HubState) (k : DocKey) (d : Payload) : Type 0 where
   pub as_kept : IsAsKept old.docs k d
   pub keeps : KeepsAtMost old.core.delta d old.docs new.docs
-  pub history : (p : Past) → StandsFor old p → StandsFor new p
+  pub history : (p : Past) → HubStandsFor old p → HubStandsFor new p
   pub rest : new ≡ record old { docs = new.docs }
 
 -- ---- rounds
 
 -- nothing but the rounds moves
-abbrev pub MovesRounds : State → State → Type 0
+abbrev pub MovesRounds : HubState → HubState → Type 0
 MovesRounds old new = new ≡ record old { rounds = new.rounds }
 
 -- a round of so many keys begins
-pub record BeginsRound (old new : State) (n : ℕ) : Type 0 where
+pub record BeginsRound (old new : HubState) (n : ℕ) : Type 0 where
   pub begun : Begins (round_keys old.rounds.edition old.docs) n old.rounds new.rounds
   pub rest : MovesRounds old new
 
 -- no round begins, since one is open, or for want of memory
-abbrev pub RefusesRound : State → Fault → Type 0
+abbrev pub RefusesRound : HubState → Fault → Type 0
 RefusesRound s e = e ≢ OutOfMemory → (e ≡ RoundOpen) × (open_round s ≢ None)
 
 -- what is copied is of the first key that is left of the open round, and as it is kept where it is kept
-pub record IsNextCopy (s : State) (c : Copied) : Type 0 where
-  pub copied : (p : Past) → StandsFor s p → IfSome (open_round s) (λ r. IfSome (slice_get r.left 0) (λ k. IsCopied k c p))
+pub record IsNextCopy (s : HubState) (c : Copied) : Type 0 where
+  pub copied : (p : Past) → HubStandsFor s p → IfSome (open_round s) (λ r. IfSome (slice_get r.left 0) (λ k. IsCopied k c p))
   pub as_kept : IfSome (open_round s) (λ r. IfSome (slice_get r.left 0) (λ k. IsCopiedAsKept s.docs k c))
 
 -- the first key that is left is copied, and kept where it has a document
-pub record CopiesOne (old new : State) (c : Copied) : Type 0 where
+pub record CopiesOne (old new : HubState) (c : Copied) : Type 0 where
   pub copied : IsNextCopy old c
   pub marked : Advances (is_doc c) old.rounds new.rounds
   pub rest : MovesRounds old new
 
 -- a round is open, and no key of it is left
-pub record HasNoneLeft (s : State) : Type 0 where
+pub record HasNoneLeft (s : HubState) : Type 0 where
   pub left : IfSome (open_round s) (λ r. r.left ≡ [])
   pub there : open_round s ≢ None
 
 -- nothing is copied, since no round is open, or for want of memory
-abbrev pub RefusesCopy : State → Fault → Type 0
+abbrev pub RefusesCopy : HubState → Fault → Type 0
 RefusesCopy s e = e ≢ OutOfMemory → (e ≡ NoRound) × (open_round s ≡ None)
 
 -- the open round ends, with so many keys that had a document
-pub record EndsRound (old new : State) (n : ℕ) : Type 0 where
+pub record EndsRound (old new : HubState) (n : ℕ) : Type 0 where
   pub finished : Ends n old.rounds new.rounds
   pub rest : MovesRounds old new

@@ -2,7 +2,7 @@
 ghost use Rattle.std.specs.Prelude.{IfErr, OnErr, OnOk};
 ghost use Rattle.disco_core.specs.Past.{Past};
 ghost use Rattle.disco_hub.specs.Expiry.{Expires, cancelled};
-ghost use Rattle.disco_hub.specs.State.{State, rules_of};
+ghost use Rattle.disco_hub.specs.State.{HubState, rules_of};
 ghost use Rattle.disco_hub.specs.Cancelling.{Cancels, CancelsNone, NotesAsBefore, NotesOneMore};
 ghost use Rattle.disco_hub.specs.Transitions.{KeepsRest};
 
@@ -14,7 +14,7 @@ use disco_values::{Fault, Key};
 /// A hub, or what notes the changes of a hub, which cancels one instance at a time.
 pub trait Cancel {
     // Its hub.
-    ghost hub: { Self → State };
+    ghost hub: { Self → HubState };
 
     // What is noted of cancels that led from the first state to the second one, and from what had
     // happened to what has happened then.

@@ -3,7 +3,7 @@ ghost use Rattle.std.specs.Prelude.{◌≡◌, ◌<◌, IfErr, IfOk, OnErr, leng
 ghost use Rattle.disco_values.specs.declared.fault.Fault.TheVariants.{OutOfMemory};
 ghost use Rattle.disco_hub.specs.Expiry.{Expires};
 ghost use Rattle.disco_core.specs.Past.{Past, taken_in};
-ghost use Rattle.disco_hub.specs.State.{StandsFor};
+ghost use Rattle.disco_hub.specs.State.{HubStandsFor};
 ghost use Rattle.disco_hub.specs.Transitions.{KeepsRest};
 
 use crate::cancelling::cancel_all;
@@ -33,8 +33,8 @@ fn copies(alloc: Global, keys: &[&Key]) -> Result<Vec<Key>, AllocError>
 
 /// The keys that a run at a moment takes, of which the hub's leases are not the owner.
 pub(crate) fn taken(alloc: Global, hub: &Hub, now: u64) -> Result<Vec<Key>, Fault>
-    ensures keys { IfOk result (λ v. (p : Past) → StandsFor hub.now p → v.items ≡ taken_in p now) }
-    ensures refused { OnErr result ((p : Past) → StandsFor hub.now p → 0 < length (taken_in p now)) }
+    ensures keys { IfOk result (λ v. (p : Past) → HubStandsFor hub.now p → v.items ≡ taken_in p now) }
+    ensures refused { OnErr result ((p : Past) → HubStandsFor hub.now p → 0 < length (taken_in p now)) }
     ensures memory { IfErr result (λ e. e ≡ OutOfMemory) }
 {
     let due = hub.due(now)?;

@@ -1,23 +1,23 @@
 //! The hub: one state behind all documents, with the documents that are kept.
 ghost use Rattle.std.specs.Prelude.{◌≡◌, ◌≢◌, ◌<◌, [], IfErr, IfNone, IfOk, IfSome, OnErr, OnOk, Ok, None, Some, is_some, length, map, option_map, slice_get, true};
 ghost use Rattle.disco_values.specs.declared.fault.Fault.TheVariants.{NoRound, OutOfMemory};
-ghost use Rattle.disco_registry.specs.Accept.{Refuses, accepts};
+ghost use Rattle.disco_registry.specs.Accept.{MayRefuse, accepts};
 ghost use Rattle.disco_registry.specs.Commit.{Takes, changes_properly, done_by};
 ghost use Rattle.disco_registry.specs.Op.{Ask, ask_of};
 ghost use Rattle.disco_registry.specs.State as registry;
 ghost use Rattle.disco_query.specs.Query.{is_delta};
 ghost use Rattle.disco_core.specs.Past.{Past, history, taken_in, with_done};
 ghost use Rattle.disco_queue.specs.Queue.{AddsNoneEmpty};
-ghost use Rattle.disco_history.specs.Registry.{reg};
+ghost use Rattle.disco_history.specs.Registry.{registry_of};
 ghost use Rattle.std.specs.FinMap.{get};
 ghost use Rattle.disco_core.specs.Refusals.{doc_of_key};
-ghost use Rattle.disco_core.specs.State.{AddsNoPlaces, IsFor, IsReady, IsSweptAfter};
+ghost use Rattle.disco_core.specs.State.{AddsNoPlaces, IsFor, IsCoreReady, IsSweptAfter};
 ghost use Rattle.disco_hub.specs.Expiry.{Expires};
 ghost use Rattle.disco_hub.specs.Kept.{Forgets, IsCopiedAsKept};
 ghost use Rattle.disco_hub.specs.Transitions.{BeginsRound, Cleans, Closes, CopiesOne, Declines, EndsRound, HasNoneLeft, IsDocOf, IsDocOfId, IsNextCopy, KeepsRest, Loads, MovesRounds, RefusesCopy, RefusesRound, Withholds, WithholdsId, Writes};
 ghost use Rattle.disco_rounds.specs.Press.{put_copy};
 ghost use Rattle.disco_rounds.specs.Rounds.{Advances, StaysOpen};
-ghost use Rattle.disco_hub.specs.State.{IsCopied, IsEmptyHub, IsSameHub, StandsFor, open_round, rules_of, version_of};
+ghost use Rattle.disco_hub.specs.State.{IsCopied, IsEmptyHub, IsSameHub, HubStandsFor, open_round, rules_of, version_of};
 ghost use Rattle.disco_rounds.specs.Press.{is_doc};
 
 use crate::expiry::{Expired, expire, taken};
@@ -47,9 +47,9 @@ pub struct Hub {
 impl Model for Hub {
     ghost use Rattle.std.specs.Coded.{codes};
     ghost use Rattle.std.specs.FinMap.{code};
-    ghost use Rattle.disco_hub.specs.State.{State};
+    ghost use Rattle.disco_hub.specs.State.{HubState};
 
-    ghost Value = { State };
+    ghost Value = { HubState };
 
     ghost coded = { Prim.hlevel (codes, code) };
 
@@ -72,7 +72,7 @@ impl Hub {
     /// The number of this run of the server.
     pub fn run(&self) -> u64
         ensures run { result ≡ self.now.core.run }
-        ensures past { (p : Past) → StandsFor self.now p → result ≡ p.run }
+        ensures past { (p : Past) → HubStandsFor self.now p → result ≡ p.run }
     {
         self.core.run()
     }
@@ -89,10 +89,10 @@ impl Hub {
     /// lease stays that was not there.
     pub fn ready(&mut self, op: Op, now: u64) -> Result<Ready, Fault>
         ensures same { IsSameHub self.old self.new }
-        ensures ready { IfOk result (λ r. accepts self.old.core.registry (ask_of op) now ≡ Ok r.change × IsReady self.new.core r) }
+        ensures ready { IfOk result (λ r. accepts self.old.core.registry (ask_of op) now ≡ Ok r.change × IsCoreReady self.new.core r) }
         ensures moment { IfOk result (λ r. r.moment ≡ now) }
         ensures asked { IfOk result (λ r. IsFor self.new.core r (ask_of op)) }
-        ensures refused { IfErr result (Refuses self.old.core.registry (ask_of op) now) }
+        ensures refused { IfErr result (MayRefuse self.old.core.registry (ask_of op) now) }
         ensures given_back { OnErr result (AddsNoPlaces self.old.core self.new.core) }
     {
         self.core.ready(op, now)
@@ -102,14 +102,14 @@ impl Hub {
     /// places of vips, of the lease and of a recent change that the change leaves empty. Just the kept
     /// documents that the change names are dropped.
     pub fn commit(&mut self, ready: Ready) -> Applied
-        requires { IsReady self.old.core ready }
+        requires { IsCoreReady self.old.core ready }
         ensures change { done_by result ≡ ready.change }
         ensures proper { changes_properly result ≡ true }
         ensures takes { Takes self.old.core.registry ready.change self.new.core.registry }
         ensures swept { IsSweptAfter self.old.core.registry.held ready.change self.new.core.vips self.new.core.leases }
         ensures empty { AddsNoneEmpty self.old.core.queue self.new.core.queue }
-        ensures docs { (p : Past) → StandsFor self.old p → Forgets (get (reg (history p))) ready.change self.old.docs self.new.docs }
-        ensures history { (p : Past) (ask : Ask) → IsFor self.old.core ready ask → StandsFor self.old p → StandsFor self.new (with_done (rules_of self.old).queue p ready.moment ask (done_by result)) }
+        ensures docs { (p : Past) → HubStandsFor self.old p → Forgets (get (registry_of (history p))) ready.change self.old.docs self.new.docs }
+        ensures history { (p : Past) (ask : Ask) → IsFor self.old.core ready ask → HubStandsFor self.old p → HubStandsFor self.new (with_done (rules_of self.old).queue p ready.moment ask (done_by result)) }
         ensures rest { KeepsRest self.old self.new }
     {
         forget(&mut self.cache, &self.core, &ready);
@@ -150,18 +150,18 @@ impl Hub {
     /// came in the minute that was closed last. Refused only as `OutOfMemory`, and only where there
     /// is one.
     pub fn due(&self, now: u64) -> Result<Vec<&Key>, Fault>
-        ensures keys { IfOk result (λ found. (p : Past) → StandsFor self.now p → map (λ k. k.now) found.items ≡ taken_in p now) }
+        ensures keys { IfOk result (λ found. (p : Past) → HubStandsFor self.now p → map (λ k. k.now) found.items ≡ taken_in p now) }
         ensures memory { IfErr result (λ e. e ≡ OutOfMemory) }
-        ensures refused { OnErr result ((p : Past) → StandsFor self.now p → 0 < length (taken_in p now)) }
+        ensures refused { OnErr result ((p : Past) → HubStandsFor self.now p → 0 < length (taken_in p now)) }
     {
         self.core.due(now)
     }
 
     /// The keys that [`Hub::due`] gives, as keys of their own.
     pub fn taken(&self, now: u64) -> Result<Vec<Key>, Fault>
-        ensures keys { IfOk result (λ found. (p : Past) → StandsFor self.now p → found.items ≡ taken_in p now) }
+        ensures keys { IfOk result (λ found. (p : Past) → HubStandsFor self.now p → found.items ≡ taken_in p now) }
         ensures memory { IfErr result (λ e. e ≡ OutOfMemory) }
-        ensures refused { OnErr result ((p : Past) → StandsFor self.now p → 0 < length (taken_in p now)) }
+        ensures refused { OnErr result ((p : Past) → HubStandsFor self.now p → 0 < length (taken_in p now)) }
     {
         taken(self.alloc, self, now)
     }
@@ -248,7 +248,7 @@ impl Hub {
 
     /// What a copy of a key gives.
     fn copied(&self, key: &DocKey) -> Result<Copied, Fault>
-        ensures copied { IfOk result (λ c. (p : Past) → StandsFor self.now p → IsCopied key.now c p) }
+        ensures copied { IfOk result (λ c. (p : Past) → HubStandsFor self.now p → IsCopied key.now c p) }
         ensures as_kept { IfOk result (IsCopiedAsKept self.now.docs key.now) }
         ensures memory { IfErr result (λ e. e ≡ OutOfMemory) }
     {

@@ -2,7 +2,7 @@
 ghost use Rattle.std.specs.Prelude.{◌≡◌, Bool, None, true};
 ghost use Rattle.std.specs.FinMap.{get};
 ghost use Rattle.disco_instance.specs.Row.{row};
-ghost use Rattle.disco_history.specs.Change.{seen};
+ghost use Rattle.disco_history.specs.Change.{change_view};
 ghost use Rattle.disco_history.specs.Held.{record_at};
 ghost use Rattle.disco_query.specs.Query.{is_delta};
 ghost use Rattle.disco_hub.specs.Kept.{Forgets, KeepsAtMost};
@@ -18,7 +18,7 @@ use std::sync::Arc;
 
 /// The record of a change: the one that it puts, or the last one of what is gone.
 fn record(change: &Change) -> &Record
-    ensures { row result.now ≡ (seen change.now).0 }
+    ensures { row result.now ≡ (change_view change.now).0 }
 {
     match change {
         Change::Put { action: _, rec } => rec,

@@ -6,8 +6,8 @@ use Rattle.std.specs.Str.{bytes_eq}
 use Rattle.disco_values.specs.Key.{same_key}
 use Rattle.disco_values.specs.declared.key.Key.{Key}
 use Rattle.disco_history.specs.Slots.{written}
-use Rattle.disco_index.specs.Places.{Alters, opened, swept}
-use Rattle.disco_index.specs.Vips.{IsSameVips, KeepsPlaces, VipKeys, place_at}
+use Rattle.disco_index.specs.Places.{Alters, opened_vip, swept}
+use Rattle.disco_index.specs.Vips.{IsSameVips, KeepsVipPlaces, VipKeys, place_at}
 
 -- twice is as once
 abbrev pub IsIdempotent : (Option Bool → Option Bool) → Type 0
@@ -17,7 +17,7 @@ pub written-twice : (b : Bool) → IsIdempotent (written b)
 written-twice b None = refl
 written-twice b (Some x) = refl
 
-pub opened-twice : IsIdempotent opened
+pub opened-twice : IsIdempotent opened_vip
 opened-twice None = refl
 opened-twice (Some x) = refl
 
@@ -54,12 +54,12 @@ module _ (f : Option Bool → Option Bool) (twice : IsIdempotent f) where
 abbrev there : Option Bool → Bool
 there o = unwrap_or o false
 
-one_opened : (b : Bool) (o : Option Bool) → there (cond b (opened o) o) ≡ there o
+one_opened : (b : Bool) (o : Option Bool) → there (cond b (opened_vip o) o) ≡ there o
 one_opened true None = refl
 one_opened true (Some x) = refl
 one_opened false o = refl
 
-opened_stays : (b : Bool) (o : Option Bool) → IsSome o → IsSome (cond b (opened o) o)
+opened_stays : (b : Bool) (o : Option Bool) → IsSome o → IsSome (cond b (opened_vip o) o)
 opened_stays true o h = refl
 opened_stays false o h = h
 
@@ -88,16 +88,16 @@ first_among true b is = refl
 first_among false b is = absurd (cc)
 
 -- one more vip of these is opened
-pub others-step : (all : List (List ℕ)) (k : Key) (old : VipKeys) (vip : List ℕ) (before rest : List (List ℕ)) (here next : VipKeys) → before ≡ vip ∷ rest → IsAmong before all → Alters opened (vip ∷ []) k here next → OthersOf all k old here → OthersOf all k old next
+pub others-step : (all : List (List ℕ)) (k : Key) (old : VipKeys) (vip : List ℕ) (before rest : List (List ℕ)) (here next : VipKeys) → before ≡ vip ∷ rest → IsAmong before all → Alters opened_vip (vip ∷ []) k here next → OthersOf all k old here → OthersOf all k old next
 others-step all k old vip before rest here next is among one others = λ q p apart.
     let there = one_among (bytes_eq q vip) (list_any (bytes_eq q) all) (same_key p k) (λ h. among q (ap (list_any (bytes_eq q)) is ∙ first_among (bytes_eq q vip) (list_any (bytes_eq q) rest) h)) apart in
-    one q p ∙ ap (λ b. cond b (opened (place_at here q p)) (place_at here q p)) there ∙ others q p apart
+    one q p ∙ ap (λ b. cond b (opened_vip (place_at here q p)) (place_at here q p)) there ∙ others q p apart
 
 module _ (vs : List (List ℕ)) (k : Key) (old new : VipKeys) where
   -- shows nothing
-  pub opens_same : Alters opened vs k old new → IsSameVips old new
+  pub opens_same : Alters opened_vip vs k old new → IsSameVips old new
   opens_same h q p = ap there (h q p) ∙ one_opened (list_any (bytes_eq q) vs && same_key p k) (place_at old q p)
 
   -- and each place stays
-  pub opens_keeps : Alters opened vs k old new → KeepsPlaces old new
+  pub opens_keeps : Alters opened_vip vs k old new → KeepsVipPlaces old new
   opens_keeps h q p some = subst (λ (o : Option Bool). IsSome o) (sym (h q p)) (opened_stays (list_any (bytes_eq q) vs && same_key p k) (place_at old q p) some)

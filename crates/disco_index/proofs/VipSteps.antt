@@ -16,7 +16,7 @@ use Rattle.disco_values.specs.declared.key.Key.{Key}
 use Rattle.disco_history.proofs.Keys.{keys_total, exact_keys}
 use Rattle.disco_index.proofs.Stored.{entries_stored, itself, keys_by_test}
 use Rattle.disco_history.specs.Slots.{AltersAt, written}
-use Rattle.disco_index.specs.Places.{Alters, HasNoBareVip, IsBareOnly, keys_there, opened, seen_vips}
+use Rattle.disco_index.specs.Places.{Alters, HasNoBareVip, IsBareOnly, keys_there, opened_vip, seen_vips}
 use Rattle.disco_index.specs.Vips.{place_at, places_at, under}
 
 abbrev pub Places : Type 0
@@ -162,13 +162,13 @@ written_none there false o e = sym e
 pub written_empty : (there : Bool) (k : Key) (old new : Places) → AltersAt (written there) k old new → new ≡ empty → old ≡ empty
 written_empty there k old new h is = same_map keys_total exact_keys old empty (λ p. written_none there (same_key p k) (get old p) (sym (get-empty key_cmp p) ∙ ap (λ m. get m p) (sym is) ∙ h p) ∙ sym (get-empty key_cmp p))
 
-pub opened_there : (k : Key) (old new : Places) → AltersAt opened k old new → new ≡ empty → ⊥
+pub opened_there : (k : Key) (old new : Places) → AltersAt opened_vip k old new → new ≡ empty → ⊥
 opened_there k old new h is =
-    let bad : None ≡ opened (get old k) = sym (get-empty key_cmp k) ∙ ap (λ m. get m k) (sym is) ∙ h k ∙ ap (λ b. cond b (opened (get old k)) (get old k)) (itself k) in
+    let bad : None ≡ opened_vip (get old k) = sym (get-empty key_cmp k) ∙ ap (λ m. get m k) (sym is) ∙ h k ∙ ap (λ b. cond b (opened_vip (get old k)) (get old k)) (itself k) in
     cc
 
 -- a call that opens a place, or is refused and changes nothing
-pub opened_or_same : {T E : Type 0} (r : Result T E) (k : Key) (old new : Places) → OnOk r (AltersAt opened k old new) → OnErr r (new ≡ old) → (old ≡ empty → ⊥) → new ≡ empty → ⊥
+pub opened_or_same : {T E : Type 0} (r : Result T E) (k : Key) (old new : Places) → OnOk r (AltersAt opened_vip k old new) → OnErr r (new ≡ old) → (old ≡ empty → ⊥) → new ≡ empty → ⊥
 opened_or_same (Ok t) k old new ok err full is = opened_there k old new ok is
 opened_or_same (Err e) k old new ok err full is = full (sym err ∙ is)
 

@@ -26,8 +26,8 @@ abbrev pub keys_there : FinMap key_cmp Bool → List Key
 keys_there m = map (λ e. e.0) (filter (λ e. e.1) (entries m))
 
 -- a place that is there, empty where there was none
-abbrev pub opened : Option Bool → Option Bool
-opened place = slots.opened false place
+abbrev pub opened_vip : Option Bool → Option Bool
+opened_vip place = slots.opened false place
 
 -- no place where it stands empty
 abbrev pub swept : Option Bool → Option Bool

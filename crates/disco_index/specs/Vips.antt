@@ -47,12 +47,12 @@ abbrev pub IsSameVips : VipKeys → VipKeys → Type 0
 IsSameVips old new = (q : List ℕ) (k : Key) → has new q k ≡ has old q k
 
 -- each place stays
-abbrev pub KeepsPlaces : VipKeys → VipKeys → Type 0
-KeepsPlaces old new = (q : List ℕ) (k : Key) → IsSome (place_at old q k) → IsSome (place_at new q k)
+abbrev pub KeepsVipPlaces : VipKeys → VipKeys → Type 0
+KeepsVipPlaces old new = (q : List ℕ) (k : Key) → IsSome (place_at old q k) → IsSome (place_at new q k)
 
 -- each place but those of the row is as it was
-abbrev pub KeepsOthers : Row → VipKeys → VipKeys → Type 0
-KeepsOthers r old new = (q : List ℕ) (k : Key) → is_under r q k ≡ false → place_at new q k ≡ place_at old q k
+abbrev pub KeepsOtherVips : Row → VipKeys → VipKeys → Type 0
+KeepsOtherVips r old new = (q : List ℕ) (k : Key) → is_under r q k ≡ false → place_at new q k ≡ place_at old q k
 
 -- the row's instance has the row's vips too
 abbrev pub Adds : Row → VipKeys → VipKeys → Type 0

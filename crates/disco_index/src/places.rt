@@ -4,7 +4,7 @@ ghost use Rattle.std.specs.BTreeMap.{IsOrdered};
 ghost use Rattle.std.specs.FinMap.{empty};
 ghost use Rattle.disco_values.specs.Key.{key_cmp};
 ghost use Rattle.disco_history.specs.Slots.{AltersAt, written};
-ghost use Rattle.disco_index.specs.Places.{keys_there, opened, swept};
+ghost use Rattle.disco_index.specs.Places.{keys_there, opened_vip, swept};
 
 use disco_values::Key;
 use std::alloc::{AllocError, Global};
@@ -60,7 +60,7 @@ impl Places {
 
     /// Makes an empty place for a key, where there is none.
     pub(crate) fn open(&mut self, key: &Key) -> Result<(), AllocError>
-        ensures ok { OnOk result (AltersAt opened key.now self.old self.new) }
+        ensures ok { OnOk result (AltersAt opened_vip key.now self.old self.new) }
         ensures err { OnErr result (self.new ≡ self.old) }
     {
         if !self.places.contains_key(key) {

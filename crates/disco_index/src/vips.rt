@@ -12,8 +12,8 @@ ghost use Rattle.disco_values.specs.declared.fault.Fault.TheVariants.{OutOfMemor
 ghost use Rattle.disco_history.specs.Change.{Entry, key_of};
 ghost use Rattle.disco_history.specs.Query.{of_vip, restrict, vips};
 ghost use Rattle.disco_history.specs.Slots.{written};
-ghost use Rattle.disco_index.specs.Places.{Alters, HasNoBareVip, IsBareOnly, opened, seen_vips, swept};
-ghost use Rattle.disco_index.specs.Vips.{Adds, HasNoneEmpty, HasPlaces, IsIndexOf, IsSameVips, KeepsOthers, KeepsPlaces, Removes, under};
+ghost use Rattle.disco_index.specs.Places.{Alters, HasNoBareVip, IsBareOnly, opened_vip, seen_vips, swept};
+ghost use Rattle.disco_index.specs.Vips.{Adds, HasNoneEmpty, HasPlaces, IsIndexOf, IsSameVips, KeepsOtherVips, KeepsVipPlaces, Removes, under};
 
 use crate::address::next_vip;
 use crate::places::Places;
@@ -66,8 +66,8 @@ impl VipIndex {
     pub fn ready(&mut self, rec: &Record) -> Result<(), Fault>
         ensures same { IsSameVips self.old self.new }
         ensures ready { OnOk result (HasPlaces self.new (row rec.now)) }
-        ensures others { KeepsOthers (row rec.now) self.old self.new }
-        ensures places { KeepsPlaces self.old self.new }
+        ensures others { KeepsOtherVips (row rec.now) self.old self.new }
+        ensures places { KeepsVipPlaces self.old self.new }
         ensures memory { IfErr result (λ e. e ≡ OutOfMemory) }
     {
         let mut rest = rec.vip_address.as_str();
@@ -83,7 +83,7 @@ impl VipIndex {
         requires { HasPlaces self.old (row rec.now) }
         ensures vips { Adds (row rec.now) self.old self.new }
         ensures index { (m : FinMap key_cmp Entry) (e : Entry) → e.0 ≡ row rec.now → get m (key_of e) ≡ None → IsIndexOf self.old m → IsIndexOf self.new (insert m (key_of e) e) }
-        ensures places { KeepsPlaces self.old self.new }
+        ensures places { KeepsVipPlaces self.old self.new }
     {
         self.place(rec);
     }
@@ -93,7 +93,7 @@ impl VipIndex {
     pub fn take(&mut self, rec: &Record)
         ensures vips { Removes (row rec.now) self.old self.new }
         ensures index { (m : FinMap key_cmp Entry) (e : Entry) → e.0 ≡ row rec.now → get m (key_of e) ≡ Some e → IsIndexOf self.old m → IsIndexOf self.new (remove m (key_of e)) }
-        ensures places { KeepsPlaces self.old self.new }
+        ensures places { KeepsVipPlaces self.old self.new }
     {
         self.displace(rec);
     }
@@ -102,7 +102,7 @@ impl VipIndex {
     pub fn sweep(&mut self, rec: &Record)
         ensures same { IsSameVips self.old self.new }
         ensures swept { HasNoneEmpty self.new (row rec.now) }
-        ensures others { KeepsOthers (row rec.now) self.old self.new }
+        ensures others { KeepsOtherVips (row rec.now) self.old self.new }
     {
         let mut rest = rec.vip_address.as_str();
         while let Some((vip, after)) = next_vip(rest) {
@@ -124,14 +124,14 @@ impl VipIndex {
     fn place(&mut self, rec: &Record)
         requires { HasPlaces self.old (row rec.now) }
         ensures vips { Adds (row rec.now) self.old self.new }
-        ensures places { KeepsPlaces self.old self.new }
+        ensures places { KeepsVipPlaces self.old self.new }
     {
         self.write_all(rec, true);
     }
 
     fn displace(&mut self, rec: &Record)
         ensures vips { Removes (row rec.now) self.old self.new }
-        ensures places { KeepsPlaces self.old self.new }
+        ensures places { KeepsVipPlaces self.old self.new }
     {
         self.write_all(rec, false);
     }
@@ -167,7 +167,7 @@ impl VipIndex {
 
     /// Makes an empty place for a key under a vip, where there is none.
     fn open(&mut self, vip: &str, key: &Key) -> Result<(), AllocError>
-        ensures ok { OnOk result (Alters opened (vip.now ∷ []) key.now self.old self.new) }
+        ensures ok { OnOk result (Alters opened_vip (vip.now ∷ []) key.now self.old self.new) }
         ensures err { OnErr result (self.new ≡ self.old) }
     {
         if let Some(places) = self.vips.get_mut(vip) {

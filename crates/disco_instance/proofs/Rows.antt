@@ -9,7 +9,7 @@ use Rattle.disco_instance.specs.declared.record.Record.{Record}
 use Rattle.disco_instance.specs.Members.{text_or_empty}
 use Rattle.disco_instance.specs.Row.{row}
 use Rattle.disco_instance.specs.Instance.{Gives, row_at, if_ok, key_at, told_by}
-use Rattle.disco_instance.specs.Steps.{HasTexts, SaysRest, SaysTexts, with_texts}
+use Rattle.disco_instance.specs.Steps.{HasPagesAndAddresses, SaysRest, SaysTexts, with_texts}
 use Rattle.disco_instance.specs.Taking.{text_in}
 
 -- the text at a name among the members of a value
@@ -43,7 +43,7 @@ same_rows d r p a s t = λ i. record {
   status = s.status i;
 }
 
-has_them : (r : Record) (p : Pages) (a : Addresses) → HasTexts p a r → row r ≡ with_texts (row r) p a
+has_them : (r : Record) (p : Pages) (a : Addresses) → HasPagesAndAddresses p a r → row r ≡ with_texts (row r) p a
 has_them r p a h = λ i. record (row r) {
   health_check_url = h.health_check_url i;
   home_page_url = h.home_page_url i;
@@ -55,7 +55,7 @@ has_them r p a h = λ i. record (row r) {
 }
 
 pub told : (within : Option (List ℕ)) (d : Data) (p : Pages) (a : Addresses) (r : Result Record Fault)
-    → SaysBoth d p a → IfOk r (λ x. SaysRest d x) → IfOk r (λ x. HasTexts p a x) → Gives (λ x. x.key) r (key_at within d) → Gives row r (told_by within d)
+    → SaysBoth d p a → IfOk r (λ x. SaysRest d x) → IfOk r (λ x. HasPagesAndAddresses p a x) → Gives (λ x. x.key) r (key_at within d) → Gives row r (told_by within d)
 told within d p a (Ok r) t s h k = ap (λ o. if_ok o (λ q. Ok (row_at d q))) k ∙ ap Ok (sym (has_them r p a h ∙ same_rows d r p a s t))
 told within d p a (Err e) t s h k = λ other. ap (λ o. if_ok o (λ q. Ok (row_at d q))) (k other)
 

@@ -48,8 +48,8 @@ data_center_at d = let inner = inner_at (codes "dataCenterInfo") d in record {
   name = unwrap_or (text_at (codes "name") inner) (codes "MyOwn");
 }
 
-abbrev pub lease_at : Data → Lease
-lease_at d = record {
+abbrev pub lease_in : Data → Lease
+lease_in d = record {
   duration_secs = number_at (codes "durationInSecs") 1 2147483647 90 d;
   renewal_interval_secs = number_at (codes "renewalIntervalInSecs") 0 2147483647 30 d;
   eviction = number_at (codes "evictionTimestamp") 0 18446744073709551615 0 d;
@@ -72,7 +72,7 @@ row_at d k = record {
   is_coordinating = unwrap_or (flag_at (codes "isCoordinatingDiscoveryServer") d) false;
   last_dirty = number_at (codes "lastDirtyTimestamp") 0 18446744073709551615 0 d;
   last_updated = number_at (codes "lastUpdatedTimestamp") 0 18446744073709551615 0 d;
-  lease = lease_at (inner_at (codes "leaseInfo") d);
+  lease = lease_in (inner_at (codes "leaseInfo") d);
   metadata = entries_at (codes "metadata") d;
   overridden_status = override_at d;
   port = port_at (codes "port") 7001 true d;

@@ -11,7 +11,7 @@ use Rattle.disco_instance.specs.declared.parts.Pages.{Pages}
 use Rattle.disco_instance.specs.declared.record.Record.{Record}
 use Rattle.disco_instance.specs.Row.{Row}
 use Rattle.disco_values.specs.declared.status.Status.TheVariants.{Up}
-use Rattle.disco_instance.specs.Instance.{data_center_at, lease_at}
+use Rattle.disco_instance.specs.Instance.{data_center_at, lease_in}
 
 -- a lease that a record may have
 pub record IsRecordLease (l : Lease) : Type 0 where
@@ -26,7 +26,7 @@ pub record SaysRest (d : Data) (r : Record) : Type 0 where
   pub is_coordinating : r.is_coordinating ≡ unwrap_or (flag_at (codes "isCoordinatingDiscoveryServer") d) false
   pub last_dirty : r.last_dirty ≡ number_at (codes "lastDirtyTimestamp") 0 18446744073709551615 0 d
   pub last_updated : r.last_updated ≡ number_at (codes "lastUpdatedTimestamp") 0 18446744073709551615 0 d
-  pub lease : r.lease ≡ lease_at (inner_at (codes "leaseInfo") d)
+  pub lease : r.lease ≡ lease_in (inner_at (codes "leaseInfo") d)
   pub metadata : r.metadata ≡ entries_at (codes "metadata") d
   pub overridden_status : r.overridden_status ≡ override_at d
   pub port : r.port ≡ port_at (codes "port") 7001 true d
@@ -34,7 +34,7 @@ pub record SaysRest (d : Data) (r : Record) : Type 0 where
   pub status : r.status ≡ status_at (codes "status") Up d
 
 -- the record has these pages and addresses
-pub record HasTexts (p : Pages) (a : Addresses) (r : Record) : Type 0 where
+pub record HasPagesAndAddresses (p : Pages) (a : Addresses) (r : Record) : Type 0 where
   pub health_check_url : r.health_check_url ≡ p.health_check_url
   pub home_page_url : r.home_page_url ≡ p.home_page_url
   pub status_page_url : r.status_page_url ≡ p.status_page_url

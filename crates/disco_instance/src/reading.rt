@@ -2,8 +2,8 @@
 ghost use Rattle.std.specs.Prelude.{◌≡◌, ◌<◌, ◌^◌, codes, IfOk, None, option_map};
 ghost use Rattle.std.specs.Option.{option_copied};
 ghost use Rattle.serde_json.specs.View.{view};
-ghost use Rattle.disco_instance.specs.Instance.{Gives, action_at, data_center_at, id_at, key_at, lease_at, told_by};
-ghost use Rattle.disco_instance.specs.Steps.{HasTexts, IsRecordLease, SaysRest, with_texts};
+ghost use Rattle.disco_instance.specs.Instance.{Gives, action_at, data_center_at, id_at, key_at, lease_in, told_by};
+ghost use Rattle.disco_instance.specs.Steps.{HasPagesAndAddresses, IsRecordLease, SaysRest, with_texts};
 ghost use Rattle.disco_instance.specs.Members.{inner_at, number_at};
 ghost use Rattle.disco_instance.specs.Row.{row};
 
@@ -74,7 +74,7 @@ fn country_member(value: &Value) -> u32
 }
 
 fn lease_member(value: &Value) -> Lease
-    ensures value { result ≡ lease_at (inner_at (codes "leaseInfo") (view value.now)) }
+    ensures value { result ≡ lease_in (inner_at (codes "leaseInfo") (view value.now)) }
     ensures in_range { IsRecordLease result }
 {
     let nothing = Value::Null;
@@ -85,7 +85,7 @@ fn lease_member(value: &Value) -> Lease
 }
 
 fn lease_from_value(value: &Value) -> Lease
-    ensures value { result ≡ lease_at (view value.now) }
+    ensures value { result ≡ lease_in (view value.now) }
     ensures in_range { IsRecordLease result }
 {
     Lease {
@@ -120,7 +120,7 @@ fn read_record(
     addresses: Addresses,
 ) -> Result<Record, Fault>
     ensures table { IfOk result (λ r. SaysRest (view value.now) r) }
-    ensures texts { IfOk result (λ r. HasTexts pages addresses r) }
+    ensures texts { IfOk result (λ r. HasPagesAndAddresses pages addresses r) }
     ensures key { Gives (λ r. r.key) result (key_at (option_copied within.entry) (view value.now)) }
 {
     let key = key_from_value(alloc, value, within)?;

@@ -8,7 +8,7 @@ use Rattle.disco_values.specs.declared.fault.Fault.TheVariants.{MissingField}
 use Rattle.disco_cache.specs.declared.payload.Payload.{Payload}
 use Rattle.disco_rounds.specs.declared.copied.Copied.TheVariants as copied
 use Rattle.disco_values.specs.Status.{status_name}
-use Rattle.disco_world.specs.declared.holding.Holding.{Holding}
+use Rattle.disco_world.specs.declared.instance_summary.InstanceSummary.{InstanceSummary}
 use Rattle.disco_world.specs.declared.event.Reply.{Reply}
 use Rattle.disco_world.specs.declared.event.Reply.TheVariants.{Changed, Same, Doc, Cleaned, Closed, Expired, Begun, Copied, Done, Published, Missed, Taken, Certified, Held, Restarted, Refused}
 
@@ -41,8 +41,8 @@ copy_or_keep true = codes "copy"
 copy_or_keep false = codes "keep"
 
 -- ` APP/ID=STATUS`, each as it is
-abbrev pub holding_text : Holding → List ℕ
-holding_text h = codes " " ++ h.key.app ++ codes "/" ++ h.key.id ++ codes "=" ++ status_name h.status
+abbrev pub summary_text : InstanceSummary → List ℕ
+summary_text h = codes " " ++ h.key.app ++ codes "/" ++ h.key.id ++ codes "=" ++ status_name h.status
 
 -- ` fault N`, where a run stopped
 abbrev pub stop_text : Option Fault → List ℕ
@@ -64,7 +64,7 @@ answer_line (Published documents) = codes "published " ++ decimal documents ++ c
 answer_line Missed = codes "miss\n"
 answer_line (Taken equal version) = codes "copy " ++ yes_or_no equal ++ codes " " ++ version_or_dash version ++ codes "\n"
 answer_line (Certified taken run version) = copy_or_keep taken ++ codes " " ++ decimal run ++ codes " " ++ decimal version ++ codes "\n"
-answer_line (Held holdings) = codes "held " ++ decimal (length holdings) ++ flat_map holding_text holdings ++ codes "\n"
+answer_line (Held listed) = codes "held " ++ decimal (length listed) ++ flat_map summary_text listed ++ codes "\n"
 answer_line (Restarted run) = codes "run " ++ decimal run ++ codes "\n"
 answer_line (Refused fault) = refusal_line fault
 

@@ -9,7 +9,7 @@ use Rattle.disco_world.specs.declared.event.Event.{Event}
 use Rattle.disco_world.specs.declared.event.Event.TheVariants as event
 use Rattle.disco_world.specs.declared.event.Step.{Step}
 use Rattle.disco_world.specs.declared.event.Step.TheVariants.{Register, Cancel, Renew, SetStatus, DropStatus, Metadata, Clean, Minute, Expire, Begin, Copy, Publish, Show, ShowCertified, Restart}
-use Rattle.disco_lines.specs.Loads.{load_of, look_for, wanted}
+use Rattle.disco_lines.specs.Loads.{load_of, look_for, target}
 use Rattle.disco_operations.specs.Query.{entries_of_query}
 use Rattle.disco_lines.specs.Words.{words, joined, only, only_text, only_moment, moment_of_word, client_of_word}
 use Rattle.disco_operations.specs.Decoding.{decoded_text}
@@ -83,8 +83,8 @@ step_named keyword more =
     else (if bytes_eq keyword (codes "begin") then alone Begin more
     else (if bytes_eq keyword (codes "copy") then alone Copy more
     else (if bytes_eq keyword (codes "publish") then alone Publish more
-    else (if bytes_eq keyword (codes "load") then option_map load_of (wanted more)
-    else (if bytes_eq keyword (codes "look") then option_map look_for (wanted more)
+    else (if bytes_eq keyword (codes "load") then option_map load_of (target more)
+    else (if bytes_eq keyword (codes "look") then option_map look_for (target more)
     else (if bytes_eq keyword (codes "show") then showing more
     else (if bytes_eq keyword (codes "certshow") then certified_showing more
     else (if bytes_eq keyword (codes "restart") then restarting more else step_of_instance keyword more)))))))))))

@@ -3,7 +3,7 @@ ghost use Rattle.std.specs.Prelude.{◌≡◌, ◌⊎◌, ◌++◌, [], IfErr, O
 ghost use Rattle.disco_values.specs.declared.fault.Fault.TheVariants.{OutOfMemory, WriteFailed};
 ghost use Rattle.std.specs.Io.KnownBytes.{Appends, append_known};
 ghost use Rattle.disco_reader.specs.Causes.{Cause, Raises};
-ghost use Rattle.disco_lines.specs.Answers.{answer_line, answer_lines, copy_or_keep, document_front, document_line, holding_text, refusal_line, yes_or_no};
+ghost use Rattle.disco_lines.specs.Answers.{answer_line, answer_lines, copy_or_keep, document_front, document_line, summary_text, refusal_line, yes_or_no};
 ghost use Rattle.std.specs.List.{flat_map};
 ghost use Rattle.disco_world.specs.declared.event.Reply.TheVariants as reply;
 ghost use Rattle.disco_world.specs.declared.event.Reply.TheVariants.{Taken, Certified, Held};
@@ -14,7 +14,7 @@ use disco_lease::Minute;
 use disco_rounds::Copied;
 use disco_streams::{Failed, Sink, write_all};
 use disco_values::Fault;
-use disco_world::{Holding, Reply};
+use disco_world::{InstanceSummary, Reply};
 use std::alloc::Global;
 use std::io;
 use std::io::Write;
@@ -109,29 +109,29 @@ fn write_copied<W: Write>(copied: &Copied, out: &mut W) -> io::Result<()>
     }
 }
 
-fn write_holding<W: Write>(holding: &Holding, out: &mut W) -> io::Result<()>
-    ensures { OnOk result (Appends (W.contents out.old) (W.contents out.new) (holding_text holding.now)) }
+fn write_summary<W: Write>(summary: &InstanceSummary, out: &mut W) -> io::Result<()>
+    ensures { OnOk result (Appends (W.contents out.old) (W.contents out.new) (summary_text summary.now)) }
 {
-    let (app, id) = (holding.key.app.as_str(), holding.key.id.as_str());
-    let status = holding.status.name();
+    let (app, id) = (summary.key.app.as_str(), summary.key.id.as_str());
+    let status = summary.status.name();
     write!(out, " {app}/{id}={status}")
 }
 
-fn write_holdings<W: Write>(holdings: &[Holding], out: &mut W) -> io::Result<()>
-    ensures { OnOk result (Appends (W.contents out.old) (W.contents out.new) (flat_map holding_text holdings.now)) }
+fn write_summaries<W: Write>(listed: &[InstanceSummary], out: &mut W) -> io::Result<()>
+    ensures { OnOk result (Appends (W.contents out.old) (W.contents out.new) (flat_map summary_text listed.now)) }
 {
-    for holding in holdings {
-        write_holding(holding, out)?;
+    for summary in listed {
+        write_summary(summary, out)?;
     }
     Ok(())
 }
 
-fn write_held<W: Write>(holdings: &[Holding], out: &mut W) -> io::Result<()>
-    ensures { OnOk result (Appends (W.contents out.old) (W.contents out.new) (answer_line (Held holdings.now))) }
+fn write_held<W: Write>(listed: &[InstanceSummary], out: &mut W) -> io::Result<()>
+    ensures { OnOk result (Appends (W.contents out.old) (W.contents out.new) (answer_line (Held listed.now))) }
 {
-    let count = holdings.len();
+    let count = listed.len();
     write!(out, "held {count}")?;
-    write_holdings(holdings, out)?;
+    write_summaries(listed, out)?;
     out.write_all(b"\n")
 }
 
@@ -159,17 +159,17 @@ fn write_answer<W: Write>(reply: &Reply, out: &mut W) -> io::Result<()>
             run,
             version,
         } => write_certified(*taken, *run, *version, out),
-        Reply::Held(holdings) => write_held(holdings.as_slice(), out),
+        Reply::Held(listed) => write_held(listed.as_slice(), out),
         Reply::Restarted(run) => writeln!(out, "run {run}"),
         Reply::Refused(fault) => write_refusal(fault, out),
     }
 }
 
 /// How many bytes are gathered for one write, at least.
-const ENOUGH: usize = 65_536;
+const FLUSH_AT: usize = 65_536;
 
 /// How many bytes can be gathered without more memory: less than enough, and one short line more.
-pub(crate) const ROOM: usize = 2 * ENOUGH + 64;
+pub(crate) const ROOM: usize = 2 * FLUSH_AT + 64;
 
 /// Writes bytes.
 fn write_bytes<W: Sink>(bytes: &[u8], out: &mut W) -> Result<(), Fault>
@@ -185,52 +185,52 @@ fn write_bytes<W: Sink>(bytes: &[u8], out: &mut W) -> Result<(), Fault>
 }
 
 /// Writes what is gathered, and takes it out.
-pub(crate) fn write_gathered<W: Sink>(gathered: &mut Vec<u8>, out: &mut W) -> Result<(), Fault>
-    ensures empty { OnOk result (gathered.new.items ≡ []) }
-    ensures written { OnOk result (Appends (W.contents out.old) (W.contents out.new) gathered.old.items) }
+pub(crate) fn write_buffered<W: Sink>(buffered: &mut Vec<u8>, out: &mut W) -> Result<(), Fault>
+    ensures empty { OnOk result (buffered.new.items ≡ []) }
+    ensures written { OnOk result (Appends (W.contents out.old) (W.contents out.new) buffered.old.items) }
     ensures fault { IfErr result (λ e. e ≡ WriteFailed) }
     ensures cause { OnErr result (Raises (W.failed out.old) (W.failed out.new)) }
     ensures none_failed { OnOk result (W.failed out.new ≡ W.failed out.old) }
 {
-    write_bytes(gathered.as_slice(), out)?;
-    gathered.clear();
+    write_bytes(buffered.as_slice(), out)?;
+    buffered.clear();
     Ok(())
 }
 
 /// Gathers an answer line.
-fn gather(reply: &Reply, gathered: &mut Vec<u8>) -> Result<(), Fault>
-    ensures line { OnOk result (gathered.new.items ≡ gathered.old.items ++ answer_line reply.now) }
+fn gather(reply: &Reply, buffered: &mut Vec<u8>) -> Result<(), Fault>
+    ensures line { OnOk result (buffered.new.items ≡ buffered.old.items ++ answer_line reply.now) }
     ensures memory { IfErr result (λ e. e ≡ OutOfMemory) }
 {
-    match write_answer(reply, gathered) {
+    match write_answer(reply, buffered) {
         Ok(()) => Ok(()),
         Err(_) => Err(Fault::OutOfMemory),
     }
 }
 
 /// Gathers what stands in front of a document's text.
-fn gather_front(payload: &Payload, gathered: &mut Vec<u8>) -> Result<(), Fault>
-    ensures front { OnOk result (gathered.new.items ≡ gathered.old.items ++ document_front payload.now) }
+fn gather_front(payload: &Payload, buffered: &mut Vec<u8>) -> Result<(), Fault>
+    ensures front { OnOk result (buffered.new.items ≡ buffered.old.items ++ document_front payload.now) }
     ensures memory { IfErr result (λ e. e ≡ OutOfMemory) }
 {
-    match write_front(payload, gathered) {
+    match write_front(payload, buffered) {
         Ok(()) => Ok(()),
         Err(_) => Err(Fault::OutOfMemory),
     }
 }
 
 /// Writes a document as it lies, behind what is gathered, and gathers the end of its line.
-fn write_long<W: Sink>(payload: &Payload, gathered: &mut Vec<u8>, out: &mut W) -> Result<(), Fault>
-    ensures told { OnOk result (Appends (append_known (W.contents out.old) gathered.old.items)
-        (append_known (W.contents out.new) gathered.new.items) (document_line payload.now)) }
+fn write_long<W: Sink>(payload: &Payload, buffered: &mut Vec<u8>, out: &mut W) -> Result<(), Fault>
+    ensures told { OnOk result (Appends (append_known (W.contents out.old) buffered.old.items)
+        (append_known (W.contents out.new) buffered.new.items) (document_line payload.now)) }
     ensures fault { IfErr result (λ e. (e ≡ WriteFailed) ⊎ (e ≡ OutOfMemory)) }
     ensures cause { Cause WriteFailed (W.failed out.old) (W.failed out.new) result }
     ensures none_failed { OnOk result (W.failed out.new ≡ W.failed out.old) }
 {
-    gather_front(payload, gathered)?;
-    write_gathered(gathered, out)?;
+    gather_front(payload, buffered)?;
+    write_buffered(buffered, out)?;
     write_bytes(payload.text.as_slice(), out)?;
-    gathered.push(b'\n')?;
+    buffered.push(b'\n')?;
     Ok(())
 }
 
@@ -238,25 +238,25 @@ fn write_long<W: Sink>(payload: &Payload, gathered: &mut Vec<u8>, out: &mut W) -
 /// enough by itself is written as it lies, behind what is gathered.
 pub(crate) fn gather_answer<W: Sink>(
     reply: &Reply,
-    gathered: &mut Vec<u8>,
+    buffered: &mut Vec<u8>,
     out: &mut W,
 ) -> Result<(), Fault>
-    ensures told { OnOk result (Appends (append_known (W.contents out.old) gathered.old.items)
-        (append_known (W.contents out.new) gathered.new.items) (answer_line reply.now)) }
+    ensures told { OnOk result (Appends (append_known (W.contents out.old) buffered.old.items)
+        (append_known (W.contents out.new) buffered.new.items) (answer_line reply.now)) }
     ensures fault { IfErr result (λ e. (e ≡ WriteFailed) ⊎ (e ≡ OutOfMemory)) }
     ensures cause { Cause WriteFailed (W.failed out.old) (W.failed out.new) result }
     ensures none_failed { OnOk result (W.failed out.new ≡ W.failed out.old) }
 {
     if let Reply::Doc(payload) = reply
-        && payload.text.as_slice().len() >= ENOUGH
+        && payload.text.as_slice().len() >= FLUSH_AT
     {
-        return write_long(payload, gathered, out);
+        return write_long(payload, buffered, out);
     }
-    gather(reply, gathered)?;
-    if gathered.len() < ENOUGH {
+    gather(reply, buffered)?;
+    if buffered.len() < FLUSH_AT {
         return Ok(());
     }
-    write_gathered(gathered, out)
+    write_buffered(buffered, out)
 }
 
 /// Writes one line for each reply, in order. Refused as `WriteFailed` where a write fails, with
@@ -268,9 +268,9 @@ pub fn write_answers<W: Sink>(alloc: Global, replies: &[Reply], out: &mut W) -> 
     ensures cause { Cause WriteFailed (W.failed out.old) (W.failed out.new) result }
     ensures none_failed { OnOk result (W.failed out.new ≡ W.failed out.old) }
 {
-    let mut gathered = Vec::with_capacity(alloc, ROOM)?;
+    let mut buffered = Vec::with_capacity(alloc, ROOM)?;
     for reply in replies {
-        gather_answer(reply, &mut gathered, out)?;
+        gather_answer(reply, &mut buffered, out)?;
     }
-    write_gathered(&mut gathered, out)
+    write_buffered(&mut buffered, out)
 }

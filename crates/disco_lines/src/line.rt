@@ -4,7 +4,7 @@ ghost use Rattle.disco_values.specs.declared.fault.Fault.TheVariants.{OutOfMemor
 ghost use Rattle.disco_lines.specs.Lines.{alone, certifying, client_and_event, event_named, event_of, metadata_change, only_client, override_removal, registration, step_at, step_named, step_of_instance, taking};
 ghost use Rattle.disco_lines.specs.Words.{client_of_word, moment_of_word, only_moment, only_text};
 
-use crate::load::{load_of, look_for, wanted_of};
+use crate::load::{load_of, look_for, target_of};
 use crate::words::Words;
 use disco_digits::number_of_digits;
 use disco_operations::{decoded, decoded_text, entries_of_query};
@@ -72,8 +72,8 @@ fn step_named(alloc: Global, keyword: &str, words: Words) -> Result<Option<Step>
         "begin" => Ok(alone(Step::Begin, &words)),
         "copy" => Ok(alone(Step::Copy, &words)),
         "publish" => Ok(alone(Step::Publish, &words)),
-        "load" => Ok(wanted_of(alloc, words)?.map(load_of)),
-        "look" => Ok(wanted_of(alloc, words)?.map(look_for)),
+        "load" => Ok(target_of(alloc, words)?.map(load_of)),
+        "look" => Ok(target_of(alloc, words)?.map(look_for)),
         "show" => Ok(only_client(alloc, words)?.map(|client| Step::Show { client })),
         "certshow" => Ok(only_client(alloc, words)?.map(|client| Step::ShowCertified { client })),
         "restart" => Ok(only_moment(alloc, words)?.map(|run| Step::Restart { run })),

@@ -1,7 +1,7 @@
 //! What the words behind `load` and `look` ask for.
 ghost use Rattle.std.specs.Prelude.{◌≡◌, IfOk, IfErr, option_and_then};
 ghost use Rattle.disco_values.specs.declared.fault.Fault.TheVariants.{OutOfMemory};
-ghost use Rattle.disco_lines.specs.Loads.{form_named, instance, load_of, look_for, named, wanted, wanted_by, wanted_of_kind, whole};
+ghost use Rattle.disco_lines.specs.Loads.{form_named, one_target, load_of, look_for, named, target, target_by, target_of_kind, whole_target};
 ghost use Rattle.disco_operations.specs.Decoding.{decoded_text};
 
 use crate::words::Words;
@@ -13,7 +13,7 @@ use std::alloc::Global;
 
 /// The document that a reader asks for.
 #[derive(Drop)]
-pub(crate) enum Wanted {
+pub(crate) enum Target {
     /// The one of a query, in a form.
     ByKey(DocKey),
     /// The one of the instance of an id, in a form.
@@ -40,53 +40,53 @@ fn form_of_word(alloc: Global, word: &[u8]) -> Result<Option<Form>, Fault>
     }
 }
 
-fn wanted_by(form: Form, query: Query) -> Wanted
-    ensures { result ≡ wanted_by form query }
+fn target_by(form: Form, query: Query) -> Target
+    ensures { result ≡ target_by form query }
 {
-    Wanted::ByKey(DocKey { query, form })
+    Target::ByKey(DocKey { query, form })
 }
 
 /// What is asked for by a form and a kind of query that nothing stands behind.
-fn whole(form: Form, kind: &str) -> Option<Wanted>
-    ensures { result ≡ whole form kind.now }
+fn whole(form: Form, kind: &str) -> Option<Target>
+    ensures { result ≡ whole_target form kind.now }
 {
     match kind {
-        "apps" => Some(wanted_by(form, Query::Apps)),
-        "delta" => Some(wanted_by(form, Query::Delta)),
+        "apps" => Some(target_by(form, Query::Apps)),
+        "delta" => Some(target_by(form, Query::Delta)),
         _ => None,
     }
 }
 
 /// What is asked for by a form, a kind of query and a text.
-fn named(form: Form, kind: &str, text: Text) -> Option<Wanted>
+fn named(form: Form, kind: &str, text: Text) -> Option<Target>
     ensures { result ≡ named form kind.now text }
 {
     match kind {
-        "app" => Some(wanted_by(form, Query::App(text))),
-        "vip" => Some(wanted_by(form, Query::Vip(text))),
-        "svip" => Some(wanted_by(form, Query::Svip(text))),
-        "id" => Some(Wanted::ById(text, form)),
+        "app" => Some(target_by(form, Query::App(text))),
+        "vip" => Some(target_by(form, Query::Vip(text))),
+        "svip" => Some(target_by(form, Query::Svip(text))),
+        "id" => Some(Target::ById(text, form)),
         _ => None,
     }
 }
 
-fn instance(form: Form, kind: &str, app: Text, id: Text) -> Option<Wanted>
-    ensures { result ≡ instance form kind.now app id }
+fn instance(form: Form, kind: &str, app: Text, id: Text) -> Option<Target>
+    ensures { result ≡ one_target form kind.now app id }
 {
     match kind {
-        "one" => Some(wanted_by(form, Query::Instance(Key { app, id }))),
+        "one" => Some(target_by(form, Query::Instance(Key { app, id }))),
         _ => None,
     }
 }
 
 /// What is asked for by a form, a kind of query and the words behind it.
-fn wanted_of_kind(
+fn target_of_kind(
     alloc: Global,
     form: Form,
     kind: &str,
     words: Words,
-) -> Result<Option<Wanted>, Fault>
-    ensures value { IfOk result (λ found. found ≡ wanted_of_kind form kind.now words.entry) }
+) -> Result<Option<Target>, Fault>
+    ensures value { IfOk result (λ found. found ≡ target_of_kind form kind.now words.entry) }
     ensures memory { IfErr result (λ e. e ≡ OutOfMemory) }
 {
     let Some((first, words)) = words.split() else {
@@ -109,8 +109,8 @@ fn wanted_of_kind(
 }
 
 /// What the words behind `load` or `look` ask for, `None` where they ask for nothing.
-pub(crate) fn wanted_of(alloc: Global, words: Words) -> Result<Option<Wanted>, Fault>
-    ensures value { IfOk result (λ found. found ≡ wanted words.entry) }
+pub(crate) fn target_of(alloc: Global, words: Words) -> Result<Option<Target>, Fault>
+    ensures value { IfOk result (λ found. found ≡ target words.entry) }
     ensures memory { IfErr result (λ e. e ≡ OutOfMemory) }
 {
     let Some((form, words)) = words.split() else {
@@ -123,27 +123,27 @@ pub(crate) fn wanted_of(alloc: Global, words: Words) -> Result<Option<Wanted>, F
         return Ok(None);
     };
     match decoded(alloc, kind)? {
-        Some(kind) => wanted_of_kind(alloc, form, kind.as_str(), words),
+        Some(kind) => target_of_kind(alloc, form, kind.as_str(), words),
         None => Ok(None),
     }
 }
 
 /// The load of what is asked for.
-pub(crate) fn load_of(wanted: Wanted) -> Step
-    ensures { result ≡ load_of wanted }
+pub(crate) fn load_of(target: Target) -> Step
+    ensures { result ≡ load_of target }
 {
-    match wanted {
-        Wanted::ByKey(key) => Step::Load { key },
-        Wanted::ById(id, form) => Step::LoadById { id, form },
+    match target {
+        Target::ByKey(key) => Step::Load { key },
+        Target::ById(id, form) => Step::LoadById { id, form },
     }
 }
 
 /// The look for what is asked for.
-pub(crate) fn look_for(wanted: Wanted) -> Step
-    ensures { result ≡ look_for wanted }
+pub(crate) fn look_for(target: Target) -> Step
+    ensures { result ≡ look_for target }
 {
-    match wanted {
-        Wanted::ByKey(key) => Step::Look { key },
-        Wanted::ById(id, form) => Step::LookById { id, form },
+    match target {
+        Target::ByKey(key) => Step::Look { key },
+        Target::ById(id, form) => Step::LookById { id, form },
     }
 }

@@ -7,7 +7,7 @@ ghost use Rattle.disco_lines.specs.Answers.{answer_line};
 ghost use Rattle.disco_reader.specs.Causes.{Cause, Raises};
 ghost use Rattle.disco_world.specs.Telling.{AreTold};
 
-use crate::answers::{ROOM, gather_answer, write_gathered};
+use crate::answers::{ROOM, gather_answer, write_buffered};
 use disco_settings::Settings;
 use disco_streams::Sink;
 use disco_values::Fault;
@@ -16,9 +16,9 @@ use std::alloc::Global;
 
 /// Answer lines that are gathered, and written where there are enough.
 #[derive(Drop)]
-struct Gathered(Vec<u8>);
+struct LineBuffer(Vec<u8>);
 
-impl<W: Sink> Tell<W> for Gathered {
+impl<W: Sink> Tell<W> for LineBuffer {
     ghost told = { λ s out. append_known (W.contents out) s.0.items };
 
     ghost text = { answer_line };
@@ -50,9 +50,9 @@ fn run_and_write<W: Sink>(
 ) -> Result<(), Fault>
     ensures { OnOk result (AreTold settings.now.entries (rules settings.now) settings.now.run steps.entry.events.now answer_line (W.contents out.old) (W.contents out.new)) }
 {
-    let mut gathered = Gathered(Vec::with_capacity(alloc, ROOM)?);
-    run_to(alloc, settings, steps, &mut gathered, out)?;
-    write_gathered(&mut gathered.0, out)
+    let mut buffered = LineBuffer(Vec::with_capacity(alloc, ROOM)?);
+    run_to(alloc, settings, steps, &mut buffered, out)?;
+    write_buffered(&mut buffered.0, out)
 }
 
 /// Runs the events in order from an empty registry, and writes one line for each reply as it comes.

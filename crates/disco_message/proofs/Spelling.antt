@@ -12,7 +12,7 @@ use Rattle.disco_digits.specs.Digits.{digits, digits_number}
 use Rattle.disco_digits.proofs.Parsed.{digits_again}
 use Rattle.disco_digits.proofs.Printed.{length-digits-step}
 use Rattle.disco_values.specs.declared.cert.Cert.{Cert}
-use Rattle.disco_message.specs.Certificate.{behind, cert_by, cert_spelled, is_space}
+use Rattle.disco_message.specs.Certificate.{behind_space, cert_by, cert_spelled, is_blank}
 use Rattle.disco_message.specs.Laws.{IsInRange}
 use Rattle.disco_message.specs.ReplyText.{number_text}
 
@@ -60,7 +60,7 @@ number_some n = by (n == 0) refl
 
 -- ---- parts
 
-no_space : (b : ℕ) → is_ascii_digit b ≡ true → is_space b ≡ false
+no_space : (b : ℕ) → is_ascii_digit b ≡ true → is_blank b ≡ false
 no_space b e = grind (arith, nat_tests, e)
 
 pub first_digit : (b : ℕ) (bs : List ℕ) → list_all is_ascii_digit (b ∷ bs) ≡ true → is_ascii_digit b ≡ true
@@ -81,17 +81,17 @@ drop_one n b bs = simp unary_clauses refl
 drop_more : (n b : ℕ) (bs : List ℕ) → drop (1 + n + 1) (b ∷ bs) ≡ drop (n + 1) bs
 drop_more n b bs = drop_one (1 + n) b bs ∙ ap (λ k. drop k bs) (omega arith)
 
-before_more : (b : ℕ) (bs : List ℕ) → is_space b ≡ false → before_first is_space (b ∷ bs) ≡ b ∷ before_first is_space bs
+before_more : (b : ℕ) (bs : List ℕ) → is_blank b ≡ false → before_first is_blank (b ∷ bs) ≡ b ∷ before_first is_blank bs
 before_more b bs e = rw e (take_more _ b bs)
 
-after_more : (b : ℕ) (bs : List ℕ) → is_space b ≡ false → after_first is_space (b ∷ bs) ≡ after_first is_space bs
+after_more : (b : ℕ) (bs : List ℕ) → is_blank b ≡ false → after_first is_blank (b ∷ bs) ≡ after_first is_blank bs
 after_more b bs e = rw e (drop_more _ b bs)
 
-before_space : (ds rest : List ℕ) → list_all is_ascii_digit ds ≡ true → before_first is_space (ds ++ 32 ∷ rest) ≡ ds
+before_space : (ds rest : List ℕ) → list_all is_ascii_digit ds ≡ true → before_first is_blank (ds ++ 32 ∷ rest) ≡ ds
 before_space [] rest all = refl
 before_space (d ∷ ds) rest all = before_more d (ds ++ 32 ∷ rest) (no_space d (first_digit d ds all)) ∙ ap (λ xs. d ∷ xs) (before_space ds rest (more_digits d ds all))
 
-after_space : (ds rest : List ℕ) → list_all is_ascii_digit ds ≡ true → after_first is_space (ds ++ 32 ∷ rest) ≡ rest
+after_space : (ds rest : List ℕ) → list_all is_ascii_digit ds ≡ true → after_first is_blank (ds ++ 32 ∷ rest) ≡ rest
 after_space [] rest all = refl
 after_space (d ∷ ds) rest all = after_more d (ds ++ 32 ∷ rest) (no_space d (first_digit d ds all)) ∙ after_space ds rest (more_digits d ds all)
 
@@ -104,7 +104,7 @@ spelled_parts : (r b v : List ℕ) → list_all is_ascii_digit r ≡ true → li
     → cert_spelled (r ++ 32 ∷ (b ++ 32 ∷ v)) ≡ cert_by (digits_number r) (digits_number b) (digits_number v)
 spelled_parts r b v rs bs =
     let rest = b ++ 32 ∷ v in
-    let at : behind (r ++ 32 ∷ rest) ≡ rest = after_space r rest rs in
+    let at : behind_space (r ++ 32 ∷ rest) ≡ rest = after_space r rest rs in
     rw (before_space r rest rs, at, before_space b v bs, after_space b v bs) refl
 
 pub spelled_again : (c : Cert) → IsInRange c → cert_spelled (cert_text c) ≡ Some c

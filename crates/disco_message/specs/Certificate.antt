@@ -5,12 +5,12 @@ use Rattle.disco_digits.specs.Digits.{digits_number}
 use Rattle.disco_values.specs.declared.cert.Cert.{Cert}
 use Rattle.disco_message.specs.Fields.{values}
 
-abbrev pub is_space : ℕ → Bool
-is_space b = b == 32
+abbrev pub is_blank : ℕ → Bool
+is_blank b = b == 32
 
 -- what stands behind the first space
-abbrev pub behind : List ℕ → List ℕ
-behind text = after_first is_space text
+abbrev pub behind_space : List ℕ → List ℕ
+behind_space text = after_first is_blank text
 
 -- a run, a base and a version, where all three are there
 abbrev pub cert_by : Option ℕ → Option ℕ → Option ℕ → Option Cert
@@ -19,7 +19,7 @@ cert_by _ _ _ = None
 
 -- the certificate that a text spells: three numbers in digits, with one space between them
 abbrev pub cert_spelled : List ℕ → Option Cert
-cert_spelled text = cert_by (digits_number (before_first is_space text)) (digits_number (before_first is_space (behind text))) (digits_number (behind (behind text)))
+cert_spelled text = cert_by (digits_number (before_first is_blank text)) (digits_number (before_first is_blank (behind_space text))) (digits_number (behind_space (behind_space text)))
 
 -- that of the one value that is there; none where there are more
 abbrev pub only_cert : List (List ℕ) → Option Cert

@@ -1,7 +1,7 @@
 //! The certificate of a received document.
 ghost use Rattle.std.specs.Prelude.{◌≡◌, List, ℕ};
 ghost use Rattle.std.specs.List.{after_first, before_first, position};
-ghost use Rattle.disco_message.specs.Certificate.{behind, cert_spelled, is_space, only_cert};
+ghost use Rattle.disco_message.specs.Certificate.{behind_space, cert_spelled, is_blank, only_cert};
 ghost use Rattle.disco_message.specs.Few.{FewAre};
 
 use crate::fields::Few;
@@ -9,15 +9,15 @@ use crate::framing::number;
 use disco_values::Cert;
 
 fn first_space(text: &[u8]) -> Option<usize>
-    ensures { result ≡ position is_space text.now }
+    ensures { result ≡ position is_blank text.now }
 {
     text.iter().position(|b| *b == b' ')
 }
 
 /// What stands before the first space and behind it.
 fn split(text: &[u8]) -> (&[u8], &[u8])
-    ensures front { result.0.now ≡ before_first is_space text.now }
-    ensures behind { result.1.now ≡ behind text.now }
+    ensures front { result.0.now ≡ before_first is_blank text.now }
+    ensures behind { result.1.now ≡ behind_space text.now }
 {
     match first_space(text) {
         Some(at) => (&text[..at], &text[at + 1..]),

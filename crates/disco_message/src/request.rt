@@ -1,6 +1,6 @@
 //! A request.
 ghost use Rattle.std.specs.Prelude.{◌≡◌};
-ghost use Rattle.disco_message.specs.Asked.{asked};
+ghost use Rattle.disco_message.specs.Asked.{request_view};
 
 use crate::fields::Values;
 use crate::head::Head;
@@ -15,11 +15,11 @@ pub struct Request {
 }
 
 impl Model for Request {
-    ghost use Rattle.disco_message.specs.Asked.{Asked, asked};
+    ghost use Rattle.disco_message.specs.Asked.{RequestView, request_view};
 
-    ghost Value = { Asked };
+    ghost Value = { RequestView };
 
-    ghost view = { λ r. asked r.head r.body.items };
+    ghost view = { λ r. request_view r.head r.body.items };
 }
 
 impl Request {
@@ -28,7 +28,7 @@ impl Request {
 
     /// A head, and the body behind it. Takes no memory.
     pub fn new(head: Head, body: Vec<u8>) -> Request
-        ensures { result ≡ asked head body.items }
+        ensures { result ≡ request_view head body.items }
     {
         Request { head, body }
     }

@@ -26,8 +26,8 @@ abbrev pub SaysAny : Option (List ℕ) → Option (List ℕ) → ℕ → ℕ →
 SaysAny old new before now = (fault : Fault) × (first : List ℕ) × Says fault (append_known old first) new before now
 
 -- some text is written, or a front of it, where a write failed; the numbers count failures before and after
-abbrev pub Adds : Option (List ℕ) → Option (List ℕ) → ℕ → ℕ → Type 0
-Adds old new before now = (text : List ℕ) × Appends old new text × ((now ≡ before) ⊎ Raises before now)
+abbrev pub AddsText : Option (List ℕ) → Option (List ℕ) → ℕ → ℕ → Type 0
+AddsText old new before now = (text : List ℕ) × Appends old new text × ((now ≡ before) ⊎ Raises before now)
 
 -- the status for words that give no settings: 0 for help, 1 for want of memory, 2 for a mistake
 abbrev pub status_of_kind : ErrorKind → ℕ

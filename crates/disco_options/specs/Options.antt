@@ -12,8 +12,8 @@ use Rattle.clap.specs.declared.error.kind.ErrorKind.TheVariants.{MissingSubcomma
 use Rattle.disco_digits.specs.Digits.{digits_number}
 use Rattle.disco_settings.specs.Limits.{most_versions, most_instances, most_queue, most_entries, retention}
 use Rattle.disco_settings.specs.declared.settings.Settings.{Settings}
-use Rattle.disco_options.specs.declared.verb.Verb.{Verb}
-use Rattle.disco_options.specs.declared.verb.Verb.TheVariants.{Replay, Serve, Fleet, Follow}
+use Rattle.disco_options.specs.declared.subcommand.Subcommand.{Subcommand}
+use Rattle.disco_options.specs.declared.subcommand.Subcommand.TheVariants.{Replay, Serve, Fleet, Follow}
 
 -- `--NAME N`, of a whole number in these bounds
 abbrev pub number_rule : Text → ℕ → ℕ → Rule
@@ -81,29 +81,29 @@ fleet_app =
     (flag_rule (codes "certified")))
     (flag_rule (codes "restart"))
 
-abbrev pub app_for : Verb → App
+abbrev pub app_for : Subcommand → App
 app_for Replay = replay_app
 app_for Serve = serve_app
 app_for Fleet = fleet_app
 app_for Follow = follow_app
 
-abbrev pub name_of : Verb → Text
+abbrev pub name_of : Subcommand → Text
 name_of Replay = codes "replay"
 name_of Serve = codes "serve"
 name_of Fleet = codes "fleet"
 name_of Follow = codes "follow"
 
 -- the same, where no word stands for the program
-abbrev pub options_app : Verb → App
-options_app verb = on_top (λ s. record s { no_binary_name = true }) (app_for verb)
+abbrev pub options_app : Subcommand → App
+options_app subcommand = on_top (λ s. record s { no_binary_name = true }) (app_for subcommand)
 
 -- what is wrong with the words behind a command's word; a request for help counts too
-abbrev pub faults_of_options : Verb → List Text → Kinds
-faults_of_options verb words = fault_of (options_app verb) words
+abbrev pub faults_of_options : Subcommand → List Text → Kinds
+faults_of_options subcommand words = fault_of (options_app subcommand) words
 
 -- what the words behind a command's word give
-abbrev pub matches_for : Verb → List Text → List Row
-matches_for verb words = matches_of (options_app verb) words
+abbrev pub matches_for : Subcommand → List Text → List Row
+matches_for subcommand words = matches_of (options_app subcommand) words
 
 -- the program's own words: a command has to stand among them
 abbrev pub program_app : App
@@ -113,12 +113,12 @@ program_app =
     serve_app.top) follow_app.top) replay_app.top) fleet_app.top
 
 -- the words behind a command's word, where that stands first
-abbrev pub options_of : Verb → List Text → Option (List Text)
-options_of verb [] = None
-options_of verb (word ∷ words) = if bytes_eq word (name_of verb) then Some words else None
+abbrev pub options_of : Subcommand → List Text → Option (List Text)
+options_of subcommand [] = None
+options_of subcommand (word ∷ words) = if bytes_eq word (name_of subcommand) then Some words else None
 
 -- the command that the words name first, and `replay` where they name none
-abbrev pub verb_of : List Text → Verb
+abbrev pub verb_of : List Text → Subcommand
 verb_of [] = Replay
 verb_of (word ∷ words) =
     if bytes_eq word (codes "serve") then Serve
@@ -129,8 +129,8 @@ abbrev pub faults_of_others : List Text → Kinds
 faults_of_others words = or_else (fault_of program_app words) (MissingSubcommand ∷ [])
 
 -- what is wrong with the words behind the program's name, for a command
-abbrev pub faults_of : Verb → List Text → Kinds
-faults_of verb words = option_map_or (faults_of_options verb) (options_of verb words) (faults_of_others words)
+abbrev pub faults_of : Subcommand → List Text → Kinds
+faults_of subcommand words = option_map_or (faults_of_options subcommand) (options_of subcommand words) (faults_of_others words)
 
 -- the number that is given for a name; a plus may stand first
 abbrev pub number_given : Text → List Row → Option ℕ
@@ -163,9 +163,9 @@ pub record AreGiven (otherwise : ℕ) (rows : List Row) (s : Settings) : Type 0 
   pub delta : s.delta ≡ not (flag_given (codes "no-delta") rows)
 
 -- the words are a command's word and options, which give these rows
-abbrev pub AreMatches : Verb → List Text → List Row → Type 0
-AreMatches verb words rows = (options : List Text) × (options_of verb words ≡ Some options) × (rows ≡ matches_for verb options)
+abbrev pub AreMatches : Subcommand → List Text → List Row → Type 0
+AreMatches subcommand words rows = (options : List Text) × (options_of subcommand words ≡ Some options) × (rows ≡ matches_for subcommand options)
 
 -- the words are a command's word and options that name the settings, with this run where they name none
-abbrev pub NamedBy : Verb → List Text → ℕ → Settings → Type 0
-NamedBy verb words run s = (rows : List Row) × AreMatches verb words rows × AreGiven run rows s
+abbrev pub NamedBy : Subcommand → List Text → ℕ → Settings → Type 0
+NamedBy subcommand words run s = (rows : List Row) × AreMatches subcommand words rows × AreGiven run rows s

@@ -8,7 +8,7 @@ use crate::limits::{
     workers,
 };
 use crate::options::{flag, needed, number, text, with_settings};
-use crate::verb::Verb;
+use crate::subcommand::Subcommand;
 use clap::error::ErrorKind;
 use clap::{ArgMatches, Command, Error};
 use disco_settings::{MOST_INSTANCES, most_instances};
@@ -85,14 +85,14 @@ fn fleet_command<'a>(alloc: Global) -> Result<Command<'a>, AllocError>
         .arg(flag(alloc, "restart", restart))
 }
 
-fn command_of<'a>(alloc: Global, verb: Verb) -> Result<Command<'a>, AllocError>
-    ensures { IfOk result (λ c. app_of c ≡ app_for verb) }
+fn command_of<'a>(alloc: Global, subcommand: Subcommand) -> Result<Command<'a>, AllocError>
+    ensures { IfOk result (λ c. app_of c ≡ app_for subcommand) }
 {
-    match verb {
-        Verb::Replay => replay_command(alloc),
-        Verb::Serve => serve_command(alloc),
-        Verb::Fleet => fleet_command(alloc),
-        Verb::Follow => follow_command(alloc),
+    match subcommand {
+        Subcommand::Replay => replay_command(alloc),
+        Subcommand::Serve => serve_command(alloc),
+        Subcommand::Fleet => fleet_command(alloc),
+        Subcommand::Follow => follow_command(alloc),
     }
 }
 
@@ -111,22 +111,26 @@ fn program_command<'a>(alloc: Global) -> Result<Command<'a>, AllocError>
 }
 
 /// The name that help shows for a command.
-fn shown(verb: Verb) -> &'static str {
-    match verb {
-        Verb::Replay => "discovery replay",
-        Verb::Serve => "discovery serve",
-        Verb::Fleet => "discovery fleet",
-        Verb::Follow => "discovery follow",
+fn shown(subcommand: Subcommand) -> &'static str {
+    match subcommand {
+        Subcommand::Replay => "discovery replay",
+        Subcommand::Serve => "discovery serve",
+        Subcommand::Fleet => "discovery fleet",
+        Subcommand::Follow => "discovery follow",
     }
 }
 
 /// What the words behind a command's word give.
-fn read_options<'a>(alloc: Global, verb: Verb, words: &'a [String]) -> Result<ArgMatches<'a>, Error>
-    ensures matches { IfOk result (λ m. rows_of (found_of m) ≡ matches_for verb (map string_bytes words.entry.now)) }
-    ensures faults { FailsBy (faults_of_options verb (map string_bytes words.entry.now)) result }
+fn read_options<'a>(
+    alloc: Global,
+    subcommand: Subcommand,
+    words: &'a [String],
+) -> Result<ArgMatches<'a>, Error>
+    ensures matches { IfOk result (λ m. rows_of (found_of m) ≡ matches_for subcommand (map string_bytes words.entry.now)) }
+    ensures faults { FailsBy (faults_of_options subcommand (map string_bytes words.entry.now)) result }
 {
-    let command = command_of(alloc, verb)?
-        .bin_name(shown(verb))?
+    let command = command_of(alloc, subcommand)?
+        .bin_name(shown(subcommand))?
         .no_binary_name(true);
     command.try_get_matches_from(words)
 }
@@ -147,14 +151,14 @@ fn refusal<'a>(alloc: Global, words: &'a [String]) -> Result<Error, AllocError>
 /// words are refused, or ask for help.
 pub fn read_words<'a>(
     alloc: Global,
-    verb: Verb,
+    subcommand: Subcommand,
     words: &'a [String],
 ) -> Result<ArgMatches<'a>, Error>
-    ensures matches { IfOk result (λ m. AreMatches verb (map string_bytes words.entry.now) (rows_of (found_of m))) }
-    ensures faults { FailsBy (faults_of verb (map string_bytes words.entry.now)) result }
+    ensures matches { IfOk result (λ m. AreMatches subcommand (map string_bytes words.entry.now) (rows_of (found_of m))) }
+    ensures faults { FailsBy (faults_of subcommand (map string_bytes words.entry.now)) result }
 {
-    match verb.options(words) {
-        Some(options) => read_options(alloc, verb, options),
+    match subcommand.options(words) {
+        Some(options) => read_options(alloc, subcommand, options),
         None => Err(refusal(alloc, words)?),
     }
 }

@@ -3,8 +3,8 @@ ghost use Rattle.std.specs.Prelude.{◌≡◌, ◌≢◌, ◌⊎◌, ◌++◌, I
 ghost use Rattle.std.specs.Io.KnownBytes.{Appends};
 ghost use Rattle.std.specs.IoError.{error_kind};
 ghost use Rattle.clap.specs.Words.{kind_of};
-ghost use Rattle.disco_options.specs.Faults.{Adds, Says, SaysAny, report_line, status_of_kind, status_without_words};
-ghost use Rattle.disco_streams.specs.Writes.{Writes};
+ghost use Rattle.disco_options.specs.Faults.{AddsText, Says, SaysAny, report_line, status_of_kind, status_without_words};
+ghost use Rattle.disco_streams.specs.Writes.{WritesBytes};
 ghost use Rattle.disco_values.specs.declared.fault.Fault.TheVariants.{OutOfMemory};
 
 use clap::Error;
@@ -18,7 +18,7 @@ use std::io;
 
 /// Writes a text, and a number behind it.
 fn write_number<E: Sink>(text: &[u8], number: u64, errors: &mut E) -> Result<(), Failed>
-    ensures { Writes (E.contents errors.old) (E.contents errors.new) (E.failed errors.old) (E.failed errors.new) result (text.now ++ decimal number) }
+    ensures { WritesBytes (E.contents errors.old) (E.contents errors.new) (E.failed errors.old) (E.failed errors.new) result (text.now ++ decimal number) }
 {
     let mut digits = Buffer::new();
     write_all(errors, text)?;
@@ -27,14 +27,14 @@ fn write_number<E: Sink>(text: &[u8], number: u64, errors: &mut E) -> Result<(),
 
 /// Writes the end of a line behind a number.
 fn write_end<E: Sink>(text: &[u8], number: u64, errors: &mut E) -> Result<(), Failed>
-    ensures { Writes (E.contents errors.old) (E.contents errors.new) (E.failed errors.old) (E.failed errors.new) result (text.now ++ decimal number ++ codes "\n") }
+    ensures { WritesBytes (E.contents errors.old) (E.contents errors.new) (E.failed errors.old) (E.failed errors.new) result (text.now ++ decimal number ++ codes "\n") }
 {
     write_number(text, number, errors)?;
     write_all(errors, b"\n")
 }
 
 fn write_bad_line<E: Sink>(number: u64, line: u64, errors: &mut E) -> Result<(), Failed>
-    ensures { Writes (E.contents errors.old) (E.contents errors.new) (E.failed errors.old) (E.failed errors.new) result
+    ensures { WritesBytes (E.contents errors.old) (E.contents errors.new) (E.failed errors.old) (E.failed errors.new) result
         (codes "discovery: fault " ++ decimal number ++ codes " at line " ++ decimal line ++ codes "\n") }
 {
     write_number(b"discovery: fault ", number, errors)?;
@@ -42,7 +42,7 @@ fn write_bad_line<E: Sink>(number: u64, line: u64, errors: &mut E) -> Result<(),
 }
 
 fn write_report<E: Sink>(fault: &Fault, errors: &mut E) -> Result<(), Failed>
-    ensures { Writes (E.contents errors.old) (E.contents errors.new) (E.failed errors.old) (E.failed errors.new) result (report_line fault.now) }
+    ensures { WritesBytes (E.contents errors.old) (E.contents errors.new) (E.failed errors.old) (E.failed errors.new) result (report_line fault.now) }
 {
     let number = fault.number() as u64;
     match fault {
@@ -66,7 +66,7 @@ pub fn report<E: Sink>(fault: &Fault, errors: &mut E) -> u8
 
 /// Tells why the host refuses an address of 127.0.0.1.
 fn explain<E: Sink>(alloc: Global, what: &str, port: u16, error: &io::Error, errors: &mut E)
-    ensures { Adds (E.contents errors.old) (E.contents errors.new) (E.failed errors.old) (E.failed errors.new) }
+    ensures { AddsText (E.contents errors.old) (E.contents errors.new) (E.failed errors.old) (E.failed errors.new) }
 {
     let Ok(text) = format!(in alloc; "discovery: {what} 127.0.0.1:{port}: {error}\n") else {
         return;

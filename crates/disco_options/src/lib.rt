@@ -7,11 +7,11 @@ mod faults;
 mod limits;
 mod options;
 mod settings;
-mod verb;
+mod subcommand;
 
 pub use commands::read_words;
 pub use faults::{refused, report, report_address, without_words};
 pub use limits::{MOST_PORT, MOST_THREADS, MOST_WORKERS, PAUSE, WORKERS};
 pub use options::{count, flag_given, number_given, text_given};
 pub use settings::{read_settings, settings_from, settings_of};
-pub use verb::Verb;
+pub use subcommand::Subcommand;

@@ -7,7 +7,7 @@ ghost use Rattle.disco_options.specs.Options.{AreGiven, NamedBy, faults_of, verb
 use crate::commands::read_words;
 use crate::faults::status_of;
 use crate::options::{count, flag_given, number_given};
-use crate::verb::Verb;
+use crate::subcommand::Subcommand;
 use clap::{ArgMatches, Error};
 use disco_settings::{
     MOST_ENTRIES, MOST_INSTANCES, MOST_QUEUE, MOST_VERSIONS, RETENTION, Settings,
@@ -33,14 +33,14 @@ pub fn settings_from(matches: &ArgMatches<'_>, run: u64) -> Settings
 /// name none.
 pub fn read_settings<'a>(
     alloc: Global,
-    verb: Verb,
+    subcommand: Subcommand,
     words: &'a [String],
     run: u64,
 ) -> Result<Settings, Error>
-    ensures settings { IfOk result (NamedBy verb (map string_bytes words.entry.now) run) }
-    ensures faults { FailsBy (faults_of verb (map string_bytes words.entry.now)) result }
+    ensures settings { IfOk result (NamedBy subcommand (map string_bytes words.entry.now) run) }
+    ensures faults { FailsBy (faults_of subcommand (map string_bytes words.entry.now)) result }
 {
-    let matches = read_words(alloc, verb, words)?;
+    let matches = read_words(alloc, subcommand, words)?;
     Ok(settings_from(&matches, run))
 }
 
@@ -58,7 +58,7 @@ pub fn settings_of<'a>(alloc: Global, words: &'a [String], run: u64) -> Result<S
     ensures status { IfErr result (λ status. status ≤ 2) }
     ensures kind { IfErr result (IsStatusAmong (faults_of (verb_of (map string_bytes words.entry.now)) (map string_bytes words.entry.now))) }
 {
-    match read_settings(alloc, Verb::of(words), words, run) {
+    match read_settings(alloc, Subcommand::of(words), words, run) {
         Ok(settings) => Ok(settings),
         Err(error) => Err(status_of(&error)),
     }

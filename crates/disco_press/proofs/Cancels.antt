@@ -8,11 +8,11 @@ use Rattle.disco_registry.specs.Op.{cancel}
 use Rattle.disco_registry.specs.declared.op.Applied.{Applied}
 use Rattle.disco_core.specs.Past.{Past, history, with_done}
 use Rattle.std.specs.FinMap.{get}
-use Rattle.disco_history.specs.Registry.{reg}
+use Rattle.disco_history.specs.Registry.{registry_of}
 use Rattle.disco_hub.specs.Kept.{Forgets}
 use Rattle.disco_hub.specs.Expiry.{cancel_of, cancelled}
 use Rattle.disco_rounds.specs.Press.{change}
-use Rattle.disco_hub.specs.State.{StandsFor, rules_of}
+use Rattle.disco_hub.specs.State.{HubStandsFor, rules_of}
 use Rattle.disco_hub.specs.Cancelling.{Cancels, HasCancelled}
 use Rattle.disco_hub.specs.Transitions.{Writes}
 use Rattle.disco_hub.proofs.Cancels.{at_history, left, says}
@@ -26,9 +26,9 @@ pub record CancelsOne (old new : DeskState) (now : ℕ) (k : Key) : Type 0 where
   pub change : Option Entry
   pub noted : Notes (note_done change) old new
   pub counted : CountsByNone (length (note_done change)) old new
-  pub accepted : (p : Past) → StandsFor old.hub p → cancel_of (rules_of old.hub) p now k ≡ Ok change
-  pub stands : (p : Past) → StandsFor old.hub p → StandsFor new.hub (with_done (rules_of old.hub).queue p now (cancel k) change)
-  pub docs : (p : Past) → StandsFor old.hub p → Forgets (get (reg (history p))) change old.hub.docs new.hub.docs
+  pub accepted : (p : Past) → HubStandsFor old.hub p → cancel_of (rules_of old.hub) p now k ≡ Ok change
+  pub stands : (p : Past) → HubStandsFor old.hub p → HubStandsFor new.hub (with_done (rules_of old.hub).queue p now (cancel k) change)
+  pub docs : (p : Past) → HubStandsFor old.hub p → Forgets (get (registry_of (history p))) change old.hub.docs new.hub.docs
 
 pub one_gone : (old new : DeskState) (now : ℕ) (k key : Key) (a : Applied) → key ≡ k → Writes old.hub new.hub (cancel key) now (done_by a) → Notes (note_done (done_by a)) old new → CountsByNone (length (note_done (done_by a))) old new → CancelsOne old new now k
 one_gone old new now k key a same done noted counted = subst (λ (x : Key). CancelsOne old new now x) same (record {
@@ -49,7 +49,7 @@ many_done (Some c) = refl
 
 -- ---- the notes of many
 
-pub noted_nothing : (d : DeskState) (then : Past → Past) → ((p : Past) → StandsFor d.hub p → then p ≡ p) → NotesCancels d d then
+pub noted_nothing : (d : DeskState) (then : Past → Past) → ((p : Past) → HubStandsFor d.hub p → then p ≡ p) → NotesCancels d d then
 noted_nothing d then same = record {
   changes = [];
   noted = (refl, sym (append-nil d.pending));

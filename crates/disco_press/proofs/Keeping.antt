@@ -11,14 +11,14 @@ use Rattle.disco_hub.specs.Levels.{AreLevels}
 use Rattle.disco_rounds.specs.Press.{put_copy}
 use Rattle.disco_rounds.specs.Press.{Edition, IsLegal, IsPublishable, Note, begin, change, edition_of, note_of}
 use Rattle.disco_rounds.specs.Rounds.{Ends}
-use Rattle.disco_hub.specs.State.{State, StandsFor}
+use Rattle.disco_hub.specs.State.{HubState, HubStandsFor}
 use Rattle.disco_hub.specs.Transitions.{BeginsRound, CopiesOne}
 use Rattle.disco_rounds.specs.declared.copied.Copied.{Copied}
 use Rattle.disco_hub.proofs.Levels.{begun_levels, copied_levels, ended_edition, ended_legal, ended_len, ended_levels, ended_publishable, first_levels, plain_levels}
 use Rattle.disco_press.specs.Desks.{note_done}
 use Rattle.disco_editions.specs.Editions.{IsEditionOf}
 use Rattle.disco_press.specs.Keeping.{IsKept}
-use Rattle.disco_editions.specs.Rolls.{Rolled, notes_in}
+use Rattle.disco_editions.specs.Logs.{Logged, notes_in}
 use Rattle.disco_editions.proofs.Publications.{notes_more}
 
 -- the changes that an operation makes
@@ -36,91 +36,91 @@ history_done most p now ask None = sym (append-nil (history p))
 history_done most p now ask (Some c) = map-append (λ (t : Timed). t.0) p.timed ((c, now) ∷ [])
 
 -- the version is how many changes there are
-version_is : (s : State) (p : Past) → StandsFor s p → s.core.registry.version ≡ length (history p)
+version_is : (s : HubState) (p : Past) → HubStandsFor s p → s.core.registry.version ≡ length (history p)
 version_is s p stands = stands.core.registry.version
 
-module _ (printed : List (List Note)) (roll : Rolled) (hub hub' : State) (next next' : Edition) (n : ℕ) (kept : IsKept printed roll hub next n) where
+module _ (printed : List (List Note)) (log : Logged) (hub hub' : HubState) (next next' : Edition) (n : ℕ) (kept : IsKept printed log hub next n) where
   -- the changes cs, or none
-  pub plain_kept : (roll' : Rolled) (q : Past) (cs : List Entry) → q.run ≡ kept.past.run → history q ≡ history kept.past ++ cs → StandsFor hub' q → hub'.rounds ≡ hub.rounds → next' ≡ next
-      → roll' ≡ record roll { pending = roll.pending ++ map change cs } → IsKept printed roll' hub' next' (n + length cs)
-  plain_kept roll' q cs run more stands rounds same is =
-      let levels = plain_levels hub hub' next next' (notes_in roll.published) roll.pending kept.past kept.levels q cs run more stands rounds same in
+  pub plain_kept : (log' : Logged) (q : Past) (cs : List Entry) → q.run ≡ kept.past.run → history q ≡ history kept.past ++ cs → HubStandsFor hub' q → hub'.rounds ≡ hub.rounds → next' ≡ next
+      → log' ≡ record log { pending = log.pending ++ map change cs } → IsKept printed log' hub' next' (n + length cs)
+  plain_kept log' q cs run more stands rounds same is =
+      let levels = plain_levels hub hub' next next' (notes_in log.published) log.pending kept.past kept.levels q cs run more stands rounds same in
       record {
-        shown = kept.shown ∙ ap (λ (r : Rolled). r.published) (sym is);
+        shown = kept.shown ∙ ap (λ (r : Logged). r.published) (sym is);
         past = q;
-        levels = subst (λ (r : Rolled). AreLevels hub' next' (notes_in r.published) r.pending q) (sym is) levels;
+        levels = subst (λ (r : Logged). AreLevels hub' next' (notes_in r.published) r.pending q) (sym is) levels;
         version = omega (arith, version_is hub' q stands, ap (λ h. length h) more, length-append (history kept.past) cs, version_is hub kept.past kept.levels.stands, kept.version);
       }
 
   -- nothing that is noted
-  pub quiet_kept : (q : Past) → q.run ≡ kept.past.run → history q ≡ history kept.past → StandsFor hub' q → hub'.rounds ≡ hub.rounds → next' ≡ next → IsKept printed roll hub' next' n
+  pub quiet_kept : (q : Past) → q.run ≡ kept.past.run → history q ≡ history kept.past → HubStandsFor hub' q → hub'.rounds ≡ hub.rounds → next' ≡ next → IsKept printed log hub' next' n
   quiet_kept q run same stands rounds next_same =
-      subst (λ m. IsKept printed roll hub' next' m) (omega arith)
-      (plain_kept roll q [] run (same ∙ sym (append-nil (history kept.past))) stands rounds next_same (λ i. record { published = roll.published; pending = sym (append-nil roll.pending) i }))
+      subst (λ m. IsKept printed log hub' next' m) (omega arith)
+      (plain_kept log q [] run (same ∙ sym (append-nil (history kept.past))) stands rounds next_same (λ i. record { published = log.published; pending = sym (append-nil log.pending) i }))
 
   -- an accepted operation
-  pub written_kept : (roll' : Rolled) (most now : ℕ) (ask : Ask) (o : Option Entry) → ((p : Past) → StandsFor hub p → StandsFor hub' (with_done most p now ask o)) → hub'.rounds ≡ hub.rounds → next' ≡ next
-      → roll' ≡ record roll { pending = roll.pending ++ note_done o } → IsKept printed roll' hub' next' (n + length (changes_done o))
-  written_kept roll' most now ask o stands rounds same is =
-      plain_kept roll' (with_done most kept.past now ask o) (changes_done o) (run_done most kept.past now ask o) (history_done most kept.past now ask o) (stands kept.past kept.levels.stands) rounds same
-      (is ∙ (λ i. record { published = roll.published; pending = roll.pending ++ sym (noted_is o) i }))
+  pub written_kept : (log' : Logged) (most now : ℕ) (ask : Ask) (o : Option Entry) → ((p : Past) → HubStandsFor hub p → HubStandsFor hub' (with_done most p now ask o)) → hub'.rounds ≡ hub.rounds → next' ≡ next
+      → log' ≡ record log { pending = log.pending ++ note_done o } → IsKept printed log' hub' next' (n + length (changes_done o))
+  written_kept log' most now ask o stands rounds same is =
+      plain_kept log' (with_done most kept.past now ask o) (changes_done o) (run_done most kept.past now ask o) (history_done most kept.past now ask o) (stands kept.past kept.levels.stands) rounds same
+      (is ∙ (λ i. record { published = log.published; pending = log.pending ++ sym (noted_is o) i }))
 
   -- an accepted operation that makes no change
-  pub same_kept : (most now : ℕ) (ask : Ask) → ((p : Past) → StandsFor hub p → StandsFor hub' (with_done most p now ask None)) → hub'.rounds ≡ hub.rounds → next' ≡ next → IsKept printed roll hub' next' n
+  pub same_kept : (most now : ℕ) (ask : Ask) → ((p : Past) → HubStandsFor hub p → HubStandsFor hub' (with_done most p now ask None)) → hub'.rounds ≡ hub.rounds → next' ≡ next → IsKept printed log hub' next' n
   same_kept most now ask stands rounds same =
       quiet_kept (with_done most kept.past now ask None) (run_done most kept.past now ask None) (history_done most kept.past now ask None ∙ append-nil (history kept.past)) (stands kept.past kept.levels.stands) rounds same
 
   -- a round begins
-  pub begun_kept : (roll' : Rolled) (many : ℕ) → BeginsRound hub hub' many → next' ≡ empty
-      → roll' ≡ record roll { pending = roll.pending ++ begin ∷ [] } → IsKept printed roll' hub' next' n
-  begun_kept roll' many begins none is = record {
-    shown = kept.shown ∙ ap (λ (r : Rolled). r.published) (sym is);
+  pub begun_kept : (log' : Logged) (many : ℕ) → BeginsRound hub hub' many → next' ≡ empty
+      → log' ≡ record log { pending = log.pending ++ begin ∷ [] } → IsKept printed log' hub' next' n
+  begun_kept log' many begins none is = record {
+    shown = kept.shown ∙ ap (λ (r : Logged). r.published) (sym is);
     past = kept.past;
-    levels = subst (λ (r : Rolled). AreLevels hub' next' (notes_in r.published) r.pending kept.past) (sym is) (begun_levels hub hub' next next' (notes_in roll.published) roll.pending kept.past kept.levels many begins.begun begins.rest none);
-    version = ap (λ (s : State). s.core.registry.version) begins.rest ∙ kept.version;
+    levels = subst (λ (r : Logged). AreLevels hub' next' (notes_in r.published) r.pending kept.past) (sym is) (begun_levels hub hub' next next' (notes_in log.published) log.pending kept.past kept.levels many begins.begun begins.rest none);
+    version = ap (λ (s : HubState). s.core.registry.version) begins.rest ∙ kept.version;
   }
 
   -- a key is copied
-  pub copied_kept : (roll' : Rolled) (c : Copied) → CopiesOne hub hub' c → next' ≡ put_copy next c
-      → roll' ≡ record roll { pending = roll.pending ++ note_of c ∷ [] } → IsKept printed roll' hub' next' n
-  copied_kept roll' c one put is = record {
-    shown = kept.shown ∙ ap (λ (r : Rolled). r.published) (sym is);
+  pub copied_kept : (log' : Logged) (c : Copied) → CopiesOne hub hub' c → next' ≡ put_copy next c
+      → log' ≡ record log { pending = log.pending ++ note_of c ∷ [] } → IsKept printed log' hub' next' n
+  copied_kept log' c one put is = record {
+    shown = kept.shown ∙ ap (λ (r : Logged). r.published) (sym is);
     past = kept.past;
-    levels = subst (λ (r : Rolled). AreLevels hub' next' (notes_in r.published) r.pending kept.past) (sym is) (copied_levels hub hub' next next' (notes_in roll.published) roll.pending kept.past kept.levels c one.copied.copied one.marked one.rest put);
-    version = ap (λ (s : State). s.core.registry.version) one.rest ∙ kept.version;
+    levels = subst (λ (r : Logged). AreLevels hub' next' (notes_in r.published) r.pending kept.past) (sym is) (copied_levels hub hub' next next' (notes_in log.published) log.pending kept.past kept.levels c one.copied.copied one.marked one.rest put);
+    version = ap (λ (s : HubState). s.core.registry.version) one.rest ∙ kept.version;
   }
 
   -- a round ends, and all that was noted is published
   module _ (many : ℕ) (ends : Ends many hub.rounds hub'.rounds) where
-    whole_is : (ps : List (List Note)) → ps ≡ roll.published ++ roll.pending ∷ [] → notes_in ps ≡ notes_in roll.published ++ roll.pending
-    whole_is ps is = ap (λ (qs : List (List Note)). notes_in qs) is ∙ notes_more roll.published roll.pending
+    whole_is : (ps : List (List Note)) → ps ≡ log.published ++ log.pending ∷ [] → notes_in ps ≡ notes_in log.published ++ log.pending
+    whole_is ps is = ap (λ (qs : List (List Note)). notes_in qs) is ∙ notes_more log.published log.pending
 
-    pub edition_ended : (ps : List (List Note)) → ps ≡ roll.published ++ roll.pending ∷ [] → IsEditionOf ps next
+    pub edition_ended : (ps : List (List Note)) → ps ≡ log.published ++ log.pending ∷ [] → IsEditionOf ps next
     edition_ended ps is =
         let same = whole_is ps is in
         record {
-          docs_are = ended_edition hub hub' next next' (notes_in roll.published) roll.pending kept.past kept.levels many ends ∙ ap edition_of (sym same);
+          docs_are = ended_edition hub hub' next next' (notes_in log.published) log.pending kept.past kept.levels many ends ∙ ap edition_of (sym same);
           run = kept.past.run;
-          legal = subst (IsLegal kept.past.run) (sym same) (ended_legal hub hub' next next' (notes_in roll.published) roll.pending kept.past kept.levels many ends);
-          publishable = subst IsPublishable (sym same) (ended_publishable hub hub' next next' (notes_in roll.published) roll.pending kept.past kept.levels many ends);
+          legal = subst (IsLegal kept.past.run) (sym same) (ended_legal hub hub' next next' (notes_in log.published) log.pending kept.past kept.levels many ends);
+          publishable = subst IsPublishable (sym same) (ended_publishable hub hub' next next' (notes_in log.published) log.pending kept.past kept.levels many ends);
         }
 
-    pub ended_many : many ≡ len (edition_of (notes_in roll.published ++ roll.pending))
-    ended_many = ends.many ∙ sym (ended_len hub hub' next next' (notes_in roll.published) roll.pending kept.past kept.levels many ends)
+    pub ended_many : many ≡ len (edition_of (notes_in log.published ++ log.pending))
+    ended_many = ends.many ∙ sym (ended_len hub hub' next next' (notes_in log.published) log.pending kept.past kept.levels many ends)
 
-    pub ended_kept : (printed' : List (List Note)) (roll' : Rolled) → printed' ≡ roll'.published → hub' ≡ record hub { rounds = hub'.rounds } → roll' ≡ record { published = roll.published ++ roll.pending ∷ []; pending = [] } → IsKept printed' roll' hub' next' n
-    ended_kept printed' roll' shown rest is =
-        let levels = ended_levels hub hub' next next' (notes_in roll.published) roll.pending kept.past kept.levels many ends rest in
+    pub ended_kept : (printed' : List (List Note)) (log' : Logged) → printed' ≡ log'.published → hub' ≡ record hub { rounds = hub'.rounds } → log' ≡ record { published = log.published ++ log.pending ∷ []; pending = [] } → IsKept printed' log' hub' next' n
+    ended_kept printed' log' shown rest is =
+        let levels = ended_levels hub hub' next next' (notes_in log.published) log.pending kept.past kept.levels many ends rest in
         record {
           shown = shown;
           past = kept.past;
-          levels = subst (λ (t : List Note × List Note). AreLevels hub' next' t.0 t.1 kept.past) (λ i. (sym (whole_is roll'.published (ap (λ (r : Rolled). r.published) is)) i, ap (λ (r : Rolled). r.pending) (sym is) i)) levels;
-          version = ap (λ (s : State). s.core.registry.version) rest ∙ kept.version;
+          levels = subst (λ (t : List Note × List Note). AreLevels hub' next' t.0 t.1 kept.past) (λ i. (sym (whole_is log'.published (ap (λ (r : Logged). r.published) is)) i, ap (λ (r : Logged). r.pending) (sym is) i)) levels;
+          version = ap (λ (s : HubState). s.core.registry.version) rest ∙ kept.version;
         }
 
 -- nothing was noted yet
-pub new_kept : (run : ℕ) (printed : List (List Note)) (roll : Rolled) (hub : State) (next : Edition) (n : ℕ) → printed ≡ [] → roll.published ≡ [] → roll.pending ≡ [] → StandsFor hub (nothing run) → hub.rounds ≡ record { edition = empty; round = None } → n ≡ 0 → IsKept printed roll hub next n
-new_kept run printed roll hub next n none none' none'' stands rounds zero = record {
+pub new_kept : (run : ℕ) (printed : List (List Note)) (log : Logged) (hub : HubState) (next : Edition) (n : ℕ) → printed ≡ [] → log.published ≡ [] → log.pending ≡ [] → HubStandsFor hub (nothing run) → hub.rounds ≡ record { edition = empty; round = None } → n ≡ 0 → IsKept printed log hub next n
+new_kept run printed log hub next n none none' none'' stands rounds zero = record {
   shown = none ∙ sym none';
   past = nothing run;
   levels = subst (λ (t : List (List Note) × List Note). AreLevels hub next (notes_in t.0) t.1 (nothing run)) (λ i. (sym none' i, sym none'' i)) (first_levels run hub next stands rounds);

@@ -3,14 +3,14 @@ use Rattle.std.specs.Prelude.{◌≡◌, ℕ, ◌+◌, List, [], ◌∷◌, ◌+
 use Rattle.disco_history.specs.Change.{Entry}
 use Rattle.disco_core.specs.Past.{Past, history}
 use Rattle.disco_rounds.specs.Press.{IsPressed, Note, change}
-use Rattle.disco_hub.specs.State.{State, StandsFor, version_of}
-use Rattle.disco_editions.specs.Rolls.{notes_in}
+use Rattle.disco_hub.specs.State.{HubState, HubStandsFor, version_of}
+use Rattle.disco_editions.specs.Logs.{notes_in}
 
 -- what was published, publication by publication, what was noted since, the hub, and how many changes were made by seats and without one
 pub record DeskState : Type 0 where
   pub published : List (List Note)
   pub pending : List Note
-  pub hub : State
+  pub hub : HubState
   pub by_seats : ℕ
   pub by_none : ℕ
 
@@ -21,7 +21,7 @@ notes_of d = notes_in d.published ++ d.pending
 -- what holds of every desk: its hub stands for something that has happened, that is what was noted, and each change is counted once
 pub record IsValid (d : DeskState) : Type 0 where
   pub past : Past
-  pub stands : StandsFor d.hub past
+  pub stands : HubStandsFor d.hub past
   pub pressed : IsPressed past.run (notes_in d.published) d.pending (history past) d.hub.rounds.edition d.hub.rounds.round
   pub version : version_of d.hub ≡ d.by_seats + d.by_none
 
@@ -55,4 +55,4 @@ pub record NotesCancels (old new : DeskState) (then : Past → Past) : Type 0 wh
   pub changes : List Entry
   pub noted : Notes (map change changes) old new
   pub counted : CountsByNone (length changes) old new
-  pub cancels : (p : Past) → StandsFor old.hub p → history (then p) ≡ history p ++ changes
+  pub cancels : (p : Past) → HubStandsFor old.hub p → history (then p) ≡ history p ++ changes

@@ -3,12 +3,12 @@ use Rattle.std.specs.Prelude.{◌≡◌, ℕ, List}
 use Rattle.disco_core.specs.Past.{Past}
 use Rattle.disco_hub.specs.Levels.{AreLevels}
 use Rattle.disco_rounds.specs.Press.{Edition, Note}
-use Rattle.disco_hub.specs.State.{State, version_of}
-use Rattle.disco_editions.specs.Rolls.{Rolled, notes_in}
+use Rattle.disco_hub.specs.State.{HubState, version_of}
+use Rattle.disco_editions.specs.Logs.{Logged, notes_in}
 
 -- readers take what was published, the hub stands for what was noted, and each change is counted
-pub record IsKept (printed : List (List Note)) (roll : Rolled) (hub : State) (next : Edition) (counted : ℕ) : Type 0 where
-  pub shown : printed ≡ roll.published
+pub record IsKept (printed : List (List Note)) (log : Logged) (hub : HubState) (next : Edition) (counted : ℕ) : Type 0 where
+  pub shown : printed ≡ log.published
   pub past : Past
-  pub levels : AreLevels hub next (notes_in roll.published) roll.pending past
+  pub levels : AreLevels hub next (notes_in log.published) log.pending past
   pub version : version_of hub ≡ counted

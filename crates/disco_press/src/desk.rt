@@ -4,13 +4,13 @@ ghost use Rattle.std.specs.FinMap as finmap;
 ghost use mathlib.Core.List.{IsPrefix};
 ghost use Rattle.disco_core.specs.Refusals.{doc_of_key};
 ghost use Rattle.disco_core.specs.Past.{Past};
-ghost use Rattle.disco_hub.specs.State.{IsEmptyHub, StandsFor, rules_of, version_of};
+ghost use Rattle.disco_hub.specs.State.{IsEmptyHub, HubStandsFor, rules_of, version_of};
 ghost use Rattle.disco_hub.specs.Transitions.{Cleans, Closes, IsDocOf, IsDocOfId, Loads, Withholds, WithholdsId};
 ghost use Rattle.disco_press.specs.Desks.{IsValid, NotesNothing, notes_of};
 
 use crate::seat::Seat;
 use disco_cache::{Edition, Payload};
-use disco_editions::{Naming, Printer, Roll};
+use disco_editions::{Naming, PublicationLog, SnapshotWriter};
 use disco_hub::Hub;
 use disco_lease::Minute;
 use disco_query::DocKey;
@@ -27,14 +27,14 @@ use std::sync::{Arc, Wait};
 pub struct Desk<J: Naming> {
     pub(crate) alloc: Global,
     pub(crate) hub: Hub,
-    pub(crate) printer: Printer<J>,
-    pub(crate) roll: Roll<J>,
+    pub(crate) snapshots: SnapshotWriter<J>,
+    pub(crate) log: PublicationLog<J>,
     /// What the open round has copied.
     pub(crate) next: Edition,
     /// The changes that seats made.
     pub(crate) book: Book<J>,
     /// How many changes were made without a seat.
-    pub(crate) loose: u64,
+    pub(crate) by_none: u64,
 }
 
 impl<J: Naming> Model for Desk<J> {
@@ -48,21 +48,21 @@ impl<J: Naming> Model for Desk<J> {
 
     ghost coded = { Prim.hlevel (codes, code) };
 
-    ghost view = { λ d. record { published = d.roll.published; pending = d.roll.pending; hub = d.hub; by_seats = d.book.total; by_none = d.loose } };
+    ghost view = { λ d. record { published = d.log.published; pending = d.log.pending; hub = d.hub; by_seats = d.book.total; by_none = d.by_none } };
 
-    ghost invariant = { λ d. IsKept d.printer d.roll d.hub d.next (d.book.total + d.loose) };
+    ghost invariant = { λ d. IsKept d.snapshots d.log d.hub d.next (d.book.total + d.by_none) };
 }
 
 impl<J: Naming> Desk<J> {
     pub(crate) fn new(
         alloc: Global,
         settings: &Settings,
-        printer: Printer<J>,
-        roll: Roll<J>,
+        snapshots: SnapshotWriter<J>,
+        log: PublicationLog<J>,
         book: Book<J>,
     ) -> Desk<J>
-        requires roll { (roll.published ≡ []) × (roll.pending ≡ []) }
-        requires printer { printer ≡ [] }
+        requires log { (log.published ≡ []) × (log.pending ≡ []) }
+        requires snapshots { snapshots ≡ [] }
         requires book { book.total ≡ 0 }
         ensures nothing { (result.published ≡ []) × (result.pending ≡ []) × (result.by_seats ≡ 0) × (result.by_none ≡ 0) }
         ensures hub { IsEmptyHub settings.now result.hub }
@@ -70,18 +70,18 @@ impl<J: Naming> Desk<J> {
         Desk {
             alloc,
             hub: Hub::new(alloc, settings),
-            printer,
-            roll,
+            snapshots,
+            log,
             next: Edition::new(alloc),
             book,
-            loose: 0,
+            by_none: 0,
         }
     }
 
     /// The number of this run of the server. Takes no memory.
     pub fn run(&self) -> u64
         ensures run { result ≡ self.now.hub.core.run }
-        ensures past { (p : Past) → StandsFor self.now.hub p → result ≡ p.run }
+        ensures past { (p : Past) → HubStandsFor self.now.hub p → result ≡ p.run }
     {
         self.hub.run()
     }
@@ -90,7 +90,7 @@ impl<J: Naming> Desk<J> {
     pub fn check(&self)
         ensures { IsValid self.now }
     {
-        let _loose = self.loose;
+        let _loose = self.by_none;
     }
 
     /// The document that is asked for, as [`Hub::load`] gives it.
@@ -143,13 +143,13 @@ impl<J: Naming> Desk<J> {
         let Desk {
             alloc: _,
             hub: _hub,
-            printer,
-            roll: _roll,
+            snapshots,
+            log: _roll,
             next: _next,
             book: _book,
-            loose: _,
+            by_none: _,
         } = self;
-        printer.close(rt);
+        snapshots.close(rt);
     }
 }
 
@@ -165,9 +165,9 @@ impl<J: Naming> Seat<J> {
         ensures bound { self.old.changes ≤ version_of desk.old.hub }
     {
         self.check(&mut desk.book);
-        desk.roll.meet(self.known());
-        desk.roll.meet_all(self.heard());
-        let heard = desk.roll.heard();
-        self.tell(desk.roll.front(), heard);
+        desk.log.meet(self.known());
+        desk.log.meet_all(self.heard());
+        let heard = desk.log.heard();
+        self.tell(desk.log.published(), heard);
     }
 }

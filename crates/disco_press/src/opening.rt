@@ -1,7 +1,7 @@
 //! What names a desk before it is there.
 ghost use Rattle.std.specs.Prelude.{◌≡◌, []};
 
-use disco_editions::Mark;
+use disco_editions::LogEntry;
 use scroll::Scroll;
 use std::sync::ledger::Blank;
 
@@ -11,7 +11,7 @@ const PARTS: u64 = 65;
 /// What a desk and its seats are named by, before a type stands for it.
 #[derive(Drop)]
 pub struct Opening {
-    pub marks: Scroll<Mark>,
+    pub marks: Scroll<LogEntry>,
     pub blank: Blank,
     pub ghost empty: { marks.items ≡ [] },
     pub ghost parts: { blank.parts ≡ 65 },

@@ -11,7 +11,7 @@ ghost use Rattle.disco_press.specs.Desks.{CountsNone, Notes, notes_of};
 use crate::desk::Desk;
 use core::mem::replace;
 use disco_cache::Edition;
-use disco_editions::{Naming, Shown};
+use disco_editions::{Naming, Snapshot};
 use disco_rounds::Copied;
 use disco_values::Fault;
 use std::sync::Wait;
@@ -28,7 +28,7 @@ impl<J: Naming> Desk<J> {
     {
         let keys = self.hub.begin()?;
         self.next = Edition::new(self.alloc);
-        self.roll.begin();
+        self.log.begin();
         Ok(keys)
     }
 
@@ -45,7 +45,7 @@ impl<J: Naming> Desk<J> {
         let Some(copied) = self.hub.copy_into(&mut self.next)? else {
             return Ok(None);
         };
-        Ok(Some(self.roll.copy(copied)))
+        Ok(Some(self.log.copy(copied)))
     }
 
     /// Ends the open round and publishes: readers take the edition of all that was noted from now
@@ -62,9 +62,9 @@ impl<J: Naming> Desk<J> {
     {
         let documents = self.hub.finish()?;
         let docs = replace(&mut self.next, Edition::new(self.alloc));
-        self.roll.publish();
-        let page = self.roll.front().into_page();
-        self.printer.show(rt, Shown { docs, page });
+        self.log.publish();
+        let prefix = self.log.published().into_prefix();
+        self.snapshots.show(rt, Snapshot { docs, prefix });
         Ok(documents)
     }
 }

@@ -2,10 +2,10 @@
 ghost use Rattle.std.specs.Prelude.{◌≡◌, ◌<◌, ◌≤◌, ◌+◌, ◌^◌};
 ghost use mathlib.Core.List.{IsPrefix};
 ghost use Rattle.disco_editions.specs.Looks.{Shows};
-ghost use Rattle.disco_editions.specs.Rolls.{notes_in};
+ghost use Rattle.disco_editions.specs.Logs.{notes_in};
 ghost use Rattle.disco_press.specs.Seats.{IsNew};
 
-use disco_editions::{Front, Heard, Looked, Naming, Window};
+use disco_editions::{Heard, Looked, Naming, PublishedLog, SnapshotReader};
 use disco_query::DocKey;
 use std::marker::Model;
 use std::sync::ledger::{Book, Share};
@@ -14,7 +14,7 @@ use std::sync::ledger::{Book, Share};
 /// which it counts its own changes. It may go to another thread.
 #[derive(Drop)]
 pub struct Seat<J: Naming> {
-    window: Window<J>,
+    reader: SnapshotReader<J>,
     heard: Heard<J>,
     mine: Share<J>,
     changes: u64,
@@ -26,19 +26,19 @@ impl<J: Naming> Model for Seat<J> {
 
     ghost Value = { SeatState };
 
-    ghost view = { λ s. record { known = s.window; heard = s.heard; changes = s.changes } };
+    ghost view = { λ s. record { known = s.reader; heard = s.heard; changes = s.changes } };
 
     ghost invariant = { λ s. (s.mine.amount ≡ s.changes) × (0 < s.mine.parts) };
 }
 
 impl<J: Naming> Seat<J> {
-    pub(crate) fn new(window: Window<J>, heard: Heard<J>, mine: Share<J>) -> Seat<J>
+    pub(crate) fn new(reader: SnapshotReader<J>, heard: Heard<J>, mine: Share<J>) -> Seat<J>
         requires share { (0 < mine.parts) × (mine.amount ≡ 0) }
-        requires heard { heard ≡ notes_in window }
-        ensures { IsNew window result }
+        requires heard { heard ≡ notes_in reader }
+        ensures { IsNew reader result }
     {
         Seat {
-            window,
+            reader,
             heard,
             mine,
             changes: 0,
@@ -54,7 +54,7 @@ impl<J: Naming> Seat<J> {
         ensures heard { self.new.heard ≡ self.old.heard }
         ensures count { self.new.changes ≡ self.old.changes }
     {
-        self.window.look(key)
+        self.reader.look(key)
     }
 
     /// How many changes this seat has made. Takes no memory.
@@ -85,10 +85,10 @@ impl<J: Naming> Seat<J> {
     }
 
     /// The publications that this seat knows.
-    pub(crate) fn known(&self) -> &Front<J>
+    pub(crate) fn known(&self) -> &PublishedLog<J>
         ensures { result.now ≡ self.now.known }
     {
-        self.window.known()
+        self.reader.known()
     }
 
     /// What this seat has been told was noted.
@@ -99,10 +99,10 @@ impl<J: Naming> Seat<J> {
     }
 
     /// From now on this seat knows these publications, and that this was noted.
-    pub(crate) fn tell(&mut self, known: Front<J>, heard: Heard<J>)
+    pub(crate) fn tell(&mut self, known: PublishedLog<J>, heard: Heard<J>)
         ensures { self.new ≡ record self.old { known = known; heard = heard } }
     {
-        self.window.tell(known);
+        self.reader.tell(known);
         self.heard = heard;
     }
 }

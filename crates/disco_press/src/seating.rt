@@ -8,7 +8,7 @@ ghost use Rattle.disco_press.specs.Openings.{Opens};
 use crate::desk::Desk;
 use crate::opening::Opening;
 use crate::seat::Seat;
-use disco_editions::{Heard, Naming, Printer, Roll};
+use disco_editions::{Heard, Naming, PublicationLog, SnapshotWriter};
 use disco_settings::Settings;
 use disco_values::Fault;
 use std::alloc::{AllocError, Global};
@@ -17,35 +17,35 @@ use std::sync::ledger::Share;
 
 /// One seat.
 fn seat_of<J: Naming>(
-    printer: &Printer<J>,
-    roll: &Roll<J>,
+    snapshots: &SnapshotWriter<J>,
+    log: &PublicationLog<J>,
     rest: &mut Share<J>,
 ) -> Result<Seat<J>, AllocError>
     requires { (1 < rest.old.parts) × (rest.old.amount ≡ 0) }
     ensures rest { IfOk result (λ _. (rest.new.parts + 1 ≡ rest.old.parts) × (rest.new.amount ≡ 0)) }
-    ensures seat { IfOk result (λ s. IsNew roll.now.published s) }
+    ensures seat { IfOk result (λ s. IsNew log.now.published s) }
 {
-    let window = printer.window(roll.front())?;
-    let heard = Heard::of(roll.front().into_page());
+    let reader = snapshots.snapshot_reader(log.published())?;
+    let heard = Heard::of(log.published().into_prefix());
     let mine = rest.split_off(1, 0);
-    Ok(Seat::new(window, heard, mine))
+    Ok(Seat::new(reader, heard, mine))
 }
 
 /// So many seats.
 fn seats_of<J: Naming>(
     alloc: Global,
-    printer: &Printer<J>,
-    roll: &Roll<J>,
+    snapshots: &SnapshotWriter<J>,
+    log: &PublicationLog<J>,
     rest: &mut Share<J>,
     count: usize,
 ) -> Result<Vec<Seat<J>>, AllocError>
     requires { (count < rest.old.parts) × (rest.old.amount ≡ 0) }
     ensures count { IfOk result (λ v. vec_len v ≡ count) }
-    ensures seats { IfOk result (λ v. All (λ s. IsNew roll.now.published s) v.items) }
+    ensures seats { IfOk result (λ v. All (λ s. IsNew log.now.published s) v.items) }
 {
     let mut seats = Vec::new(alloc);
     for _ in 0..count {
-        let seat = seat_of(printer, roll, rest)?;
+        let seat = seat_of(snapshots, log, rest)?;
         seats.push(seat)?;
     }
     Ok(seats)
@@ -70,12 +70,12 @@ pub fn open<J: Naming, R: Wait>(
 {
     let Opening { marks, blank } = opening;
     let (book, mut rest) = blank.open::<J>();
-    let roll = Roll::new(marks);
-    let page = roll.front().into_page();
-    let printer = Printer::new(alloc, page, seats)?;
-    let Ok(seats) = seats_of(alloc, &printer, &roll, &mut rest, seats) else {
-        printer.close(rt);
+    let log = PublicationLog::new(marks);
+    let prefix = log.published().into_prefix();
+    let snapshots = SnapshotWriter::new(alloc, prefix, seats)?;
+    let Ok(seats) = seats_of(alloc, &snapshots, &log, &mut rest, seats) else {
+        snapshots.close(rt);
         return Err(Fault::OutOfMemory);
     };
-    Ok((Desk::new(alloc, settings, printer, roll, book), seats))
+    Ok((Desk::new(alloc, settings, snapshots, log, book), seats))
 }

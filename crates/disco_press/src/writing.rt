@@ -31,8 +31,8 @@ impl<J: Naming> Desk<J> {
         let _version = self.hub.version();
         match applied {
             Applied::Changed(change) => {
-                self.loose += 1;
-                Ok(Applied::Changed(self.roll.change(change)))
+                self.by_none += 1;
+                Ok(Applied::Changed(self.log.change(change)))
             }
             Applied::Same => Ok(Applied::Same),
         }
@@ -56,7 +56,7 @@ impl<J: Naming> Desk<J> {
         match applied {
             Applied::Changed(change) => {
                 seat.count(&mut self.book);
-                Ok(Applied::Changed(self.roll.change(change)))
+                Ok(Applied::Changed(self.log.change(change)))
             }
             Applied::Same => Ok(Applied::Same),
         }

@@ -5,7 +5,7 @@ ghost use Rattle.disco_follow.specs.Following.{TellsFor};
 ghost use Rattle.disco_options.specs.Ending.{EndsBy};
 ghost use Rattle.disco_options.specs.Faults.{Says};
 ghost use Rattle.disco_options.specs.Options.{faults_of, verb_of};
-ghost use Rattle.disco_options.specs.declared.verb.Verb.TheVariants.{Replay, Serve, Follow};
+ghost use Rattle.disco_options.specs.declared.subcommand.Subcommand.TheVariants.{Replay, Serve, Follow};
 ghost use Rattle.disco_press.specs.Openings.{Opens};
 ghost use Rattle.disco_reader.specs.Causes.{Raises};
 ghost use Rattle.disco_replay.specs.Replay.{IsFailed, IsReplayed};
@@ -14,7 +14,7 @@ ghost use Rattle.disco_serve.specs.Serving.{SaysListening};
 use disco_editions::Naming;
 use disco_fleet::fleet;
 use disco_follow::follow;
-use disco_options::Verb;
+use disco_options::Subcommand;
 use disco_press::Opening;
 use disco_replay::replay;
 use disco_serve::serve;
@@ -59,10 +59,10 @@ where
     ensures followed { verb_of (map string_bytes words.now) ≡ Follow → faults_of Follow (map string_bytes words.now) ≡ [] → result ≡ 0
         → TellsFor (map string_bytes words.now) (W.contents out.old) (W.contents out.new) }
 {
-    match Verb::of(words) {
-        Verb::Replay => replay(alloc, input, out, errors, words),
-        Verb::Serve => serve::<J, R, W, E>(rt, alloc, opening, out, errors, words),
-        Verb::Fleet => fleet(rt, alloc, out, errors, words),
-        Verb::Follow => follow(rt, alloc, out, errors, words),
+    match Subcommand::of(words) {
+        Subcommand::Replay => replay(alloc, input, out, errors, words),
+        Subcommand::Serve => serve::<J, R, W, E>(rt, alloc, opening, out, errors, words),
+        Subcommand::Fleet => fleet(rt, alloc, out, errors, words),
+        Subcommand::Follow => follow(rt, alloc, out, errors, words),
     }
 }

@@ -1,11 +1,11 @@
 -- A queue keeps a history from its base on.
 use Rattle.std.proofs.Common.{◌≡◌, ℕ, ◌+◌, ◌≤◌, List, [], ◌∷◌, ◌++◌, length, drop, sym, ap, ◌∙◌, arith}
 use Rattle.std.proofs.lemmas.List.{drop-append-le, drop-drop, length-append, length-drop}
-use Rattle.disco_queue.specs.Queue.{Keeps, Queue}
+use Rattle.disco_queue.specs.Queue.{KeepsHistory, Queue}
 use Rattle.disco_queue.specs.Timed.{Timed}
 
 -- where n leave at the front, it keeps the same history
-pub keeps_dropped : (old new : Queue) (h : List Timed) (n : ℕ) → n ≤ length old.kept → new.base ≡ old.base + n → new.kept ≡ drop n old.kept → Keeps old h → Keeps new h
+pub keeps_dropped : (old new : Queue) (h : List Timed) (n : ℕ) → n ≤ length old.kept → new.base ≡ old.base + n → new.kept ≡ drop n old.kept → KeepsHistory old h → KeepsHistory new h
 keeps_dropped old new h n few base kept keeps =
     let length_kept : length new.kept ≡ length (drop n old.kept) = ap length kept in
     record {
@@ -14,7 +14,7 @@ keeps_dropped old new h n few base kept keeps =
     }
 
 -- one comes at the back
-pub keeps_pushed : (old new : Queue) (h : List Timed) (t : Timed) → new.base ≡ old.base → new.kept ≡ old.kept ++ t ∷ [] → Keeps old h → Keeps new (h ++ t ∷ [])
+pub keeps_pushed : (old new : Queue) (h : List Timed) (t : Timed) → new.base ≡ old.base → new.kept ≡ old.kept ++ t ∷ [] → KeepsHistory old h → KeepsHistory new (h ++ t ∷ [])
 keeps_pushed old new h t base kept keeps =
     let length_kept : length new.kept ≡ length (old.kept ++ t ∷ []) = ap length kept in
     let within : old.base ≤ length h = omega (arith, keeps.version) in

@@ -11,7 +11,7 @@ use Rattle.disco_values.specs.declared.key.Key.{Key}
 use Rattle.disco_history.specs.Change.{Entry, key_of, last}
 use Rattle.disco_history.proofs.Keys.{same_is}
 use Rattle.disco_history.specs.Slots.{AltersAt, opened, written}
-use Rattle.disco_queue.specs.Numbers.{AreNumbered, LeavesNone, last_number, later_or, left_by, numbered}
+use Rattle.disco_queue.specs.Numbers.{AreNumbered, LeavesNone, last_number, later_or, number_kept, numbered}
 
 abbrev Places : Type 0
 Places = FinMap key_cmp ℕ
@@ -85,7 +85,7 @@ holds false h = absurd h
 same : (a : ℕ) → (a == a) ≡ true
 same a = holds (a == a) (eqb_refl a)
 
-own_key : (before : ℕ) (es : List Entry) (o : Option ℕ) (n : ℕ) (x : Option Entry) → Placed (before + 1) n es x → unwrap_or o 0 ≡ later_or n (before + 1) → unwrap_or (left_by (before + 1) o) 0 ≡ n
+own_key : (before : ℕ) (es : List Entry) (o : Option ℕ) (n : ℕ) (x : Option Entry) → Placed (before + 1) n es x → unwrap_or o 0 ≡ later_or n (before + 1) → unwrap_or (number_kept (before + 1) o) 0 ≡ n
 own_key before es None n x (nowhere z none) is = absurd (omega (arith, is, none_later n (before + 1) z))
 own_key before es None n x (there i e at some found) is = absurd (omega (arith, is, at, some_later n (before + 1) (omega (arith, at))))
 own_key before es (Some m) n x (nowhere z none) is =
@@ -95,11 +95,11 @@ own_key before es (Some m) n x (there i e at some found) is =
     let later : m ≡ n = is ∙ some_later n (before + 1) (omega (arith, at)) in
     ap (λ b. unwrap_or (cond b None (Some m)) 0) (not_same m (before + 1) (omega (arith, later, at))) ∙ later
 
-pub number_left : (old new : Places) (before : ℕ) (e : Entry) (es : List Entry) → AltersAt (left_by (before + 1)) (key_of e) old new → AreNumbered old before (e ∷ es) → AreNumbered new (before + 1) es
+pub number_left : (old new : Places) (before : ℕ) (e : Entry) (es : List Entry) → AltersAt (number_kept (before + 1)) (key_of e) old new → AreNumbered old before (e ∷ es) → AreNumbered new (before + 1) es
 number_left old new before e es alters are k =
     ap (λ o. unwrap_or o 0) (alters k) ∙ one (same_key k (key_of e)) (are k)
   where
-    one : (b : Bool) → unwrap_or (get old k) 0 ≡ later_or (last_number (before + 1) es k) (cond b (before + 1) 0) → unwrap_or (cond b (left_by (before + 1) (get old k)) (get old k)) 0 ≡ last_number (before + 1) es k
+    one : (b : Bool) → unwrap_or (get old k) 0 ≡ later_or (last_number (before + 1) es k) (cond b (before + 1) 0) → unwrap_or (cond b (number_kept (before + 1) (get old k)) (get old k)) 0 ≡ last_number (before + 1) es k
     one true is = own_key before es (get old k) (last_number (before + 1) es k) (last es k) (placed (before + 1) es k) is
     one false is = other_key (get old k) (last_number (before + 1) es k) is
 
@@ -146,14 +146,14 @@ none_written number k old new some alters p is = one (same_key p k) (get old p) 
     one true None e = e
     one true (Some n) e = absurd (omega (arith, some, same_Some number 0 e))
 
-pub none_left : (number : ℕ) (k : Key) (old new : Places) → AltersAt (left_by number) k old new → LeavesNone old new
+pub none_left : (number : ℕ) (k : Key) (old new : Places) → AltersAt (number_kept number) k old new → LeavesNone old new
 none_left number k old new alters p is = one (same_key p k) (get old p) (sym (alters p) ∙ is)
   where
     kept : (b : Bool) (n : ℕ) → cond b None (Some n) ≡ Some 0 → Some n ≡ Some 0
     kept true n e = absurd (cc)
     kept false n e = e
 
-    one : (b : Bool) (o : Option ℕ) → cond b (left_by number o) o ≡ Some 0 → o ≡ Some 0
+    one : (b : Bool) (o : Option ℕ) → cond b (number_kept number o) o ≡ Some 0 → o ≡ Some 0
     one false o e = e
     one true None e = e
     one true (Some n) e = kept (n == number) n e

@@ -17,12 +17,12 @@ last_number before [] k = 0
 last_number before (e ∷ es) k = later_or (last_number (before + 1) es k) (if same_key k (key_of e) then before + 1 else 0)
 
 -- the number in the place of a key, 0 where it stands empty or isn't there
-abbrev pub number_at : FinMap key_cmp ℕ → Key → ℕ
-number_at places k = unwrap_or (get places k) 0
+abbrev pub number_in : FinMap key_cmp ℕ → Key → ℕ
+number_in places k = unwrap_or (get places k) 0
 
 -- each place has the number of the last of these changes of its key, and other keys have none
 abbrev pub AreNumbered : FinMap key_cmp ℕ → ℕ → List Entry → Type 0
-AreNumbered places before es = (k : Key) → number_at places k ≡ last_number before es k
+AreNumbered places before es = (k : Key) → number_in places k ≡ last_number before es k
 
 -- no place stands empty that stood not
 abbrev pub LeavesNone : FinMap key_cmp ℕ → FinMap key_cmp ℕ → Type 0
@@ -33,6 +33,6 @@ abbrev pub numbered : ℕ → List Entry → ℕ → Option Entry
 numbered before es number = if nat_lt before number then slice_get es (number - before - 1) else None
 
 -- no place where it has this number
-abbrev pub left_by : ℕ → Option ℕ → Option ℕ
-left_by number None = None
-left_by number (Some n) = if n == number then None else Some n
+abbrev pub number_kept : ℕ → Option ℕ → Option ℕ
+number_kept number None = None
+number_kept number (Some n) = if n == number then None else Some n

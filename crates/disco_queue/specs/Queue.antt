@@ -24,16 +24,16 @@ abbrev pub HasRoom : Queue → Type 0
 HasRoom q = length q.kept < q.max → 0 < q.room
 
 -- there is a place for the number of the key's next change
-abbrev pub HasPlace : Key → Queue → Type 0
-HasPlace k q = IsSome (get q.places k)
+abbrev pub HasNumberPlace : Key → Queue → Type 0
+HasNumberPlace k q = IsSome (get q.places k)
 
 -- the key's place stands empty
 abbrev pub StandsEmpty : Key → Queue → Type 0
 StandsEmpty k q = get q.places k ≡ Some 0
 
 -- the key has a place, which stands empty where there was none, and each other place stays
-abbrev pub Opens : Key → Queue → Queue → Type 0
-Opens k old new = (p : Key) → get new.places p ≡ (if same_key p k then Some (unwrap_or (get old.places p) 0) else get old.places p)
+abbrev pub OpensPlace : Key → Queue → Queue → Type 0
+OpensPlace k old new = (p : Key) → get new.places p ≡ (if same_key p k then Some (unwrap_or (get old.places p) 0) else get old.places p)
 
 -- just the keys of kept changes have places that don't stand empty
 abbrev pub AreFilled : Queue → Type 0
@@ -50,7 +50,7 @@ pub record IsSameQueue (old new : Queue) : Type 0 where
   pub kept : new.kept ≡ old.kept
 
 -- it keeps the history from its base on, and its version is the history's length
-pub record Keeps (q : Queue) (h : List Timed) : Type 0 where
+pub record KeepsHistory (q : Queue) (h : List Timed) : Type 0 where
   pub contents : q.kept ≡ drop q.base h
   pub version : version q ≡ length h
 

@@ -4,7 +4,7 @@ use Rattle.disco_history.specs.Change.{Entry}
 use Rattle.disco_queue.specs.Base.{base_after_change, base_after_cleaning, leaving}
 use Rattle.disco_queue.specs.Queue.{newest}
 
-pub record Worked (a b c : Entry) : Type 0 where
+pub record WorkedQueue (a b c : Entry) : Type 0 where
   pub stays : leaving 181000 180000 ((a, 1000) ∷ []) ≡ 0
   pub leaves : leaving 181001 180000 ((a, 1000) ∷ []) ≡ 1
   pub too_early : leaving 5 180000 ((a, 1000) ∷ []) ≡ 0

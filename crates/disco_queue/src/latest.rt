@@ -3,7 +3,7 @@ ghost use Rattle.std.specs.Prelude.{◌≡◌, IfOk, IfSome, map, option_map, tr
 ghost use Rattle.std.specs.BTreeMap.{IsOrdered};
 ghost use Rattle.std.specs.List.{All, filter_map};
 ghost use Rattle.disco_values.specs.Key.{key_cmp};
-ghost use Rattle.disco_history.specs.Change.{is_proper, seen};
+ghost use Rattle.disco_history.specs.Change.{is_proper, change_view};
 ghost use Rattle.disco_queue.specs.Numbers.{numbered};
 ghost use Rattle.disco_queue.specs.Seen.{change_of};
 
@@ -15,7 +15,7 @@ use std::collections::{BTreeMap, VecDeque};
 
 /// The kept change of a number, of changes that so many others come before.
 fn numbered(kept: &VecDeque<Kept>, before: u64, number: u64) -> Option<&Change>
-    ensures change { option_map (λ c. seen c.now) result ≡ numbered before (map change_of kept.now.items) number }
+    ensures change { option_map (λ c. change_view c.now) result ≡ numbered before (map change_of kept.now.items) number }
     ensures proper { IfSome result (λ c. is_proper c.now ≡ true) }
 {
     if number <= before {
@@ -34,7 +34,7 @@ pub(crate) fn numbered_in<'a>(
     before: u64,
     alloc: Global,
 ) -> Result<Vec<&'a Change>, AllocError>
-    ensures changes { IfOk result (λ found. map (λ c. seen c.now) found.items ≡ filter_map (λ e. numbered before (map change_of kept.now.items) e.1) places.now.entries) }
+    ensures changes { IfOk result (λ found. map (λ c. change_view c.now) found.items ≡ filter_map (λ e. numbered before (map change_of kept.now.items) e.1) places.now.entries) }
     ensures proper { IfOk result (λ found. All (λ c. is_proper c.now ≡ true) found.items) }
     ensures ordered { IsOrdered key_cmp places.now }
 {

@@ -2,10 +2,10 @@
 ghost use Rattle.std.specs.Prelude.{◌≡◌, IfOk, None, OnErr, OnOk, map, true};
 ghost use Rattle.std.specs.FinMap.{empty, get, values};
 ghost use Rattle.std.specs.List.{All};
-ghost use Rattle.disco_history.specs.Change.{is_proper, seen};
+ghost use Rattle.disco_history.specs.Change.{is_proper, change_view};
 ghost use Rattle.disco_history.specs.Mentions.{delta};
 ghost use Rattle.disco_history.specs.Slots.{AltersAt, opened, written};
-ghost use Rattle.disco_queue.specs.Numbers.{AreNumbered, left_by};
+ghost use Rattle.disco_queue.specs.Numbers.{AreNumbered, number_kept};
 ghost use Rattle.disco_queue.specs.Seen.{change_of};
 
 use crate::kept::Kept;
@@ -68,7 +68,7 @@ impl Numbers {
 
     /// Takes the place of a key out, where it has this number.
     pub(crate) fn close(&mut self, key: &Key, number: u64)
-        ensures { AltersAt (left_by number) key.now self.old self.new }
+        ensures { AltersAt (number_kept number) key.now self.old self.new }
     {
         if self.places.get(key).copied() == Some(number) {
             self.places.remove(key);
@@ -83,7 +83,7 @@ impl Numbers {
         before: u64,
         alloc: Global,
     ) -> Result<Vec<&'a Change>, AllocError>
-        ensures last { AreNumbered self.now before (map change_of kept.now.items) → IfOk result (λ found. map (λ c. seen c.now) found.items ≡ values (delta (map change_of kept.now.items) 0)) }
+        ensures last { AreNumbered self.now before (map change_of kept.now.items) → IfOk result (λ found. map (λ c. change_view c.now) found.items ≡ values (delta (map change_of kept.now.items) 0)) }
         ensures proper { IfOk result (λ found. All (λ c. is_proper c.now ≡ true) found.items) }
     {
         numbered_in(&self.places, kept, before, alloc)

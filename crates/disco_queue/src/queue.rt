@@ -4,12 +4,12 @@ ghost use Rattle.std.specs.FinMap.{values};
 ghost use Rattle.std.specs.List.{All};
 ghost use Rattle.std.specs.VecDeque.{deque_capacity, deque_len};
 ghost use Rattle.disco_values.specs.declared.fault.Fault.TheVariants.{OutOfMemory};
-ghost use Rattle.disco_history.specs.Change.{Entry, is_proper, key_of, seen};
+ghost use Rattle.disco_history.specs.Change.{Entry, is_proper, key_of, change_view};
 ghost use Rattle.disco_history.specs.Mentions.{delta};
 ghost use Rattle.disco_queue.specs.Numbers.{AreNumbered, LeavesNone};
 ghost use Rattle.disco_queue.specs.Seen.{change_of};
 ghost use Rattle.disco_queue.specs.Base.{base_after_change, base_after_cleaning, first_before, leaving};
-ghost use Rattle.disco_queue.specs.Queue.{AddsNoneEmpty, AreFilled, HasPlace, HasRoom, IsSameQueue, Keeps, Opens, newest, version};
+ghost use Rattle.disco_queue.specs.Queue.{AddsNoneEmpty, AreFilled, HasNumberPlace, HasRoom, IsSameQueue, KeepsHistory, OpensPlace, newest, version};
 ghost use Rattle.disco_queue.specs.Timed.{Timed, changes};
 
 use crate::kept::Kept;
@@ -73,7 +73,7 @@ impl ChangedQueue {
         ensures max { result.max ≡ max }
         ensures base { result.base ≡ 0 }
         ensures kept { result.kept ≡ [] }
-        ensures history { Keeps result [] }
+        ensures history { KeepsHistory result [] }
     {
         ChangedQueue {
             max,
@@ -101,7 +101,7 @@ impl ChangedQueue {
     /// How many changes the history has: the base and the kept ones. Takes no memory.
     pub fn version(&self) -> u64
         ensures sum { result ≡ version self.now }
-        ensures history { (h : List Timed) → Keeps self.now h → result ≡ length h }
+        ensures history { (h : List Timed) → KeepsHistory self.now h → result ≡ length h }
     {
         self.base + self.kept.len() as u64
     }
@@ -118,11 +118,11 @@ impl ChangedQueue {
     /// place isn't there already; then no place is made.
     pub fn ready(&mut self, key: &Key) -> Result<(), Fault>
         ensures same { IsSameQueue self.old self.new }
-        ensures history { (h : List Timed) → Keeps self.old h → Keeps self.new h }
+        ensures history { (h : List Timed) → KeepsHistory self.old h → KeepsHistory self.new h }
         ensures room { OnOk result (HasRoom self.new) }
-        ensures place { OnOk result (HasPlace key.now self.new) }
-        ensures opens { OnOk result (Opens key.now self.old self.new) }
-        ensures needed { OnErr result (HasRoom self.old → HasPlace key.now self.old → ⊥) }
+        ensures place { OnOk result (HasNumberPlace key.now self.new) }
+        ensures opens { OnOk result (OpensPlace key.now self.old self.new) }
+        ensures needed { OnErr result (HasRoom self.old → HasNumberPlace key.now self.old → ⊥) }
         ensures given_back { OnErr result (self.new.places ≡ self.old.places) }
         ensures memory { IfErr result (λ e. e ≡ OutOfMemory) }
     {
@@ -136,16 +136,16 @@ impl ChangedQueue {
     /// memory: room and place are there after `ready`.
     pub fn push(&mut self, change: Change, now: u64)
         requires room { HasRoom self.old }
-        requires place { HasPlace (key_of (seen change)) self.old }
+        requires place { HasNumberPlace (key_of (change_view change)) self.old }
         requires version { version self.old < 2 ^ 64 - 1 }
         requires proper { is_proper change ≡ true }
         ensures max { self.new.max ≡ self.old.max }
         ensures base { self.new.base ≡ base_after_change self.old.max self.old.base (version self.old + 1) }
-        ensures kept { self.new.kept ≡ newest self.old.max (self.old.kept ++ (seen change, now) ∷ []) }
+        ensures kept { self.new.kept ≡ newest self.old.max (self.old.kept ++ (change_view change, now) ∷ []) }
         ensures version { version self.new ≡ version self.old + 1 }
         ensures empty { AddsNoneEmpty self.old self.new }
-        ensures history { (h : List Timed) → Keeps self.old h → Keeps self.new (h ++ (seen change, now) ∷ []) }
-        ensures history_base { (h : List Timed) → Keeps self.old h → self.new.base ≡ base_after_change self.old.max self.old.base (length (h ++ (seen change, now) ∷ [])) }
+        ensures history { (h : List Timed) → KeepsHistory self.old h → KeepsHistory self.new (h ++ (change_view change, now) ∷ []) }
+        ensures history_base { (h : List Timed) → KeepsHistory self.old h → self.new.base ≡ base_after_change self.old.max self.old.base (length (h ++ (change_view change, now) ∷ [])) }
     {
         let number = self.version() + 1;
         let is_full = self.is_full();
@@ -171,8 +171,8 @@ impl ChangedQueue {
         ensures room { HasRoom self.old → HasRoom self.new }
         ensures grows { self.new.room ≡ self.old.room + result }
         ensures empty { AddsNoneEmpty self.old self.new }
-        ensures history { (h : List Timed) → Keeps self.old h → Keeps self.new h }
-        ensures history_base { (h : List Timed) → Keeps self.old h → self.new.base ≡ base_after_cleaning now retention self.old.base h }
+        ensures history { (h : List Timed) → KeepsHistory self.old h → KeepsHistory self.new h }
+        ensures history_base { (h : List Timed) → KeepsHistory self.old h → self.new.base ≡ base_after_cleaning now retention self.old.base h }
     {
         match now.checked_sub(retention) {
             Some(bound) => self.drop_before(bound),
@@ -183,8 +183,8 @@ impl ChangedQueue {
     /// The last kept change of each key, in the order of the keys. Takes memory for them alone. Refused
     /// only as `OutOfMemory`.
     pub fn last_changes(&self, alloc: Global) -> Result<Vec<&Change>, Fault>
-        ensures kept { IfOk result (λ found. map (λ c. seen c.now) found.items ≡ values (delta (changes self.now.kept) 0)) }
-        ensures history { (h : List Timed) → Keeps self.now h → IfOk result (λ found. map (λ c. seen c.now) found.items ≡ values (delta (changes h) self.now.base)) }
+        ensures kept { IfOk result (λ found. map (λ c. change_view c.now) found.items ≡ values (delta (changes self.now.kept) 0)) }
+        ensures history { (h : List Timed) → KeepsHistory self.now h → IfOk result (λ found. map (λ c. change_view c.now) found.items ≡ values (delta (changes h) self.now.base)) }
         ensures proper { IfOk result (λ found. All (λ c. is_proper c.now ≡ true) found.items) }
         ensures memory { IfErr result (λ e. e ≡ OutOfMemory) }
     {

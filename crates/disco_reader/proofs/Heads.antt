@@ -12,7 +12,7 @@ use Rattle.disco_values.specs.declared.fault.Fault.TheVariants.{OutOfMemory}
 use Rattle.disco_message.specs.declared.limits.Limits.{Limits}
 use Rattle.disco_reader.specs.Found.{IsRead, IsNotRead}
 use Rattle.disco_reader.specs.Replies.{BeginsReply}
-use Rattle.disco_reader.specs.Requests.{Begins}
+use Rattle.disco_reader.specs.Requests.{BeginsWithHead}
 use Rattle.disco_reader.proofs.Known.{kept_for}
 
 few_fields : (u : List ℕ) (spans : List HeaderSpan) (count : ℕ) (fields : List Field) (most : ℕ) → AreFieldsAt u spans count fields → length spans ≤ most → length fields ≤ most
@@ -29,7 +29,7 @@ text_here limits u more text spans len count fields small few within front size 
 )
 
 pub request_here : (limits : Limits) (u : List ℕ) (spans : List HeaderSpan) (line : RequestSpans) (h : RequestHead) → length u ≤ limits.head → length spans ≤ limits.fields → line.len ≤ length u → IsRequestAt u spans line h
-    → (more : List ℕ) → Begins limits (u ++ more) h (drop line.len u ++ more)
+    → (more : List ℕ) → BeginsWithHead limits (u ++ more) h (drop line.len u ++ more)
 request_here limits u spans line h small few within is more =
     let t = text_here limits u more (print_request h) spans line.len line.headers h.fields small few within is.reads.1 is.len is.fields in
     record { reads = (is.reads.0, t.0); fits = t.1; few = t.2 }

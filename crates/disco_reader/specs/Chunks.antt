@@ -30,9 +30,9 @@ abbrev pub ReadsLast : Limits → List ℕ → List ℕ → Type 0
 ReadsLast limits input rest = (after : List ℕ) × HasSize limits 0 input after × ReadsTrailer limits after rest
 
 -- the bytes of chunks
-abbrev pub joined : List (List ℕ) → List ℕ
-joined [] = []
-joined (piece ∷ pieces) = piece ++ joined pieces
+abbrev pub bytes_in_chunks : List (List ℕ) → List ℕ
+bytes_in_chunks [] = []
+bytes_in_chunks (piece ∷ pieces) = piece ++ bytes_in_chunks pieces
 
 -- so many bytes and a line end don't stand there
 abbrev pub LacksChunk : ℕ → List ℕ → Type 0
@@ -56,4 +56,4 @@ NextRefused limits have fault input = ⊥
 
 -- why a body in chunks is refused
 abbrev pub ChunksRefused : Limits → Fault → List ℕ → Type 0
-ChunksRefused limits fault input = (pieces : List (List ℕ)) × (next : List ℕ) × ReadsPieces limits input pieces next × (length (joined pieces) ≤ limits.body) × NextRefused limits (length (joined pieces)) fault next
+ChunksRefused limits fault input = (pieces : List (List ℕ)) × (next : List ℕ) × ReadsPieces limits input pieces next × (length (bytes_in_chunks pieces) ≤ limits.body) × NextRefused limits (length (bytes_in_chunks pieces)) fault next

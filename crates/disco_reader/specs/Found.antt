@@ -16,10 +16,10 @@ use Rattle.disco_message.specs.declared.framing.Framing.{Framing}
 use Rattle.disco_message.specs.declared.received.Extent.{Extent}
 use Rattle.disco_message.specs.declared.received.Extent.TheVariants.{Framed, UntilEnd}
 use Rattle.disco_reader.specs.Bodies.{ReadsBody}
-use Rattle.disco_reader.specs.Chunks.{HasSize, LacksChunk, LineRefused, ReadsChunk, ReadsLast, ReadsPieces, joined}
+use Rattle.disco_reader.specs.Chunks.{HasSize, LacksChunk, LineRefused, ReadsChunk, ReadsLast, ReadsPieces, bytes_in_chunks}
 use Rattle.disco_reader.specs.Parts.{HasNo, BytesRefused, PartRefused}
 use Rattle.disco_reader.specs.Replies.{BeginsReply}
-use Rattle.disco_reader.specs.Requests.{Begins}
+use Rattle.disco_reader.specs.Requests.{BeginsWithHead}
 use Rattle.disco_message.specs.Heading.{Heading, heading}
 use Rattle.disco_message.specs.Received.{Received, received}
 
@@ -82,7 +82,7 @@ Turn limits false old new input left = (next : List ℕ) × HasSize limits 0 inp
 
 -- the body so far is that of the chunks so far
 abbrev pub PiecesSoFar : Limits → List ℕ → List ℕ → Option (List ℕ) → Type 0
-PiecesSoFar limits body input left = (pieces : List (List ℕ)) × (next : List ℕ) × ReadsPieces limits input pieces next × (body ≡ joined pieces) × (left ≡ Some next)
+PiecesSoFar limits body input left = (pieces : List (List ℕ)) × (next : List ℕ) × ReadsPieces limits input pieces next × (body ≡ bytes_in_chunks pieces) × (left ≡ Some next)
 
 -- no chunks up to the last, with the fields behind it, stand at the front of these bytes
 abbrev pub HasNoChunks : Limits → List ℕ → Type 0
@@ -107,10 +107,10 @@ IsNotRead {H} say begins none fault stream = none fault stream ⊎ ((h : H) × (
 
 -- the same of the head of a request
 abbrev pub HeadRead : Limits → List ℕ → Heading → Option (List ℕ) → Type 0
-HeadRead limits stream says left = IsRead heading (Begins limits) stream says left
+HeadRead limits stream says left = IsRead heading (BeginsWithHead limits) stream says left
 
 abbrev pub HeadRefused : Limits → Fault → List ℕ → Type 0
-HeadRefused limits fault stream = IsNotRead heading (Begins limits) (PartRefused limits part.RequestHead) fault stream
+HeadRefused limits fault stream = IsNotRead heading (BeginsWithHead limits) (PartRefused limits part.RequestHead) fault stream
 
 -- and of the head of a reply
 abbrev pub ReplyRead : Limits → List ℕ → Received → Option (List ℕ) → Type 0

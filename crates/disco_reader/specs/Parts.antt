@@ -36,12 +36,12 @@ BytesRefused fields part BadRequest bytes = Never part bytes
 BytesRefused fields part fault bytes = ⊥
 
 -- as many bytes as a part may have, and no whole one
-abbrev pub IsFull : Limits → Part → List ℕ → Type 0
-IsFull limits part bytes = (length bytes ≡ limits.head) × HasNo part bytes
+abbrev pub IsAtLimit : Limits → Part → List ℕ → Type 0
+IsAtLimit limits part bytes = (length bytes ≡ limits.head) × HasNo part bytes
 
 -- why first bytes are refused
 abbrev pub FrontRefused : Limits → Part → Fault → List ℕ → Type 0
-FrontRefused limits part HeadTooLarge front = IsFull limits part front ⊎ Exceeds limits.fields part front
+FrontRefused limits part HeadTooLarge front = IsAtLimit limits part front ⊎ Exceeds limits.fields part front
 FrontRefused limits part BadRequest front = Never part front
 FrontRefused limits part fault front = ⊥
 

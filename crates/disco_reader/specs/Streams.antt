@@ -17,8 +17,8 @@ abbrev pub Came : (List ℕ → Type 0) → List ℕ → Option (List ℕ) → T
 Came IsSo stream left = (given : List ℕ) × Consumes (Some stream) left given × IsSo given
 
 -- the limits that a reader keeps to
-abbrev pub limits_of : {R : Type 0} → Reader R → Limits
-limits_of reader = reader.limits
+abbrev pub reader_limits : {R : Type 0} → Reader R → Limits
+reader_limits reader = reader.limits
 
 -- what it reads from
 abbrev pub source_of : {R : Type 0} → Reader R → R

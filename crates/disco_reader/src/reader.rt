@@ -32,14 +32,14 @@ pub struct Reader<R> {
 }
 
 impl<R: Source> Reader<R> {
-    ghost use Rattle.disco_reader.specs.Streams.{ahead, limits_of, source_of, is_spent};
+    ghost use Rattle.disco_reader.specs.Streams.{ahead, reader_limits, source_of, is_spent};
 
     /// A buffer in front of a source, with nothing read.
     pub fn new(alloc: Global, source: R, limits: Limits) -> Result<Reader<R>, AllocError>
     where
         R: Drop,
         ensures ahead { IfOk result (λ reader. Keeps (R.remaining source) (ahead R.remaining reader)) }
-        ensures limits { IfOk result (λ reader. limits_of reader ≡ limits) }
+        ensures limits { IfOk result (λ reader. reader_limits reader ≡ limits) }
         ensures source { IfOk result (λ reader. source_of reader ≡ source) }
         ensures spent { IfOk result (λ reader. IsFalse (is_spent reader)) }
     {
@@ -63,7 +63,7 @@ impl<R: Source> Reader<R> {
     where
         R: Drop,
         ensures ahead { Keeps (S.remaining source) (ahead S.remaining result) }
-        ensures limits { limits_of result ≡ limits_of self }
+        ensures limits { reader_limits result ≡ reader_limits self }
         ensures source { source_of result ≡ source }
         ensures spent { IsFalse (is_spent result) }
     {
@@ -94,7 +94,7 @@ impl<R: Source> Reader<R> {
     /// Keeps the room of a request that was answered, for the next one.
     pub fn keep(&mut self, request: Request)
         ensures ahead { ahead R.remaining self.new ≡ ahead R.remaining self.old }
-        ensures limits { limits_of self.new ≡ limits_of self.old }
+        ensures limits { reader_limits self.new ≡ reader_limits self.old }
         ensures source { source_of self.new ≡ source_of self.old }
         ensures spent { is_spent self.new ≡ is_spent self.old }
     {
@@ -105,7 +105,7 @@ impl<R: Source> Reader<R> {
     pub fn spend(&mut self)
         ensures spent { IsTrue (is_spent self.new) }
         ensures ahead { ahead R.remaining self.new ≡ ahead R.remaining self.old }
-        ensures limits { limits_of self.new ≡ limits_of self.old }
+        ensures limits { reader_limits self.new ≡ reader_limits self.old }
         ensures source { source_of self.new ≡ source_of self.old }
     {
         self.spent = true;

@@ -95,8 +95,8 @@ impl<R: Source> Reader<R> {
 }
 
 impl<R: Source> Reader<R> {
-    ghost use Rattle.disco_reader.specs.Requests.{HasNone, Takes, Refused};
-    ghost use Rattle.disco_reader.specs.Streams.{ahead, limits_of, source_of, is_spent, Came};
+    ghost use Rattle.disco_reader.specs.Requests.{HasNone, TakesRequest, Refused};
+    ghost use Rattle.disco_reader.specs.Streams.{ahead, reader_limits, source_of, is_spent, Came};
 
     /// What was read of the next request.
     fn stage(&self) -> Stage {
@@ -110,7 +110,7 @@ impl<R: Source> Reader<R> {
     /// Reads a request, refused or not.
     fn try_request(&mut self, alloc: Global) -> Result<Option<Request>, Fault>
         ensures request { IfOk result (λ found. IfSome found (λ request. IfSome (ahead R.remaining self.old) (λ stream.
-            (rest : List ℕ) × Takes self.old.limits stream request rest × (ahead R.remaining self.new ≡ Some rest)))) }
+            (rest : List ℕ) × TakesRequest self.old.limits stream request rest × (ahead R.remaining self.new ≡ Some rest)))) }
         ensures none { IfOk result (λ found. IfNone found (IfSome (ahead R.remaining self.old) (λ stream. stream ≡ []))) }
         ensures refused { IfErr result (λ fault. IfSome (ahead R.remaining self.old) (Refused self.old.limits fault)) }
         ensures broken { IsErrOf result ReadFailed → IfSome (ahead R.remaining self.old) (λ stream. Came (HasNone self.old.limits) stream (R.remaining self.new.source)) }
@@ -136,14 +136,14 @@ impl<R: Source> Reader<R> {
         requires { IsFalse (is_spent self.old) }
         // What is read is the request at the front of the stream, and the rest stays ahead.
         ensures request { IfOk result (λ found. IfSome found (λ request. IfSome (ahead R.remaining self.old) (λ stream.
-            (rest : List ℕ) × Takes (limits_of self.old) stream request rest × (ahead R.remaining self.new ≡ Some rest)))) }
+            (rest : List ℕ) × TakesRequest (reader_limits self.old) stream request rest × (ahead R.remaining self.new ≡ Some rest)))) }
         // Nothing is read only where nothing is left.
         ensures none { IfOk result (λ found. IfNone found (IfSome (ahead R.remaining self.old) (λ stream. stream ≡ []))) }
         // A refusal has its cause in the stream.
-        ensures refused { IfErr result (λ fault. IfSome (ahead R.remaining self.old) (Refused (limits_of self.old) fault)) }
+        ensures refused { IfErr result (λ fault. IfSome (ahead R.remaining self.old) (Refused (reader_limits self.old) fault)) }
         // After a failed read what had come holds no whole request.
-        ensures broken { IsErrOf result ReadFailed → IfSome (ahead R.remaining self.old) (λ stream. Came (HasNone (limits_of self.old)) stream (R.remaining (source_of self.new))) }
-        ensures limits { limits_of self.new ≡ limits_of self.old }
+        ensures broken { IsErrOf result ReadFailed → IfSome (ahead R.remaining self.old) (λ stream. Came (HasNone (reader_limits self.old)) stream (R.remaining (source_of self.new))) }
+        ensures limits { reader_limits self.new ≡ reader_limits self.old }
         // A failed read has raised the count of failures.
         ensures fault { IfErr result (λ fault. IsTrue (is_of_request fault)) }
         ensures cause { Cause ReadFailed (R.failed (source_of self.old)) (R.failed (source_of self.new)) result }

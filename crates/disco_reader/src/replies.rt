@@ -119,7 +119,7 @@ impl<R: Source> Reader<R> {
 
 impl<R: Source> Reader<R> {
     ghost use Rattle.disco_reader.specs.Replies.{HasNoReply, TakesReply, ReplyRefused};
-    ghost use Rattle.disco_reader.specs.Streams.{ahead, limits_of, source_of, is_spent, Came};
+    ghost use Rattle.disco_reader.specs.Streams.{ahead, reader_limits, source_of, is_spent, Came};
 
     /// Reads a reply, refused or not.
     fn try_reply(&mut self, alloc: Global) -> Result<ReceivedReply, Fault>
@@ -144,12 +144,12 @@ impl<R: Source> Reader<R> {
         requires { IsFalse (is_spent self.old) }
         // What is read is the reply at the front of the stream, and the rest stays ahead.
         ensures reply { IfOk result (λ reply. IfSome (ahead R.remaining self.old) (λ stream.
-            (rest : List ℕ) × TakesReply (limits_of self.old) stream reply.head reply.body.items rest × (ahead R.remaining self.new ≡ Some rest))) }
+            (rest : List ℕ) × TakesReply (reader_limits self.old) stream reply.head reply.body.items rest × (ahead R.remaining self.new ≡ Some rest))) }
         // A refusal has its cause in the stream.
-        ensures refused { IfErr result (λ fault. IfSome (ahead R.remaining self.old) (ReplyRefused (limits_of self.old) fault)) }
+        ensures refused { IfErr result (λ fault. IfSome (ahead R.remaining self.old) (ReplyRefused (reader_limits self.old) fault)) }
         // After a failed read what had come holds no whole reply, but for one without an end of its own.
-        ensures broken { IsErrOf result ReadFailed → IfSome (ahead R.remaining self.old) (λ stream. Came (HasNoReply (limits_of self.old)) stream (R.remaining (source_of self.new))) }
-        ensures limits { limits_of self.new ≡ limits_of self.old }
+        ensures broken { IsErrOf result ReadFailed → IfSome (ahead R.remaining self.old) (λ stream. Came (HasNoReply (reader_limits self.old)) stream (R.remaining (source_of self.new))) }
+        ensures limits { reader_limits self.new ≡ reader_limits self.old }
         ensures fault { IfErr result (λ fault. IsTrue (is_of_reply fault)) }
         // A failed read has raised the count of failures.
         ensures cause { Cause ReadFailed (R.failed (source_of self.old)) (R.failed (source_of self.new)) result }

@@ -11,14 +11,14 @@ use Rattle.disco_reconcile.proofs.Telling.{are_as_told}
 use Rattle.disco_reconcile.specs.Courses.{certified_delta, certified_full, plain_delta, plain_full}
 use Rattle.disco_reconcile.specs.Failures.{Gave}
 use Rattle.disco_reconcile.specs.Refreshes.{Refreshes}
-use Rattle.disco_reconcile.specs.State.{Rows}
-use Rattle.disco_reconcile.specs.Steps.{Goes}
+use Rattle.disco_reconcile.specs.State.{CopyRows}
+use Rattle.disco_reconcile.specs.Steps.{GoesThrough}
 use Rattle.disco_reconcile.specs.declared.fetch.Fetched.{Fetched}
 use Rattle.disco_reconcile.specs.declared.kept.Kept.TheVariants.{Plain, Certified}
 use Rattle.disco_reconcile.specs.declared.refreshed.Refreshed.{Refreshed}
 
 module _ {S : Type 0} (gives : S → DocKey → Result Fetched Fault → S → Type 0) (failed : S → ℕ) (f : Form) (before after : S) (result : Result Refreshed Fault) where
-  pub plain_refreshes : (held kept : Option Rows) → Goes (Gave gives failed) plain_delta plain_full f before held result after kept
+  pub plain_refreshes : (held kept : Option CopyRows) → GoesThrough (Gave gives failed) plain_delta plain_full f before held result after kept
       → Refreshes gives failed (record { fetcher = before; form = f; kept = Plain held }) result (record { fetcher = after; form = f; kept = Plain kept })
   plain_refreshes held kept g = record {
     form = refl;
@@ -30,7 +30,7 @@ module _ {S : Type 0} (gives : S → DocKey → Result Fetched Fault → S → T
     keeps = plain_follows f held kept result g.log (are_as_told (Gave gives failed) f g.log before after g.fetched) g.course;
   }
 
-  pub certified_refreshes : (held kept : Option CertifiedCopy) → Goes (Gave gives failed) (certified_delta f) (certified_full f) f before held result after kept
+  pub certified_refreshes : (held kept : Option CertifiedCopy) → GoesThrough (Gave gives failed) (certified_delta f) (certified_full f) f before held result after kept
       → Refreshes gives failed (record { fetcher = before; form = f; kept = Certified held }) result (record { fetcher = after; form = f; kept = Certified kept })
   certified_refreshes held kept g = record {
     form = refl;

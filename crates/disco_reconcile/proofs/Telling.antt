@@ -7,13 +7,13 @@ use Rattle.disco_query.specs.Query.{is_delta}
 use Rattle.disco_query.specs.declared.query.Query.{Query}
 use Rattle.disco_query.specs.declared.key.DocKey.{DocKey}
 use Rattle.disco_reconcile.proofs.Steps.{IsTold, told_is}
-use Rattle.disco_reconcile.specs.Courses.{AreFetched, Exchange, Outcome, outcome}
-use Rattle.disco_reconcile.specs.Told.{Answer, Told, told_by}
+use Rattle.disco_reconcile.specs.Courses.{AreFetched, Exchange, Outcome, outcome_of}
+use Rattle.disco_reconcile.specs.Told.{FetchAnswer, ToldDocument, told_in_answer}
 use Rattle.disco_reconcile.specs.declared.fetch.Fetched.{Fetched}
 use Rattle.disco_reconcile.specs.declared.refreshed.Refreshed.{Refreshed}
 
-abbrev pub IsAsTold : Query → Result Fetched Fault → Answer → Type 0
-IsAsTold q answer told = Gives (λ t. t) told (told_by (is_delta q) answer)
+abbrev pub IsAsTold : Query → Result Fetched Fault → FetchAnswer → Type 0
+IsAsTold q answer told = Gives (λ t. t) told (told_in_answer (is_delta q) answer)
 
 -- each exchange of a log tells what its answer does
 abbrev pub AreAsTold : List Exchange → Type 0
@@ -25,14 +25,14 @@ are_as_told gives f [] old new a = tt
 are_as_told gives f (x ∷ xs) old new a = (a.1.told, are_as_told gives f xs a.0 new a.2)
 
 -- the answer that a told document came from
-pub record From (answer : Result Fetched Fault) (m : Told) : Type 0 where
+pub record From (answer : Result Fetched Fault) (m : ToldDocument) : Type 0 where
   pub fetched : Fetched
   pub answered : answer ≡ Ok fetched
   pub told : IsTold fetched m
 
-pub came_from : (delta : Bool) (answer : Result Fetched Fault) (m : Told) → told_by delta answer ≡ Ok (Some m) → From answer m
+pub came_from : (delta : Bool) (answer : Result Fetched Fault) (m : ToldDocument) → told_in_answer delta answer ≡ Ok (Some m) → From answer m
 came_from delta (Err e) m t = absurd (cc)
 came_from delta (Ok x) m t = record { fetched = x; answered = refl; told = told_is delta x m t }
 
-pub kept_is : {K : Type 0} (result : Result Refreshed Fault) (kept : Option K) (o : Outcome K) → outcome result kept ≡ o → kept ≡ o.kept
+pub kept_is : {K : Type 0} (result : Result Refreshed Fault) (kept : Option K) (o : Outcome K) → outcome_of result kept ≡ o → kept ≡ o.kept
 kept_is result kept o e = ap (λ x. x.kept) e

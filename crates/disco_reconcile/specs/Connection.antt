@@ -43,11 +43,11 @@ writer_of h = h.writer
 abbrev pub failures_of : {R W : Type 0} → HttpFetch R W → ℕ
 failures_of h = h.failures
 
-abbrev pub is_spent : {R W : Type 0} → HttpFetch R W → Bool
-is_spent h = h.spent
+abbrev pub is_fetch_spent : {R W : Type 0} → HttpFetch R W → Bool
+is_fetch_spent h = h.spent
 
 -- what was fetched is the reply at the front of what stands ahead, and the rest stays ahead; it says whether more can be fetched
-pub record IsReply (limits : Limits) (x : Fetched) (stream : List ℕ) (left : Option (List ℕ)) (spent : Bool) : Type 0 where
+pub record IsFetchedReply (limits : Limits) (x : Fetched) (stream : List ℕ) (left : Option (List ℕ)) (spent : Bool) : Type 0 where
   pub says : Received
   pub rest : List ℕ
   pub takes : TakesReply limits stream says x.body rest
@@ -59,27 +59,27 @@ pub record IsReply (limits : Limits) (x : Fetched) (stream : List ℕ) (left : O
 -- why a fetch fails, and as what: nothing more was to be fetched, read or written, a write failed, or no reply stands ahead
 abbrev pub Fails : {R W : Type 0} → (R → Option (List ℕ)) → (W → ℕ) → HttpFetch R W → Fault → HttpFetch R W → Type 0
 Fails remaining failed old fault new =
-    ((is_spent old ≡ true) × (fault ≡ NotFetched))
+    ((is_fetch_spent old ≡ true) × (fault ≡ NotFetched))
     ⊎ (((stream.is_spent (reader_of old) ≡ true) × (fault ≡ NotFetched))
-    ⊎ (((sinks.is_spent (writer_of old) ≡ true) × (fault ≡ NotFetched))
+    ⊎ (((sinks.is_writer_spent (writer_of old) ≡ true) × (fault ≡ NotFetched))
     ⊎ (((fault ≡ WriteFailed) × Raises (failed (sink_of (writer_of old))) (failed (sink_of (writer_of new))))
-    ⊎ (IsTrue (is_of_reply fault) × IfSome (stream.ahead remaining (reader_of old)) (ReplyRefused (stream.limits_of (reader_of old)) fault)))))
+    ⊎ (IsTrue (is_of_reply fault) × IfSome (stream.ahead remaining (reader_of old)) (ReplyRefused (stream.reader_limits (reader_of old)) fault)))))
 
 -- a failed read raised the count of the source, or found it at its end, and what had come holds no whole reply, but for one that goes on to the end of the input
 abbrev pub BreaksOff : {R W : Type 0} → (R → Option (List ℕ)) → (R → ℕ) → HttpFetch R W → Fault → HttpFetch R W → Type 0
 BreaksOff remaining failed old fault new =
     fault ≡ ReadFailed → Raises (failed (stream.source_of (reader_of old))) (failed (stream.source_of (reader_of new)))
-    × IfSome (stream.ahead remaining (reader_of old)) (λ bytes. stream.Came (HasNoReply (stream.limits_of (reader_of old))) bytes (remaining (stream.source_of (reader_of new))))
+    × IfSome (stream.ahead remaining (reader_of old)) (λ bytes. stream.Came (HasNoReply (stream.reader_limits (reader_of old))) bytes (remaining (stream.source_of (reader_of new))))
 
 -- the request was written and the reply taken, on a connection that isn't spent
 pub record Fetches {R W : Type 0} (remaining : R → Option (List ℕ)) (contents : W → Option (List ℕ)) (old : HttpFetch R W) (k : DocKey) (x : Fetched) (new : HttpFetch R W) : Type 0 where
-  pub unspent : is_spent old ≡ false
+  pub unspent : is_fetch_spent old ≡ false
   pub asked : Appends (contents (sink_of (writer_of old))) (contents (sink_of (writer_of new))) (request_text (is_delta k.query) k.form)
-  pub reply : IfSome (stream.ahead remaining (reader_of old)) (λ bytes. IsReply (stream.limits_of (reader_of old)) x bytes (stream.ahead remaining (reader_of new)) (is_spent new))
-  pub limits : stream.limits_of (reader_of new) ≡ stream.limits_of (reader_of old)
+  pub reply : IfSome (stream.ahead remaining (reader_of old)) (λ bytes. IsFetchedReply (stream.reader_limits (reader_of old)) x bytes (stream.ahead remaining (reader_of new)) (is_fetch_spent new))
+  pub limits : stream.reader_limits (reader_of new) ≡ stream.reader_limits (reader_of old)
   pub count : failures_of new ≡ failures_of old
 
 -- what a fetch comes to; one that fails spends the connection
 abbrev pub FetchesBy : {R W : Type 0} → (R → Option (List ℕ)) → (R → ℕ) → (W → Option (List ℕ)) → (W → ℕ) → HttpFetch R W → DocKey → Result Fetched Fault → HttpFetch R W → Type 0
 FetchesBy remaining read_failed contents write_failed old k (Ok x) new = Fetches remaining contents old k x new
-FetchesBy remaining read_failed contents write_failed old k (Err e) new = (is_spent new ≡ true) × Fails remaining write_failed old e new × BreaksOff remaining read_failed old e new
+FetchesBy remaining read_failed contents write_failed old k (Err e) new = (is_fetch_spent new ≡ true) × Fails remaining write_failed old e new × BreaksOff remaining read_failed old e new

@@ -12,17 +12,17 @@ use Rattle.disco_reconcile.specs.declared.kept.Kept.{Kept}
 use Rattle.disco_reconcile.specs.declared.kept.Kept.TheVariants.{Plain, Certified}
 
 -- the records of a copy
-abbrev pub Rows : Type 0
-Rows = FinMap key_cmp Row
+abbrev pub CopyRows : Type 0
+CopyRows = FinMap key_cmp Row
 
 -- its fetcher, the form that it asks for, and what it keeps, by its kind
-pub record State (S : Type 0) : Type 0 where
+pub record ClientState (S : Type 0) : Type 0 where
   pub fetcher : S
   pub form : Form
   pub kept : Kept
 
 -- the records that a client has, if it has a copy
-abbrev pub copy_of : Kept → Option Rows
+abbrev pub copy_of : Kept → Option CopyRows
 copy_of (Plain held) = held
 copy_of (Certified held) = option_map (λ k. k.copy) held
 
@@ -32,7 +32,7 @@ known_in (Plain held) = None
 known_in (Certified held) = option_map (λ k. k.known) held
 
 -- only what the checker asks for: nothing here is to be believed
-abbrev pub coded_state : {S : Type 0} → Coded S → Coded (State S)
+abbrev pub coded_state : {S : Type 0} → Coded S → Coded (ClientState S)
 coded_state {S} s =
     code_by (S × (Form × Kept)) (coded× s (coded× form.the_row.coded kept.the_row.coded))
     (λ c. (c.fetcher, (c.form, c.kept))) (λ p. record { fetcher = p.0; form = p.1.0; kept = p.1.1 }) (λ _. refl)

@@ -10,13 +10,13 @@ use Rattle.disco_wire.specs.declared.wire.Shape.TheVariants.{Many, App, One}
 use Rattle.disco_reconcile.specs.declared.fetch.Fetched.{Fetched}
 
 -- a document of many apps, and its certificate, if it has one
-pub record Told : Type 0 where
+pub record ToldDocument : Type 0 where
   pub meaning : Meaning
   pub cert : Option Cert
 
 -- a document, that there is none, or why nothing is told
-abbrev pub Answer : Type 0
-Answer = Result (Option Told) Fault
+abbrev pub FetchAnswer : Type 0
+FetchAnswer = Result (Option ToldDocument) Fault
 
 -- a certificate of another version than the document's own is none (this project's own rule)
 abbrev pub agreed : Option ℕ → Option Cert → Option Cert
@@ -24,13 +24,13 @@ agreed version None = None
 agreed None (Some c) = Some c
 agreed (Some v) (Some c) = if c.version == v then Some c else None
 
-abbrev pub of_shape : Shape → Meaning → Option Cert → Answer
+abbrev pub of_shape : Shape → Meaning → Option Cert → FetchAnswer
 of_shape Many m cert = Ok (Some (record { meaning = m; cert = agreed m.version cert }))
 of_shape App m cert = Err BadDocument
 of_shape One m cert = Err BadDocument
 
 -- a document of many apps with its certificate, or that the bytes are none
-abbrev pub told_of : Option Cert → Result Meaning Fault → Answer
+abbrev pub told_of : Option Cert → Result Meaning Fault → FetchAnswer
 told_of cert (Err e) = Err BadDocument
 told_of cert (Ok m) = of_shape m.shape m cert
 
@@ -44,6 +44,6 @@ failed_as OutOfMemory = OutOfMemory
 failed_as _ = NotFetched
 
 -- what an answer tells of the delta, or of all apps
-abbrev pub told_by : Bool → Result Fetched Fault → Answer
-told_by delta (Err e) = Err (failed_as e)
-told_by delta (Ok x) = if x.status == 200 then told_of x.cert (document_of x.body) else if is_none delta x.status then Ok None else Err NotFetched
+abbrev pub told_in_answer : Bool → Result Fetched Fault → FetchAnswer
+told_in_answer delta (Err e) = Err (failed_as e)
+told_in_answer delta (Ok x) = if x.status == 200 then told_of x.cert (document_of x.body) else if is_none delta x.status then Ok None else Err NotFetched

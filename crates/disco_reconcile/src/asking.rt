@@ -5,7 +5,7 @@ ghost use Rattle.disco_wire.specs.Documents.{document_of};
 ghost use Rattle.disco_query.specs.declared.query.Query.TheVariants.{Apps, Delta};
 ghost use Rattle.disco_reconcile.specs.Steps.{IsAsked, told_document};
 ghost use Rattle.disco_reconcile.specs.Failures.{Gave};
-ghost use Rattle.disco_reconcile.specs.Told.{agreed, is_none, told_by, told_of};
+ghost use Rattle.disco_reconcile.specs.Told.{agreed, is_none, told_in_answer, told_of};
 
 use crate::fetch::{Fetch, Fetched};
 use disco_query::{DocKey, Query};
@@ -66,7 +66,7 @@ fn told(
     delta: bool,
     answer: Result<Fetched, Fault>,
 ) -> Result<Option<Document>, Fault>
-    ensures { Gives (option_map told_document) result (told_by delta answer) }
+    ensures { Gives (option_map told_document) result (told_in_answer delta answer) }
 {
     match answer {
         Ok(fetched) => {

@@ -3,7 +3,7 @@ ghost use Rattle.std.specs.Prelude.{◌≡◌};
 ghost use Rattle.disco_wire.specs.declared.wire.Shape.TheVariants.{Many};
 ghost use Rattle.disco_reconcile.specs.Courses.{certified_delta, certified_full};
 ghost use Rattle.disco_reconcile.specs.Failures.{Gave};
-ghost use Rattle.disco_reconcile.specs.Steps.{Goes, IsOverlaid, IsPut, IsStep, TakesFull, told_document};
+ghost use Rattle.disco_reconcile.specs.Steps.{GoesThrough, IsOverlaid, IsPut, IsStep, TakesFull, told_document};
 
 use crate::asking::{Document, ask};
 use crate::fetch::Fetch;
@@ -97,7 +97,7 @@ pub(crate) fn refresh<F: Fetch>(
     form: Form,
     held: &mut Option<CertifiedCopy>,
 ) -> Result<Refreshed, Fault>
-    ensures { Goes (Gave F.gives F.failed) (certified_delta form) (certified_full form) form fetcher.old held.old result fetcher.new held.new }
+    ensures { GoesThrough (Gave F.gives F.failed) (certified_delta form) (certified_full form) form fetcher.old held.old result fetcher.new held.new }
 {
     let done = match held {
         Some(copy) => match take_delta(alloc, fetcher, form, copy)? {

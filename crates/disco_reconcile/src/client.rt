@@ -25,9 +25,9 @@ pub struct Client<F> {
 }
 
 impl<F> Model for Client<F> {
-    ghost use Rattle.disco_reconcile.specs.State.{State, coded_state};
+    ghost use Rattle.disco_reconcile.specs.State.{ClientState, coded_state};
 
-    ghost Value = { State F };
+    ghost Value = { ClientState F };
 
     ghost coded = { coded_state F.code };
 

@@ -5,9 +5,9 @@ ghost use Rattle.disco_values.specs.declared.fault.Fault.TheVariants.{OutOfMemor
 ghost use Rattle.disco_query.specs.Query.{is_delta};
 ghost use Rattle.disco_reader.specs.Causes.{Raises};
 ghost use Rattle.disco_reader.specs.Replies.{TakesReply};
-ghost use Rattle.disco_reader.specs.Streams.{ahead, limits_of};
+ghost use Rattle.disco_reader.specs.Streams.{ahead, reader_limits};
 ghost use Rattle.disco_http.specs.Sinks.{sink_of};
-ghost use Rattle.disco_reconcile.specs.Connection.{BreaksOff, Fails, FetchesBy, failures_of, is_spent, reader_of, request_text, writer_of};
+ghost use Rattle.disco_reconcile.specs.Connection.{BreaksOff, Fails, FetchesBy, failures_of, is_fetch_spent, reader_of, request_text, writer_of};
 
 use crate::fetch::{Fetch, Fetched};
 use disco_http::Writer;
@@ -54,7 +54,7 @@ impl<R: Source + Drop, W: Sink + Drop> HttpFetch<R, W> {
         ensures reader { reader_of result ≡ reader }
         ensures writer { writer_of result ≡ writer }
         ensures failures { failures_of result ≡ 0 }
-        ensures spent { is_spent result ≡ false }
+        ensures spent { is_fetch_spent result ≡ false }
     {
         HttpFetch {
             alloc,
@@ -70,11 +70,11 @@ impl<R: Source, W: Sink> HttpFetch<R, W> {
     /// Writes the request in one write, and reads the reply.
     fn exchange(&mut self, key: &DocKey) -> Result<ReceivedReply, Fault>
         ensures failures { self.new.failures ≡ self.old.failures }
-        ensures limits { limits_of self.new.reader ≡ limits_of self.old.reader }
+        ensures limits { reader_limits self.new.reader ≡ reader_limits self.old.reader }
         ensures fresh { OnOk result (self.old.spent ≡ false) }
         ensures asked { OnOk result (Appends (W.contents (sink_of self.old.writer)) (W.contents (sink_of self.new.writer)) (request_text (is_delta key.now.query) key.now.form)) }
         ensures reply { IfOk result (λ reply. IfSome (ahead R.remaining self.old.reader) (λ stream.
-            (rest : List ℕ) × TakesReply (limits_of self.old.reader) stream reply.head reply.body.items rest × (ahead R.remaining self.new.reader ≡ Some rest))) }
+            (rest : List ℕ) × TakesReply (reader_limits self.old.reader) stream reply.head reply.body.items rest × (ahead R.remaining self.new.reader ≡ Some rest))) }
         ensures why { IfErr result (λ fault. Fails R.remaining W.failed self.old fault self.new) }
         ensures reads { IfErr result (λ fault. BreaksOff R.remaining R.failed self.old fault self.new) }
     {

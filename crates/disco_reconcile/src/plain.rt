@@ -1,7 +1,7 @@
 //! A refresh of a plain client, as Eureka's.
 ghost use Rattle.disco_reconcile.specs.Courses.{plain_delta, plain_full};
 ghost use Rattle.disco_reconcile.specs.Failures.{Gave};
-ghost use Rattle.disco_reconcile.specs.Steps.{Goes, IsStep, TakesFull};
+ghost use Rattle.disco_reconcile.specs.Steps.{GoesThrough, IsStep, TakesFull};
 
 use crate::asking::ask;
 use crate::fetch::Fetch;
@@ -61,7 +61,7 @@ pub(crate) fn refresh<F: Fetch>(
     form: Form,
     held: &mut Option<Copy>,
 ) -> Result<Refreshed, Fault>
-    ensures { Goes (Gave F.gives F.failed) plain_delta plain_full form fetcher.old held.old result fetcher.new held.new }
+    ensures { GoesThrough (Gave F.gives F.failed) plain_delta plain_full form fetcher.old held.old result fetcher.new held.new }
 {
     let done = match held {
         Some(copy) => match take_delta(alloc, fetcher, form, copy)? {

@@ -21,7 +21,7 @@ use Rattle.disco_history.specs.Held.{entry_of}
 use Rattle.disco_history.specs.declared.held.Held.{Held}
 use Rattle.disco_history.proofs.PlaceLemmas.{values_filled}
 use Rattle.disco_history.proofs.Sorted.{Own, own}
-use Rattle.disco_registry.specs.Records.{AreInPlace, key_in, mentions_in}
+use Rattle.disco_registry.specs.Records.{AreInPlace, key_of_held, mentions_held}
 
 abbrev compared : List ℕ → List ℕ → Ordering
 compared = slice_cmp nat_cmp
@@ -84,13 +84,13 @@ Entries = List (Key × Option Held)
 
 -- each record stands under its key
 abbrev AreKeyed : Entries → Type 0
-AreKeyed es = AllByRecursion (λ (e : Key × Option Held). IfSome e.1 (λ h. key_in h ≡ e.0)) es
+AreKeyed es = AllByRecursion (λ (e : Key × Option Held). IfSome e.1 (λ h. key_of_held h ≡ e.0)) es
 
-keyed_entries : (f : Key → Option (Option Held)) (es : Entries) → Own f es → ((q : Key) (h : Held) → f q ≡ Some (Some h) → key_in h ≡ q) → AreKeyed es
+keyed_entries : (f : Key → Option (Option Held)) (es : Entries) → Own f es → ((q : Key) (h : Held) → f q ≡ Some (Some h) → key_of_held h ≡ q) → AreKeyed es
 keyed_entries f [] own keyed = tt
 keyed_entries f (e ∷ es) own keyed = (one e.1 own.0, keyed_entries f es own.1 keyed)
   where
-    one : (o : Option Held) → f e.0 ≡ Some o → IfSome o (λ h. key_in h ≡ e.0)
+    one : (o : Option Held) → f e.0 ≡ Some o → IfSome o (λ h. key_of_held h ≡ e.0)
     one None is = tt
     one (Some h) is = keyed e.0 h is
 
@@ -102,7 +102,7 @@ in_app a (e ∷ es) keyed = one (range_contains key_cmp (Included (lowest a)) (E
     between_app : Entries
     between_app = entries_between key_cmp (Included (lowest a)) (Excluded (past a)) es
 
-    one : (b : Bool) (o : Option Held) → b ≡ bytes_eq e.0.app a → IfSome o (λ h. key_in h ≡ e.0) → filter_map (λ (e : Key × Option Held). option_map entry_of e.1) between_app ≡ filter (is_of_app a) (filter_map (λ (e : Key × Option Held). option_map entry_of e.1) es)
+    one : (b : Bool) (o : Option Held) → b ≡ bytes_eq e.0.app a → IfSome o (λ h. key_of_held h ≡ e.0) → filter_map (λ (e : Key × Option Held). option_map entry_of e.1) between_app ≡ filter (is_of_app a) (filter_map (λ (e : Key × Option Held). option_map entry_of e.1) es)
         → filter_map (λ (e : Key × Option Held). option_map entry_of e.1) (cond b ((e.0, o) ∷ between_app) between_app) ≡ filter (is_of_app a) (cons_option (option_map entry_of o) (filter_map (λ (e : Key × Option Held). option_map entry_of e.1) es))
     one true None is key ih = ih
     one false None is key ih = ih
@@ -117,7 +117,7 @@ in_app a (e ∷ es) keyed = one (range_contains key_cmp (Included (lowest a)) (E
 
 -- what is shown between the keys of an app is what is held of it
 pub of_app : (p : FinMap key_cmp (Option Held)) (next last : Option Held) (a : List ℕ) → AreInPlace p next last
-    → filter_map (λ (e : Key × Option Held). option_map entry_of e.1) (entries_between key_cmp (Included (lowest a)) (Excluded (past a)) (entries p)) ≡ filter (is_of_app a) (values (mentions_in p))
+    → filter_map (λ (e : Key × Option Held). option_map entry_of e.1) (entries_between key_cmp (Included (lowest a)) (Excluded (past a)) (entries p)) ≡ filter (is_of_app a) (values (mentions_held p))
 of_app p next last a placed =
     let keyed = keyed_entries (λ q. find key_cmp q (entries p)) (entries p) (own (entries p) (entries_sorted p)) (λ q h is. placed.keyed q h (get-entries p q ∙ is)) in
     in_app a (entries p) keyed ∙ ap (filter (is_of_app a)) (sym (values_filled entry_of p))

@@ -12,20 +12,20 @@ use Rattle.disco_values.specs.declared.fault.Fault.{Fault}
 use Rattle.disco_values.specs.declared.fault.Fault.TheVariants.{TooManyInstances}
 use Rattle.disco_values.specs.declared.key.Key.{Key}
 use Rattle.disco_history.specs.Change.{Entry}
-use Rattle.disco_registry.specs.Accept.{Limits, accepts, asked, if_left, is_new, limits_of, metadata_added}
+use Rattle.disco_registry.specs.Accept.{Limits, accepts, change_asked, if_left, is_new, limits_of, metadata_added}
 use Rattle.disco_history.specs.Held.{record_at, seen_record}
 use Rattle.disco_registry.specs.Op.{register}
 use Rattle.disco_registry.specs.Settle.{settle}
-use Rattle.disco_registry.specs.State.{State}
+use Rattle.disco_registry.specs.State.{RegistryState}
 
 -- a change that is asked for, with a version left or none
 pub left_version : (limits : Limits) (version : ℕ) (c : Entry) (a : Result (Option Entry) Fault) → a ≡ Ok (Some c) → version < limits.versions → if_left limits version a ≡ Ok (Some c)
 left_version limits version c a e left = ap (if_left limits version) e ∙ grind (arith, nat_tests, left)
 
-pub accepted_new : (s : State) (p : Row) (now : ℕ) → (is_new (record_at s.held p.key) && not (nat_lt (len s.held) s.instances)) ≡ false → s.version < s.versions
+pub accepted_new : (s : RegistryState) (p : Row) (now : ℕ) → (is_new (record_at s.held p.key) && not (nat_lt (len s.held) s.instances)) ≡ false → s.version < s.versions
     → accepts s (register p) now ≡ Ok (Some (settle (record_at s.held p.key) p now, Added))
 accepted_new s p now place left =
-    left_version (limits_of s) s.version (settle (record_at s.held p.key) p now, Added) (asked (limits_of s) (record_at s.held) (len s.held) (register p) now)
+    left_version (limits_of s) s.version (settle (record_at s.held p.key) p now, Added) (change_asked (limits_of s) (record_at s.held) (len s.held) (register p) now)
     (ap (λ b. cond b (Err TooManyInstances) (Ok (Some (settle (record_at s.held p.key) p now, Added)))) place) left
 
 pub metadata_asked : (o : Option Row) (r : Row) (entries : List (List ℕ × List ℕ)) (now : ℕ) → o ≡ Some r → metadata_added o entries now ≡ Ok (Some (settle (Some r) (record r { metadata = with_entries r.metadata entries }) now, Added))

@@ -12,11 +12,11 @@ use Rattle.disco_values.specs.declared.action.Action.TheVariants.{Added, Modifie
 use Rattle.disco_values.specs.declared.fault.Fault.{Fault}
 use Rattle.disco_values.specs.declared.fault.Fault.TheVariants.{OutOfMemory, BadStatus, NotFound, VersionsSpent, TooManyInstances}
 use Rattle.disco_history.specs.Change.{Entry}
-use Rattle.disco_history.specs.Registry.{reg}
+use Rattle.disco_history.specs.Registry.{registry_of}
 use Rattle.disco_history.specs.Held.{record_at}
 use Rattle.disco_registry.specs.Op.{Ask, register, cancel, renew, set_status, drop_status, add_metadata}
 use Rattle.disco_registry.specs.Settle.{settle}
-use Rattle.disco_registry.specs.State.{State}
+use Rattle.disco_registry.specs.State.{RegistryState}
 
 -- how many versions and how many instances there may be
 pub record Limits : Type 0 where
@@ -29,14 +29,14 @@ is_new None = true
 is_new (Some r) = false
 
 -- the record goes
-abbrev pub cancelled : Option Row → ℕ → Result (Option Entry) Fault
-cancelled None now = Err NotFound
-cancelled (Some r) now = Ok (Some (cancelled_at r now, Deleted))
+abbrev pub cancel_accepted : Option Row → ℕ → Result (Option Entry) Fault
+cancel_accepted None now = Err NotFound
+cancel_accepted (Some r) now = Ok (Some (cancelled_at r now, Deleted))
 
 -- an instance of unknown status has no lease to renew
-abbrev pub renewed : Option Row → Result (Option Entry) Fault
-renewed None = Err NotFound
-renewed (Some r) = if is_same r.status Unknown then Err NotFound else Ok None
+abbrev pub renewal_accepted : Option Row → Result (Option Entry) Fault
+renewal_accepted None = Err NotFound
+renewal_accepted (Some r) = if is_same r.status Unknown then Err NotFound else Ok None
 
 -- the status is changed, and with it the override
 abbrev pub status_set : Option Status → Option Row → ℕ → Result (Option Entry) Fault
@@ -61,14 +61,14 @@ metadata_added None entries now = Err NotFound
 metadata_added (Some r) entries now = Ok (Some (settle (Some r) (record r { metadata = with_entries r.metadata entries }) now, Added))
 
 -- the change that is asked for or none, or the first cause against it, by the record of each key and the number of records
-abbrev pub asked : Limits → (Key → Option Row) → ℕ → Ask → ℕ → Result (Option Entry) Fault
-asked limits held count (register p) now =
+abbrev pub change_asked : Limits → (Key → Option Row) → ℕ → Ask → ℕ → Result (Option Entry) Fault
+change_asked limits held count (register p) now =
     if is_new (held p.key) && not (nat_lt count (limits.instances)) then Err TooManyInstances else Ok (Some (settle (held p.key) p now, Added))
-asked limits held count (cancel k) now = cancelled (held k) now
-asked limits held count (renew k) now = renewed (held k)
-asked limits held count (set_status k text) now = status_set (status_named text) (held k) now
-asked limits held count (drop_status k text) now = override_dropped (status_given text) (held k) now
-asked limits held count (add_metadata k entries) now = metadata_added (held k) entries now
+change_asked limits held count (cancel k) now = cancel_accepted (held k) now
+change_asked limits held count (renew k) now = renewal_accepted (held k)
+change_asked limits held count (set_status k text) now = status_set (status_named text) (held k) now
+change_asked limits held count (drop_status k text) now = override_dropped (status_given text) (held k) now
+change_asked limits held count (add_metadata k entries) now = metadata_added (held k) entries now
 
 -- a change needs a version that is left
 abbrev pub if_left : Limits → ℕ → Result (Option Entry) Fault → Result (Option Entry) Fault
@@ -78,20 +78,20 @@ if_left limits version (Ok (Some c)) = if nat_lt version (limits.versions) then 
 
 -- what an operation does to these records at a version
 abbrev pub accept : Limits → (Key → Option Row) → ℕ → ℕ → Ask → ℕ → Result (Option Entry) Fault
-accept limits held count version ask now = if_left limits version (asked limits held count ask now)
+accept limits held count version ask now = if_left limits version (change_asked limits held count ask now)
 
 -- what it does after a history: to the history's registry
 abbrev pub accept_after : Limits → List Entry → Ask → ℕ → Result (Option Entry) Fault
-accept_after limits h ask now = accept limits (get (reg h)) (len (reg h)) (length h) ask now
+accept_after limits h ask now = accept limits (get (registry_of h)) (len (registry_of h)) (length h) ask now
 
 -- the limits of a registry
-abbrev pub limits_of : State → Limits
+abbrev pub limits_of : RegistryState → Limits
 limits_of s = record { versions = s.versions; instances = s.instances }
 
 -- what it does to a registry
-abbrev pub accepts : State → Ask → ℕ → Result (Option Entry) Fault
+abbrev pub accepts : RegistryState → Ask → ℕ → Result (Option Entry) Fault
 accepts s ask now = accept (limits_of s) (record_at s.held) (len s.held) s.version ask now
 
 -- memory may always be refused, any other fault comes only as the rules have it
-abbrev pub Refuses : State → Ask → ℕ → Fault → Type 0
-Refuses s ask now e = e ≢ OutOfMemory → accepts s ask now ≡ Err e
+abbrev pub MayRefuse : RegistryState → Ask → ℕ → Fault → Type 0
+MayRefuse s ask now e = e ≢ OutOfMemory → accepts s ask now ≡ Err e

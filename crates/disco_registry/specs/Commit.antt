@@ -5,21 +5,21 @@ use Rattle.disco_values.specs.Key.{key_cmp}
 use Rattle.disco_instance.specs.Row.{row}
 use Rattle.disco_values.specs.declared.fault.Fault.{Fault}
 use Rattle.disco_values.specs.declared.key.Key.{Key}
-use Rattle.disco_history.specs.Change.{Entry, is_proper, key_of, seen}
+use Rattle.disco_history.specs.Change.{Entry, is_proper, key_of, change_view}
 use Rattle.disco_history.specs.Registry.{put_of}
 use Rattle.disco_history.specs.declared.change.Change.{Change}
 use Rattle.disco_history.specs.declared.change.Change.TheVariants.{Put, Gone}
-use Rattle.disco_registry.specs.State.{State}
+use Rattle.disco_registry.specs.State.{RegistryState}
 use Rattle.disco_registry.specs.declared.op.Applied.{Applied}
 use Rattle.disco_registry.specs.declared.op.Applied.TheVariants.{Changed, Same}
 
 -- there is a place for the record that is put, if there is one
-abbrev pub HasPlaceFor : State → Option Entry → Type 0
+abbrev pub HasPlaceFor : RegistryState → Option Entry → Type 0
 HasPlaceFor s None = Unit {0}
 HasPlaceFor s (Some e) = get s.held (key_of e) ≡ None → s.next ≡ Some (key_of e)
 
 -- the registry can make the change that is ready, if there is one, without memory
-abbrev pub IsReady : State → Option Entry → Type 0
+abbrev pub IsReady : RegistryState → Option Entry → Type 0
 IsReady s None = Unit {0}
 IsReady s (Some c) = (s.version < s.versions) × HasPlaceFor s (put_of c)
 
@@ -29,21 +29,21 @@ IsPrepared None kept = Unit {0}
 IsPrepared (Some (Put action rec)) kept = let e : Entry = (row rec.value, action) in (put_of e ≡ Some e) × (kept ≡ Some e)
 IsPrepared (Some (Gone rec)) kept = Unit {0}
 
-abbrev put_at : FinMap key_cmp Entry → Key → Option Entry → FinMap key_cmp Entry
-put_at m k None = remove m k
-put_at m k (Some e) = insert m k e
+abbrev put_or_removed : FinMap key_cmp Entry → Key → Option Entry → FinMap key_cmp Entry
+put_or_removed m k None = remove m k
+put_or_removed m k (Some e) = insert m k e
 
 -- the mentions after a change, if there is one: its record goes in, or out
 abbrev pub held_after : FinMap key_cmp Entry → Option Entry → FinMap key_cmp Entry
 held_after m None = m
-held_after m (Some c) = put_at m (key_of c) (put_of c)
+held_after m (Some c) = put_or_removed m (key_of c) (put_of c)
 
 abbrev pub version_after : ℕ → Option Entry → ℕ
 version_after v None = v
 version_after v (Some c) = v + 1
 
 -- the registry has made this change, if there is one, and no other
-pub record Takes (old : State) (c : Option Entry) (new : State) : Type 0 where
+pub record Takes (old : RegistryState) (c : Option Entry) (new : RegistryState) : Type 0 where
   pub held : new.held ≡ held_after old.held c
   pub version : new.version ≡ version_after old.version c
   pub versions : new.versions ≡ old.versions
@@ -51,7 +51,7 @@ pub record Takes (old : State) (c : Option Entry) (new : State) : Type 0 where
 
 -- the change that was made, if any
 abbrev pub done_by : Applied → Option Entry
-done_by (Changed c) = Some (seen c)
+done_by (Changed c) = Some (change_view c)
 done_by Same = None
 
 -- that change is no put marked DELETED

@@ -14,25 +14,25 @@ pub record Contents : Type 0 where
   pub held : FinMap key_cmp Entry
   pub next : Option Key
 
-abbrev pub key_in : Held → Key
-key_in h = h.rec.value.key
+abbrev pub key_of_held : Held → Key
+key_of_held h = h.rec.value.key
 
-abbrev pub mentions_in : FinMap key_cmp (Option Held) → FinMap key_cmp Entry
-mentions_in p = filled_in entry_of p
+abbrev pub mentions_held : FinMap key_cmp (Option Held) → FinMap key_cmp Entry
+mentions_held p = filled_in entry_of p
 
 -- the place of the record that is put next stands empty
-abbrev pub HasPlace : FinMap key_cmp (Option Held) → Option Held → Type 0
-HasPlace p None = Unit {0}
-HasPlace p (Some h) = get p (key_in h) ≡ Some None
+abbrev pub HasNextPlace : FinMap key_cmp (Option Held) → Option Held → Type 0
+HasNextPlace p None = Unit {0}
+HasNextPlace p (Some h) = get p (key_of_held h) ≡ Some None
 
 -- a record is the one that is held under its key
 abbrev pub IsHeld : FinMap key_cmp (Option Held) → Option Held → Type 0
 IsHeld p None = Unit {0}
-IsHeld p (Some h) = get (mentions_in p) (key_in h) ≡ Some (entry_of h)
+IsHeld p (Some h) = get (mentions_held p) (key_of_held h) ≡ Some (entry_of h)
 
 abbrev pub IsKeyOf : Option Held → Key → Type 0
 IsKeyOf None q = ⊥
-IsKeyOf (Some h) q = q ≡ key_in h
+IsKeyOf (Some h) q = q ≡ key_of_held h
 
 -- there is a record in the place, and it has this id
 abbrev pub shows_id : List ℕ → Option Held → Bool
@@ -42,12 +42,12 @@ shows_id id (Some h) = bytes_eq h.rec.value.key.id id
 -- the record, where it is of that key
 abbrev pub of_key : Key → Option Held → Option Held
 of_key k None = None
-of_key k (Some h) = if same_key (key_in h) k then Some h else None
+of_key k (Some h) = if same_key (key_of_held h) k then Some h else None
 
 -- the record that is put next, once one of this key is put
-abbrev pub left_after : Key → Option Held → Option Held
-left_after k None = None
-left_after k (Some h) = if same_key (key_in h) k then None else Some h
+abbrev pub next_left : Key → Option Held → Option Held
+next_left k None = None
+next_left k (Some h) = if same_key (key_of_held h) k then None else Some h
 
 abbrev pub one_if : Option Held → ℕ
 one_if None = 0
@@ -55,8 +55,8 @@ one_if (Some h) = 1
 
 -- each record stands under its key, and no place is empty but that of the record that is put next
 pub record AreInPlace (p : FinMap key_cmp (Option Held)) (next last : Option Held) : Type 0 where
-  pub keyed : (q : Key) (h : Held) → get p q ≡ Some (Some h) → key_in h ≡ q
+  pub keyed : (q : Key) (h : Held) → get p q ≡ Some (Some h) → key_of_held h ≡ q
   pub empty : (q : Key) → get p q ≡ Some None → IsKeyOf next q
-  pub place : HasPlace p next
+  pub place : HasNextPlace p next
   pub sought : IsHeld p last
-  pub count : len (mentions_in p) + one_if next ≡ len p
+  pub count : len (mentions_held p) + one_if next ≡ len p

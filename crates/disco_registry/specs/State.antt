@@ -4,10 +4,10 @@ use Rattle.std.specs.FinMap.{FinMap}
 use Rattle.disco_values.specs.Key.{key_cmp}
 use Rattle.disco_values.specs.declared.key.Key.{Key}
 use Rattle.disco_history.specs.Change.{Entry}
-use Rattle.disco_history.specs.Registry.{reg, said}
+use Rattle.disco_history.specs.Registry.{registry_of, mentions_of}
 
 -- the records with what their last change did, the number of changes, the limits, and the key whose place stands empty, if one does
-pub record State : Type 0 where
+pub record RegistryState : Type 0 where
   pub held : FinMap key_cmp Entry
   pub version : ℕ
   pub versions : ℕ
@@ -15,13 +15,13 @@ pub record State : Type 0 where
   pub next : Option Key
 
 -- the same but for the place that stands empty, which no answer shows
-pub record IsSameRegistry (old new : State) : Type 0 where
+pub record IsSameRegistry (old new : RegistryState) : Type 0 where
   pub held : new.held ≡ old.held
   pub version : new.version ≡ old.version
   pub versions : new.versions ≡ old.versions
   pub instances : new.instances ≡ old.instances
 
 -- it holds the mentions of the history's registry, and its version is the history's length
-pub record StandsFor (s : State) (h : List Entry) : Type 0 where
-  pub held : s.held ≡ said h (reg h)
+pub record StandsFor (s : RegistryState) (h : List Entry) : Type 0 where
+  pub held : s.held ≡ mentions_of h (registry_of h)
   pub version : s.version ≡ length h

@@ -1,6 +1,6 @@
 //! The held records by key.
 ghost use Rattle.disco_values.specs.Key.{same_key};
-ghost use Rattle.disco_registry.specs.Records.{left_after, of_key, shows_id};
+ghost use Rattle.disco_registry.specs.Records.{next_left, of_key, shows_id};
 ghost use Rattle.std.specs.Prelude.{◌≡◌, ◌++◌, ◌∷◌, [], IfOk, IfSome, None, OnOk, Some, filter, map, option_map};
 ghost use Rattle.std.specs.FinMap as finmap;
 ghost use Rattle.std.specs.FinMap.{values};
@@ -31,13 +31,13 @@ impl Model for Records {
     ghost use Rattle.std.specs.Prelude.{option_map};
     ghost use Rattle.std.specs.Coded.{codes};
     ghost use Rattle.std.specs.FinMap.{code};
-    ghost use Rattle.disco_registry.specs.Records.{AreInPlace, Contents, key_in, mentions_in};
+    ghost use Rattle.disco_registry.specs.Records.{AreInPlace, Contents, key_of_held, mentions_held};
 
     ghost Value = { Contents };
 
     ghost coded = { Prim.hlevel (codes, code) };
 
-    ghost view = { λ r. record { held = mentions_in r.places; next = option_map key_in r.next } };
+    ghost view = { λ r. record { held = mentions_held r.places; next = option_map key_of_held r.next } };
 
     ghost invariant = { λ r. AreInPlace r.places r.next r.sought };
 }
@@ -61,7 +61,7 @@ fn of_key<'a>(held: &'a Option<Held>, key: &Key) -> Option<&'a Held>
 
 /// The record that is put next, once one of a key is put.
 fn left_after(next: Option<Held>, key: &Key) -> Option<Held>
-    ensures { result ≡ left_after key.now next }
+    ensures { result ≡ next_left key.now next }
 {
     match next {
         Some(next) if is_of(&next, key) => None,

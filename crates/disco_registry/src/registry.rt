@@ -7,15 +7,15 @@ ghost use Rattle.disco_instance.specs.Moments.{modified_at};
 ghost use Rattle.disco_instance.specs.Row.{row};
 ghost use Rattle.disco_values.specs.declared.action.Action.TheVariants.{Added, Modified, Deleted};
 ghost use Rattle.disco_values.specs.declared.fault.Fault.TheVariants.{OutOfMemory};
-ghost use Rattle.disco_history.specs.Change.{Entry, is_proper, seen};
+ghost use Rattle.disco_history.specs.Change.{Entry, is_proper, change_view};
 ghost use Rattle.disco_history.specs.Query.{by_id};
-ghost use Rattle.disco_history.specs.Registry.{put_of, reg};
-ghost use Rattle.disco_registry.specs.Accept.{Refuses, accept_after, accepts, is_new, limits_of, status_given};
+ghost use Rattle.disco_history.specs.Registry.{put_of, registry_of};
+ghost use Rattle.disco_registry.specs.Accept.{MayRefuse, accept_after, accepts, is_new, limits_of, status_given};
 ghost use Rattle.disco_history.specs.Apps.{is_of_app, is_of_id};
 ghost use Rattle.disco_registry.specs.Commit.{IsPrepared, IsReady, Takes, changes_properly, done_by, appended, outcome};
 ghost use Rattle.disco_history.specs.Held.{entry_of, record_at, seen_record};
 ghost use Rattle.disco_registry.specs.Op.{ask_of, register, cancel, renew, set_status, drop_status, add_metadata};
-ghost use Rattle.disco_registry.specs.State.{IsSameRegistry, StandsFor, State};
+ghost use Rattle.disco_registry.specs.State.{IsSameRegistry, StandsFor, RegistryState};
 
 use crate::op::{Applied, Op};
 use crate::records::Records;
@@ -42,9 +42,9 @@ pub struct Registry {
 impl Model for Registry {
     ghost use Rattle.std.specs.Coded.{codes};
     ghost use Rattle.std.specs.FinMap.{code};
-    ghost use Rattle.disco_registry.specs.State.{State};
+    ghost use Rattle.disco_registry.specs.State.{RegistryState};
 
-    ghost Value = { State };
+    ghost Value = { RegistryState };
 
     ghost coded = { Prim.hlevel (codes, code) };
 
@@ -60,13 +60,13 @@ pub struct Ready {
 
 impl Model for Ready {
     ghost use Rattle.std.specs.Prelude.{Option, option_map};
-    ghost use Rattle.disco_history.specs.Change.{Entry, seen};
+    ghost use Rattle.disco_history.specs.Change.{Entry, change_view};
     ghost use Rattle.disco_history.specs.Held.{entry_of};
     ghost use Rattle.disco_registry.specs.Commit.{IsPrepared};
 
     ghost Value = { Option Entry };
 
-    ghost view = { λ r. option_map seen r.change };
+    ghost view = { λ r. option_map change_view r.change };
 
     ghost invariant = { λ r. IsPrepared r.change (option_map entry_of r.kept) };
 }
@@ -74,7 +74,7 @@ impl Model for Ready {
 impl Ready {
     /// The change that a commit makes, where there is one.
     pub fn change(&self) -> Option<&Change>
-        ensures change { option_map (λ c. seen c.now) result ≡ self.now }
+        ensures change { option_map (λ c. change_view c.now) result ≡ self.now }
         ensures proper { IfSome result (λ c. is_proper c.now ≡ true) }
     {
         self.change.as_ref()
@@ -173,7 +173,7 @@ impl Registry {
     /// The record under a key.
     pub fn get(&self, key: &Key) -> Option<&Record>
         ensures found { seen_record result ≡ record_at self.now.held key.now }
-        ensures history { (h : List Entry) → StandsFor self.now h → seen_record result ≡ get (reg h) key.now }
+        ensures history { (h : List Entry) → StandsFor self.now h → seen_record result ≡ get (registry_of h) key.now }
     {
         self.records.get(key)
     }
@@ -197,7 +197,7 @@ impl Registry {
     /// The record of an id: of several apps' the one with the least app, in byte order.
     pub fn by_id(&self, id: &str) -> Option<&Record>
         ensures found { seen_record result ≡ option_map (λ e. e.0) (find (is_of_id id.now) (values self.now.held)) }
-        ensures history { (h : List Entry) → StandsFor self.now h → seen_record result ≡ by_id (reg h) id.now }
+        ensures history { (h : List Entry) → StandsFor self.now h → seen_record result ≡ by_id (registry_of h) id.now }
     {
         match self.held_by_id(id) {
             Some(held) => Some(&*held.rec),
@@ -216,7 +216,7 @@ impl Registry {
     /// How many instances are held.
     pub fn len(&self) -> usize
         ensures held { result ≡ len self.now.held }
-        ensures history { (h : List Entry) → StandsFor self.now h → result ≡ len (reg h) }
+        ensures history { (h : List Entry) → StandsFor self.now h → result ≡ len (registry_of h) }
     {
         self.records.len()
     }
@@ -242,7 +242,7 @@ impl Registry {
     pub fn ready(&mut self, op: Op, now: u64) -> Result<Ready, Fault>
         ensures same { IsSameRegistry self.old self.new }
         ensures ready { IfOk result (λ r. accepts self.old (ask_of op) now ≡ Ok r × IsReady self.new r) }
-        ensures refused { IfErr result (Refuses self.old (ask_of op) now) }
+        ensures refused { IfErr result (MayRefuse self.old (ask_of op) now) }
     {
         self.seek(op.key());
         match op {
@@ -275,7 +275,7 @@ impl Registry {
         requires { seen_record held ≡ record_at self.now.held posted.now.key }
         ensures place { OnOk result ((is_new (record_at self.now.held posted.now.key) && not (nat_lt (len self.now.held) self.now.instances)) ≡ false) }
         ensures left { OnOk result (self.now.version < self.now.versions) }
-        ensures refused { IfErr result (Refuses self.now (register (row posted.now)) now) }
+        ensures refused { IfErr result (MayRefuse self.now (register (row posted.now)) now) }
     {
         let _ = now;
         let _ = posted;
@@ -303,7 +303,7 @@ impl Registry {
     fn ready_register(&mut self, posted: Record, now: u64) -> Result<Ready, Fault>
         ensures same { IsSameRegistry self.old self.new }
         ensures ready { IfOk result (λ r. accepts self.old (register (row posted)) now ≡ Ok r × IsReady self.new r) }
-        ensures refused { IfErr result (Refuses self.old (register (row posted)) now) }
+        ensures refused { IfErr result (MayRefuse self.old (register (row posted)) now) }
     {
         let held = self.records.get(&posted.key);
         self.admit(held, &posted, now)?;
@@ -317,7 +317,7 @@ impl Registry {
 
     fn ready_cancel(&self, key: &Key, now: u64) -> Result<Ready, Fault>
         ensures ready { IfOk result (λ r. accepts self.now (cancel key.now) now ≡ Ok r × IsReady self.now r) }
-        ensures refused { IfErr result (Refuses self.now (cancel key.now) now) }
+        ensures refused { IfErr result (MayRefuse self.now (cancel key.now) now) }
     {
         let Some(held) = self.records.get(key) else {
             return Err(Fault::NotFound);
@@ -332,7 +332,7 @@ impl Registry {
 
     fn ready_renew(&self, key: &Key, now: u64) -> Result<Ready, Fault>
         ensures ready { IfOk result (λ r. accepts self.now (renew key.now) now ≡ Ok r × IsReady self.now r) }
-        ensures refused { IfErr result (Refuses self.now (renew key.now) now) }
+        ensures refused { IfErr result (MayRefuse self.now (renew key.now) now) }
     {
         let _ = now;
         let Some(held) = self.records.get(key) else {
@@ -346,7 +346,7 @@ impl Registry {
 
     fn ready_set_status(&self, key: &Key, text: &Text, now: u64) -> Result<Ready, Fault>
         ensures ready { IfOk result (λ r. accepts self.now (set_status key.now text.now) now ≡ Ok r × IsReady self.now r) }
-        ensures refused { IfErr result (Refuses self.now (set_status key.now text.now) now) }
+        ensures refused { IfErr result (MayRefuse self.now (set_status key.now text.now) now) }
     {
         let Some(status) = status_of(text.as_str()) else {
             return Err(Fault::BadStatus);
@@ -366,7 +366,7 @@ impl Registry {
 
     fn ready_drop_status(&self, key: &Key, text: &Option<Text>, now: u64) -> Result<Ready, Fault>
         ensures ready { IfOk result (λ r. accepts self.now (drop_status key.now text.now) now ≡ Ok r × IsReady self.now r) }
-        ensures refused { IfErr result (Refuses self.now (drop_status key.now text.now) now) }
+        ensures refused { IfErr result (MayRefuse self.now (drop_status key.now text.now) now) }
     {
         let Some(status) = status_given(text) else {
             return Err(Fault::BadStatus);
@@ -386,7 +386,7 @@ impl Registry {
 
     fn ready_metadata(&self, key: &Key, entries: &Entries, now: u64) -> Result<Ready, Fault>
         ensures ready { IfOk result (λ r. accepts self.now (add_metadata key.now entries.now) now ≡ Ok r × IsReady self.now r) }
-        ensures refused { IfErr result (Refuses self.now (add_metadata key.now entries.now) now) }
+        ensures refused { IfErr result (MayRefuse self.now (add_metadata key.now entries.now) now) }
     {
         let Some(held) = self.records.get(key) else {
             return Err(Fault::NotFound);
@@ -420,9 +420,9 @@ impl Registry {
     }
 
     fn take(&mut self, change: &Change, kept: Option<Held>)
-        requires ready { IsReady self.old (Some (seen change.now)) }
+        requires ready { IsReady self.old (Some (change_view change.now)) }
         requires prepared { IsPrepared (Some change.now) (option_map entry_of kept) }
-        ensures { Takes self.old (Some (seen change.now)) self.new }
+        ensures { Takes self.old (Some (change_view change.now)) self.new }
     {
         prove!(self.version < self.versions);
         match change {
@@ -441,7 +441,7 @@ impl Registry {
     /// `OutOfMemory`, and then changes no answer.
     pub fn apply(&mut self, op: Op, now: u64) -> Result<Applied, Fault>
         ensures done { IfOk result (λ a. accepts self.old (ask_of op) now ≡ Ok (done_by a)) }
-        ensures refused { IfErr result (Refuses self.old (ask_of op) now) }
+        ensures refused { IfErr result (MayRefuse self.old (ask_of op) now) }
         ensures does { (h : List Entry) → StandsFor self.old h → Gives done_by result (accept_after (limits_of self.old) h (ask_of op) now) }
         ensures proper { IfOk result (λ a. changes_properly a ≡ true) }
         ensures takes { Takes self.old (outcome result) self.new }

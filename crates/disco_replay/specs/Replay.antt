@@ -11,7 +11,7 @@ use Rattle.disco_settings.specs.declared.settings.Settings.{Settings}
 use Rattle.disco_lines.specs.Answers.{answer_line}
 use Rattle.disco_lines.specs.Input.{AreRead, NamesBadLine}
 use Rattle.disco_options.specs.Options.{NamedBy}
-use Rattle.disco_options.specs.declared.verb.Verb.TheVariants.{Replay}
+use Rattle.disco_options.specs.declared.subcommand.Subcommand.TheVariants.{Replay}
 
 -- the fault names the first event of the whole input that can't be run
 abbrev pub NamesBadEvent : Settings → Option (List ℕ) → Fault → Type 0
@@ -23,14 +23,14 @@ IsRunFault settings known reads writes fault =
     (fault ≡ OutOfMemory) ⊎ (((fault ≡ ReadFailed) × reads) ⊎ (((fault ≡ WriteFailed) × writes) ⊎ (NamesBadLine known fault ⊎ NamesBadEvent settings known fault)))
 
 -- each event of the whole input is answered, and the answer lines are written
-pub record IsAnswered (settings : Settings) (known old new : Option (List ℕ)) : Type 0 where
+pub record IsInputAnswered (settings : Settings) (known old new : Option (List ℕ)) : Type 0 where
   pub events : List Event
   pub read : AreRead known events
   pub answered : AreTold settings.entries (rules settings) settings.run events answer_line old new
 
 -- the words are `replay` and options, and the input is answered with the settings that these name
 abbrev pub IsReplayed : List Text → Option (List ℕ) → Option (List ℕ) → Option (List ℕ) → Type 0
-IsReplayed words known old new = (settings : Settings) × NamedBy Replay words 0 settings × IsAnswered settings known old new
+IsReplayed words known old new = (settings : Settings) × NamedBy Replay words 0 settings × IsInputAnswered settings known old new
 
 -- why a run of these words fails: want of memory, or what the run with their settings fails for
 abbrev pub IsFaultOf : List Text → Option (List ℕ) → Type 0 → Type 0 → Fault → Type 0

@@ -8,10 +8,10 @@ ghost use Rattle.disco_options.specs.Faults.{Says};
 ghost use Rattle.disco_lines.specs.Lines.{IsFirstBadLine};
 ghost use Rattle.disco_options.specs.Options.{faults_of};
 ghost use Rattle.disco_reader.specs.Causes.{Raises};
-ghost use Rattle.disco_replay.specs.Replay.{IsAnswered, IsFailed, IsReplayed, IsRunFault};
+ghost use Rattle.disco_replay.specs.Replay.{IsInputAnswered, IsFailed, IsReplayed, IsRunFault};
 
 use disco_lines::{answer_events, read_events, write_answers};
-use disco_options::{Verb, read_settings, refused, report};
+use disco_options::{Subcommand, read_settings, refused, report};
 use disco_settings::Settings;
 use disco_streams::{Sink, Source};
 use disco_values::Fault;
@@ -26,7 +26,7 @@ fn answer<R: Source, W: Sink>(
     reader: &mut R,
     out: &mut W,
 ) -> Result<(), Fault>
-    ensures answered { OnOk result (IsAnswered settings.now (R.remaining reader.old)
+    ensures answered { OnOk result (IsInputAnswered settings.now (R.remaining reader.old)
         (W.contents out.old) (W.contents out.new)) }
     ensures end { OnOk result (IsAtEnd (R.remaining reader.new)) }
     ensures fault { IfErr result (IsRunFault settings.now (R.remaining reader.old)
@@ -57,32 +57,32 @@ pub fn replay<R: Source, W: Sink, E: Sink>(
     errors: &mut E,
     words: &[String],
 ) -> u8
-    ensures ends { EndsBy E.contents E.failed (faults_of Verb.Replay (map string_bytes words.now)) result out.old out.new errors.old errors.new }
+    ensures ends { EndsBy E.contents E.failed (faults_of Subcommand.Replay (map string_bytes words.now)) result out.old out.new errors.old errors.new }
 
     // Words with no fault are `replay` with options: 0 says that all is answered, else it is 1.
-    ensures answered { faults_of Verb.Replay (map string_bytes words.now) ≡ [] → result ≡ 0
+    ensures answered { faults_of Subcommand.Replay (map string_bytes words.now) ≡ [] → result ≡ 0
         → IsReplayed (map string_bytes words.now) (R.remaining reader.old)
         (W.contents out.old) (W.contents out.new) }
-    ensures end { faults_of Verb.Replay (map string_bytes words.now) ≡ [] → result ≡ 0
+    ensures end { faults_of Subcommand.Replay (map string_bytes words.now) ≡ [] → result ≡ 0
         → IsAtEnd (R.remaining reader.new) }
 
     // Words that are refused or ask for help leave the input as it is.
-    ensures unread { faults_of Verb.Replay (map string_bytes words.now) ≢ [] → reader.new ≡ reader.old }
+    ensures unread { faults_of Subcommand.Replay (map string_bytes words.now) ≢ [] → reader.new ≡ reader.old }
 
     // Where a line of the input means nothing, no event is answered.
-    ensures bad_line { faults_of Verb.Replay (map string_bytes words.now) ≡ []
+    ensures bad_line { faults_of Subcommand.Replay (map string_bytes words.now) ≡ []
         → (input : List ℕ) (bad : Fault) → R.remaining reader.old ≡ Some input
         → IsFirstBadLine input bad → (result ≡ 1) × (out.new ≡ out.old) }
 
     // Where the run is refused its fault is told, and no event is answered, unless memory or a write
     // failed. A read or a write that failed has raised the count of failures.
-    ensures failed { faults_of Verb.Replay (map string_bytes words.now) ≡ [] → result ≡ 1
+    ensures failed { faults_of Subcommand.Replay (map string_bytes words.now) ≡ [] → result ≡ 1
         → IsFailed (map string_bytes words.now) (R.remaining reader.old)
         (Raises (R.failed reader.old) (R.failed reader.new)) (Raises (W.failed out.old) (W.failed out.new))
         (λ fault. Says fault (E.contents errors.old) (E.contents errors.new) (E.failed errors.old) (E.failed errors.new))
         out.old out.new }
 {
-    match read_settings(alloc, Verb::Replay, words, 0) {
+    match read_settings(alloc, Subcommand::Replay, words, 0) {
         Ok(settings) => match answer(alloc, &settings, reader, out) {
             Ok(()) => 0,
             Err(fault) => report(&fault, errors),

@@ -9,7 +9,7 @@ use disco_message::Limits;
 use disco_press::{Desk, Opening, Seat, open};
 use disco_reader::{Counted, Reader};
 use disco_routes::Routes;
-use disco_server::{DeskService, HubService, Open, Shop};
+use disco_server::{DeskService, HubService, Open, ServerContext};
 use disco_settings::Settings;
 use disco_ticks::Ticks;
 use std::alloc::{AllocError, Global};
@@ -62,13 +62,13 @@ fn at_a_seat<J: Naming, R: Wait>(
     request: &[u8],
     piece: usize,
 ) -> io::Result<Came> {
-    let shop = Shop {
+    let context = ServerContext {
         rt,
         alloc,
         desk,
         gate: &Open,
     };
-    let mut service = DeskService::new(&shop, Routes::new(alloc)?, seat, Ticks::new(STEP));
+    let mut service = DeskService::new(&context, Routes::new(alloc)?, seat, Ticks::new(STEP));
     Ok(run(alloc, &mut service, request, piece)?)
 }
 

@@ -12,7 +12,7 @@ use Rattle.disco_query.specs.Keys.{doc_cmp, same_doc}
 use Rattle.disco_query.specs.declared.key.DocKey.{DocKey}
 use Rattle.disco_query.proofs.Orders.{docs_total, exact_docs}
 use Rattle.disco_rounds.specs.Rounds.{KeySet, kept_keys, kept_with}
-use Rattle.disco_rounds.specs.Stored.{AreNew, pair, pairs}
+use Rattle.disco_rounds.specs.Stored.{AreNew, key_pair, key_pairs}
 use Rattle.disco_rounds.specs.declared.round.CopiedKey.{CopiedKey}
 use Rattle.disco_rounds.proofs.KeySets.{kept_one}
 
@@ -89,32 +89,32 @@ still : (b : Bool) (ks : KeySet) (k : DocKey) (left : List DocKey) → AreNew ks
 still true ks k left new = new.1
 still false ks k left new = fewer left (insert ks k tt) (remove ks k) (λ q is. kept_one ks k true q ∙ less (same_doc q k) (contains_key ks q) (sym (kept_one ks k false q) ∙ is)) new.1
 
-pub kept_more : (done : List CopiedKey) (c : CopiedKey) → kept_keys (pairs (done ++ c ∷ [])) ≡ kept_with (kept_keys (pairs done)) (pair c)
-kept_more done c = ap kept_keys (map-append pair done (c ∷ [])) ∙ fold-append kept_with empty (pairs done) (pair c ∷ [])
+pub kept_more : (done : List CopiedKey) (c : CopiedKey) → kept_keys (key_pairs (done ++ c ∷ [])) ≡ kept_with (kept_keys (key_pairs done)) (key_pair c)
+kept_more done c = ap kept_keys (map-append key_pair done (c ∷ [])) ∙ fold-append kept_with empty (key_pairs done) (key_pair c ∷ [])
 
 -- the rest is new after a copy of the first
-pub rest_new : (done more : List CopiedKey) (c : CopiedKey) (left all : List DocKey) → more ≡ done ++ c ∷ [] → all ≡ c.key ∷ left → AreNew (kept_keys (pairs done)) all → AreNew (kept_keys (pairs more)) left
+pub rest_new : (done more : List CopiedKey) (c : CopiedKey) (left all : List DocKey) → more ≡ done ++ c ∷ [] → all ≡ c.key ∷ left → AreNew (kept_keys (key_pairs done)) all → AreNew (kept_keys (key_pairs more)) left
 rest_new done more c left all is was new =
-    subst (λ ks. AreNew ks left) (sym (ap (λ cs. kept_keys (pairs cs)) is ∙ kept_more done c)) (still c.kept (kept_keys (pairs done)) c.key left (subst (AreNew (kept_keys (pairs done))) was new))
+    subst (λ ks. AreNew ks left) (sym (ap (λ cs. kept_keys (key_pairs cs)) is ∙ kept_more done c)) (still c.kept (kept_keys (key_pairs done)) c.key left (subst (AreNew (kept_keys (key_pairs done))) was new))
 
 absent : (b : Bool) (n : ℕ) → b ≡ false → cond b n (n + 1) ≡ n + 1
 absent true n e = absurd (cc)
 absent false n e = refl
 
 -- one key more where it had a document
-pub one_more : (done more : List CopiedKey) (k : DocKey) (left all : List DocKey) → more ≡ done ++ record { key = k; kept = true } ∷ [] → all ≡ k ∷ left → AreNew (kept_keys (pairs done)) all
-    → len (kept_keys (pairs more)) ≡ len (kept_keys (pairs done)) + 1
+pub one_more : (done more : List CopiedKey) (k : DocKey) (left all : List DocKey) → more ≡ done ++ record { key = k; kept = true } ∷ [] → all ≡ k ∷ left → AreNew (kept_keys (key_pairs done)) all
+    → len (kept_keys (key_pairs more)) ≡ len (kept_keys (key_pairs done)) + 1
 one_more done more k left all is was new =
-    ap (λ cs. len (kept_keys (pairs cs))) is ∙ ap len (kept_more done (record { key = k; kept = true })) ∙ len-insert docs_total (kept_keys (pairs done)) k tt
-    ∙ absent (contains_key (kept_keys (pairs done)) k) (len (kept_keys (pairs done))) (subst (AreNew (kept_keys (pairs done))) was new).0
+    ap (λ cs. len (kept_keys (key_pairs cs))) is ∙ ap len (kept_more done (record { key = k; kept = true })) ∙ len-insert docs_total (kept_keys (key_pairs done)) k tt
+    ∙ absent (contains_key (kept_keys (key_pairs done)) k) (len (kept_keys (key_pairs done))) (subst (AreNew (kept_keys (key_pairs done))) was new).0
 
 gone : (b : Bool) (n : ℕ) → b ≡ false → cond b (n - 1) n ≡ n
 gone true n e = absurd (cc)
 gone false n e = refl
 
 -- and none where it had none
-pub none_more : (done more : List CopiedKey) (k : DocKey) (left all : List DocKey) → more ≡ done ++ record { key = k; kept = false } ∷ [] → all ≡ k ∷ left → AreNew (kept_keys (pairs done)) all
-    → len (kept_keys (pairs more)) ≡ len (kept_keys (pairs done))
+pub none_more : (done more : List CopiedKey) (k : DocKey) (left all : List DocKey) → more ≡ done ++ record { key = k; kept = false } ∷ [] → all ≡ k ∷ left → AreNew (kept_keys (key_pairs done)) all
+    → len (kept_keys (key_pairs more)) ≡ len (kept_keys (key_pairs done))
 none_more done more k left all is was new =
-    ap (λ cs. len (kept_keys (pairs cs))) is ∙ ap len (kept_more done (record { key = k; kept = false })) ∙ len-remove docs_total (kept_keys (pairs done)) k
-    ∙ gone (contains_key (kept_keys (pairs done)) k) (len (kept_keys (pairs done))) (subst (AreNew (kept_keys (pairs done))) was new).0
+    ap (λ cs. len (kept_keys (key_pairs cs))) is ∙ ap len (kept_more done (record { key = k; kept = false })) ∙ len-remove docs_total (kept_keys (key_pairs done)) k
+    ∙ gone (contains_key (kept_keys (key_pairs done)) k) (len (kept_keys (key_pairs done))) (subst (AreNew (kept_keys (key_pairs done))) was new).0

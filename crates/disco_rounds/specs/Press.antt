@@ -4,7 +4,7 @@ use Rattle.std.specs.List.{list_any}
 use Rattle.std.specs.FinMap.{FinMap, contains_key, empty, insert, remove}
 use Rattle.disco_history.specs.Change.{Entry}
 use Rattle.disco_history.specs.Query.{is_absent}
-use Rattle.disco_history.specs.Registry.{reg}
+use Rattle.disco_history.specs.Registry.{registry_of}
 use Rattle.disco_documents.specs.Documents.{asked_by}
 use Rattle.disco_query.specs.Keys.{doc_cmp, same_doc}
 use Rattle.disco_cache.specs.Payloads.{IsTrue}
@@ -52,7 +52,7 @@ changes_in l = fold noted [] l
 -- a note may stand behind these changes of a run: its document is true of them, or there is none
 abbrev pub Fits : ℕ → List Entry → Note → Type 0
 Fits run h (doc d) = IsTrue run d h
-Fits run h (gone k) = is_absent (reg h) (asked_by k.query) ≡ true
+Fits run h (gone k) = is_absent (registry_of h) (asked_by k.query) ≡ true
 Fits run h _ = Unit {0}
 
 abbrev pub IsLegal : ℕ → List Note → Type 0

@@ -8,30 +8,30 @@ use Rattle.disco_query.specs.declared.key.DocKey.{DocKey}
 use Rattle.disco_rounds.specs.Rounds.{KeySet}
 use Rattle.disco_rounds.specs.declared.round.CopiedKey.{CopiedKey}
 
-abbrev pub pair : CopiedKey → DocKey × Bool
-pair c = (c.key, c.kept)
+abbrev pub key_pair : CopiedKey → DocKey × Bool
+key_pair c = (c.key, c.kept)
 
-abbrev pub pairs : List CopiedKey → List (DocKey × Bool)
-pairs cs = map pair cs
+abbrev pub key_pairs : List CopiedKey → List (DocKey × Bool)
+key_pairs cs = map key_pair cs
 
-abbrev pub key_in : Bor DocKey → DocKey
-key_in k = k.now
+abbrev pub stored_key : Bor DocKey → DocKey
+stored_key k = k.now
 
 abbrev pub mark : Bor DocKey → Unit {0}
 mark k = tt
 
 abbrev pub AreInOrder : List (Bor DocKey) → Type 0
-AreInOrder ks = AreSortedBy doc_cmp key_in mark ks
+AreInOrder ks = AreSortedBy doc_cmp stored_key mark ks
 
 -- the keys that a list stands for
 abbrev pub seen_keys : List (Bor DocKey) → KeySet
-seen_keys ks = map_by doc_cmp key_in mark ks
+seen_keys ks = map_by doc_cmp stored_key mark ks
 
-abbrev pub IsAt : List (Bor DocKey) → DocKey → ℕ → Type 0
-IsAt ks k i = IsAtBy doc_cmp key_in ks k i
+abbrev pub IsKeyAt : List (Bor DocKey) → DocKey → ℕ → Type 0
+IsKeyAt ks k i = IsAtBy doc_cmp stored_key ks k i
 
-abbrev pub IsGap : List (Bor DocKey) → DocKey → ℕ → Type 0
-IsGap ks k i = IsGapBy doc_cmp key_in ks k i
+abbrev pub IsKeyGap : List (Bor DocKey) → DocKey → ℕ → Type 0
+IsKeyGap ks k i = IsGapBy doc_cmp stored_key ks k i
 
 -- none of these keys is among those, nor a second time among these
 abbrev pub AreNew : KeySet → List DocKey → Type 0

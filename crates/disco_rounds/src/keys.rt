@@ -3,7 +3,7 @@ ghost use Rattle.std.specs.Prelude.{◌≡◌, IfErr, IfOk, OnOk, fold, map};
 ghost use Rattle.std.specs.FinMap as finmap;
 ghost use Rattle.disco_values.specs.declared.fault.Fault.TheVariants.{OutOfMemory};
 ghost use Rattle.disco_rounds.specs.Rounds.{add_within, kept_keys, kept_with, round_keys};
-ghost use Rattle.disco_rounds.specs.Stored.{AreInOrder, IsAt, IsGap, pair, pairs, seen_keys};
+ghost use Rattle.disco_rounds.specs.Stored.{AreInOrder, IsKeyAt, IsKeyGap, key_pair, key_pairs, seen_keys};
 
 use crate::round::CopiedKey;
 use disco_cache::DocCache;
@@ -17,8 +17,8 @@ type Keys<'a> = Vec<&'a DocKey>;
 /// Where a key is, or where it would go.
 fn place(keys: &[&DocKey], key: &DocKey) -> Result<usize, usize>
     requires { AreInOrder keys.now }
-    ensures found { IfOk result (λ i. IsAt keys.now key.now i) }
-    ensures absent { IfErr result (λ i. IsGap keys.now key.now i) }
+    ensures found { IfOk result (λ i. IsKeyAt keys.now key.now i) }
+    ensures absent { IfErr result (λ i. IsKeyGap keys.now key.now i) }
 {
     keys.binary_search_by(|k| k.compare(key))
 }
@@ -49,7 +49,7 @@ fn take(keys: &mut Keys<'_>, key: &DocKey)
 fn note<'a>(keys: &mut Keys<'a>, copied: &'a CopiedKey) -> Result<(), AllocError>
     requires { AreInOrder keys.old.items }
     ensures order { OnOk result (AreInOrder keys.new.items) }
-    ensures keys { OnOk result (seen_keys keys.new.items ≡ kept_with (seen_keys keys.old.items) (pair copied.now)) }
+    ensures keys { OnOk result (seen_keys keys.new.items ≡ kept_with (seen_keys keys.old.items) (key_pair copied.now)) }
 {
     if copied.kept() {
         put(keys, copied.key())?;
@@ -62,7 +62,7 @@ fn note<'a>(keys: &mut Keys<'a>, copied: &'a CopiedKey) -> Result<(), AllocError
 /// The keys of an edition of which these were copied.
 fn of_edition(alloc: Global, copied: &[CopiedKey]) -> Result<Keys<'_>, AllocError>
     ensures order { IfOk result (λ v. AreInOrder v.items) }
-    ensures keys { IfOk result (λ v. seen_keys v.items ≡ kept_keys (pairs copied.now)) }
+    ensures keys { IfOk result (λ v. seen_keys v.items ≡ kept_keys (key_pairs copied.now)) }
 {
     let mut keys = Vec::new(alloc);
     for one in copied {
@@ -101,7 +101,7 @@ pub(crate) fn round_keys<'a>(
     edition: &'a [CopiedKey],
     cache: &'a DocCache,
 ) -> Result<Vec<&'a DocKey>, Fault>
-    ensures keys { IfOk result (λ v. map (λ k. k.now) v.items ≡ round_keys (kept_keys (pairs edition.now)) cache.now) }
+    ensures keys { IfOk result (λ v. map (λ k. k.now) v.items ≡ round_keys (kept_keys (key_pairs edition.now)) cache.now) }
     ensures memory { IfErr result (λ e. e ≡ OutOfMemory) }
 {
     let mut keys = of_edition(alloc, edition)?;

@@ -2,7 +2,7 @@
 ghost use Rattle.std.specs.Prelude.{◌≡◌, [], IfOk, false, length, map, nat_eq, option_map, slice_get, true};
 ghost use Rattle.std.specs.FinMap as finmap;
 ghost use Rattle.disco_rounds.specs.Rounds.{Marks, kept_keys, new_round};
-ghost use Rattle.disco_rounds.specs.Stored.{AreNew, pairs};
+ghost use Rattle.disco_rounds.specs.Stored.{AreNew, key_pairs};
 
 use disco_query::DocKey;
 use std::alloc::{AllocError, Global};
@@ -45,15 +45,15 @@ impl Model for Round {
     ghost use Rattle.std.specs.FinMap.{code, len};
     ghost use Rattle.disco_rounds.specs.Rounds as plain;
     ghost use Rattle.disco_rounds.specs.Rounds.{kept_keys};
-    ghost use Rattle.disco_rounds.specs.Stored.{AreNew, pairs};
+    ghost use Rattle.disco_rounds.specs.Stored.{AreNew, key_pairs};
 
     ghost Value = { plain.Round };
 
     ghost coded = { Prim.hlevel (codes, code) };
 
-    ghost view = { λ r. record { done = pairs r.done.items; left = r.left.items } };
+    ghost view = { λ r. record { done = key_pairs r.done.items; left = r.left.items } };
 
-    ghost invariant = { λ r. (vec_len r.done + length r.left.items ≤ vec_capacity r.done) × (r.kept ≤ vec_len r.done) × (r.kept ≡ len (kept_keys (pairs r.done.items))) × AreNew (kept_keys (pairs r.done.items)) r.left.items };
+    ghost invariant = { λ r. (vec_len r.done + length r.left.items ≤ vec_capacity r.done) × (r.kept ≤ vec_len r.done) × (r.kept ≡ len (kept_keys (key_pairs r.done.items))) × AreNew (kept_keys (key_pairs r.done.items)) r.left.items };
 }
 
 fn copies(alloc: Global, keys: &[&DocKey]) -> Result<VecDeque<DocKey>, AllocError>
@@ -118,7 +118,7 @@ impl Round {
 
     /// The keys that were copied, and how many of them had a document. Takes no memory.
     pub(crate) fn end(self) -> (Vec<CopiedKey>, usize)
-        ensures keys { pairs result.0.items ≡ self.done }
+        ensures keys { key_pairs result.0.items ≡ self.done }
         ensures kept { result.1 ≡ finmap.len (kept_keys self.done) }
     {
         let Round {

@@ -25,13 +25,13 @@ impl Model for Rounds {
     ghost use Rattle.std.specs.FinMap.{code};
     ghost use Rattle.disco_rounds.specs.Rounds as plain;
     ghost use Rattle.disco_rounds.specs.Rounds.{kept_keys};
-    ghost use Rattle.disco_rounds.specs.Stored.{pairs};
+    ghost use Rattle.disco_rounds.specs.Stored.{key_pairs};
 
     ghost Value = { plain.Rounds };
 
     ghost coded = { Prim.hlevel (codes, code) };
 
-    ghost view = { λ r. record { edition = kept_keys (pairs r.edition.items); round = r.round } };
+    ghost view = { λ r. record { edition = kept_keys (key_pairs r.edition.items); round = r.round } };
 }
 
 impl Rounds {

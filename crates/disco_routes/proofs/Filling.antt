@@ -10,8 +10,8 @@ use Rattle.matchit.specs.Seek.{first}
 use Rattle.disco_routes.specs.declared.place.Place.{Place}
 use Rattle.disco_routes.specs.declared.place.Place.TheVariants.{Id, Svip, Vip}
 use Rattle.disco_routes.specs.declared.route.Route.{Route}
-use Rattle.disco_routes.specs.Paths.{behind_base, place_at, is_slash, parts, place_of, of_apps, of_instance, one_name, is_empty}
-use Rattle.disco_routes.specs.Table.{table, filled, names, first_name, second_name}
+use Rattle.disco_routes.specs.Paths.{behind_base, path_place, is_slash, parts, parts_place, of_apps, of_instance, one_name, is_empty}
+use Rattle.disco_routes.specs.Table.{table, place_filled, names, first_name, second_name}
 use Rattle.disco_routes.proofs.Routing.{kind, routed}
 use Rattle.disco_routes.proofs.Walk.{front, back, more, back_of, parts_of, split_on}
 
@@ -82,13 +82,13 @@ second_is : (p folder name next : List ℕ) (ns : List (List ℕ)) → parts p �
 second_is p folder name next ns e = first_part (after_first is_slash (names p)) next ns (other_parts (names p) name next ns (names_of p folder name (next ∷ ns) e))
 
 abbrev Fills : List ℕ → Option (Place (List ℕ)) → Type 0
-Fills p found = option_map (λ k. filled k p) (option_map kind found) ≡ found
+Fills p found = option_map (λ k. place_filled k p) (option_map kind found) ≡ found
 
 fills_either : (p : List ℕ) (u : Bool) (a b : Option (Place (List ℕ))) → Fills p a → Fills p b → Fills p (cond u a b)
 fills_either p true a b f g = f
 fills_either p false a b f g = g
 
-fills_alone : (p folder : List ℕ) (to : List ℕ → Place (List ℕ)) (ns : List (List ℕ)) → ((name : List ℕ) → first_name p ≡ name → filled (kind (to name)) p ≡ to name) → parts p ≡ [] ∷ folder ∷ ns → Fills p (one_name to ns)
+fills_alone : (p folder : List ℕ) (to : List ℕ → Place (List ℕ)) (ns : List (List ℕ)) → ((name : List ℕ) → first_name p ≡ name → place_filled (kind (to name)) p ≡ to name) → parts p ≡ [] ∷ folder ∷ ns → Fills p (one_name to ns)
 fills_alone p folder to [] as_to e = refl
 fills_alone p folder to (name ∷ []) as_to e = fills_either p (is_empty name) None (Some (to name)) refl (ap (λ x. Some x) (as_to name (first_is p folder name [] e)))
 fills_alone p folder to (name ∷ x ∷ xs) as_to e = refl
@@ -103,7 +103,7 @@ fills_apps p folder [] e = refl
 fills_apps p folder (app ∷ []) e = rw (← first_is p folder app [] e) (fills_either p (is_empty (first_name p)) _ _ refl (fills_either p (bytes_eq (first_name p) (codes "delta")) _ _ refl refl))
 fills_apps p folder (app ∷ id ∷ ns) e = fills_either p (is_empty app || is_empty id) None (of_instance app id ns) refl (fills_instance p app id ns (first_is p folder app (id ∷ ns) e) (second_is p folder app id ns e))
 
-fills : (p : List ℕ) (ps : List (List ℕ)) → parts p ≡ ps → Fills p (place_of ps)
+fills : (p : List ℕ) (ps : List (List ℕ)) → parts p ≡ ps → Fills p (parts_place ps)
 fills p [] e = refl
 fills p ((b ∷ bs) ∷ ps) e = refl
 fills p ([] ∷ []) e = refl
@@ -114,11 +114,11 @@ fills p ([] ∷ folder ∷ ns) e =
     (fills_either p (bytes_eq folder (codes "vips")) (one_name (λ vip. Vip vip) ns) None (fills_alone p folder (λ vip. Vip vip) ns (λ name is. ap (λ x. Vip x) is) e) refl)))
 
 -- what is found of a path and filled with its names is its place
-found : (p : List ℕ) (r : RouteOf Route) → IsText p → first table p ≡ Some r → Some (filled r.value p) ≡ place_of (parts p)
-found p r text e = ap (λ o. option_map (λ k. filled k p) (map_key (λ x. x.value) o)) (sym e) ∙ (ap (option_map (λ k. filled k p)) (routed p text) ∙ fills p (parts p) refl)
+found : (p : List ℕ) (r : RouteOf Route) → IsText p → first table p ≡ Some r → Some (place_filled r.value p) ≡ parts_place (parts p)
+found p r text e = ap (λ o. option_map (λ k. place_filled k p) (map_key (λ x. x.value) o)) (sym e) ∙ (ap (option_map (λ k. place_filled k p)) (routed p text) ∙ fills p (parts p) refl)
 
-not_found : (p : List ℕ) → IsText p → first table p ≡ None → None ≡ place_of (parts p)
-not_found p text e = ap (λ o. option_map (λ k. filled k p) (map_key (λ x. x.value) o)) (sym e) ∙ (ap (option_map (λ k. filled k p)) (routed p text) ∙ fills p (parts p) refl)
+not_found : (p : List ℕ) → IsText p → first table p ≡ None → None ≡ parts_place (parts p)
+not_found p text e = ap (λ o. option_map (λ k. place_filled k p) (map_key (λ x. x.value) o)) (sym e) ∙ (ap (option_map (λ k. place_filled k p)) (routed p text) ∙ fills p (parts p) refl)
 
 is_text : (p : List ℕ) → ((i : ℕ) → get_or p i 0 < 256) → IsText p
 is_text [] small = tt
@@ -135,12 +135,12 @@ based path behind n ten whole rest =
     rw split refl
 
 -- what is found behind the base and filled with its names is the place of the path
-pub found_place : (rows : RowsOf (RouteOf Route)) (path behind : List ℕ) (n : ℕ) (r : RouteOf Route) → rows ≡ table → ((i : ℕ) → get_or path i 0 < 256) → n ≡ 10 → path ≡ codes "/eureka/v2" ++ drop n path → behind ≡ drop n path → first rows behind ≡ Some r → Some (filled r.value behind) ≡ place_at path
+pub found_place : (rows : RowsOf (RouteOf Route)) (path behind : List ℕ) (n : ℕ) (r : RouteOf Route) → rows ≡ table → ((i : ℕ) → get_or path i 0 < 256) → n ≡ 10 → path ≡ codes "/eureka/v2" ++ drop n path → behind ≡ drop n path → first rows behind ≡ Some r → Some (place_filled r.value behind) ≡ path_place path
 found_place rows path behind n r all small ten whole rest e =
     let text : IsText behind = rw rest (text_behind n path (is_text path small)) in
     rw (based path behind n ten whole rest) (found behind r text (rw all at e))
 
-pub no_place : (rows : RowsOf (RouteOf Route)) (path behind : List ℕ) (n : ℕ) → rows ≡ table → ((i : ℕ) → get_or path i 0 < 256) → n ≡ 10 → path ≡ codes "/eureka/v2" ++ drop n path → behind ≡ drop n path → first rows behind ≡ None → None ≡ place_at path
+pub no_place : (rows : RowsOf (RouteOf Route)) (path behind : List ℕ) (n : ℕ) → rows ≡ table → ((i : ℕ) → get_or path i 0 < 256) → n ≡ 10 → path ≡ codes "/eureka/v2" ++ drop n path → behind ≡ drop n path → first rows behind ≡ None → None ≡ path_place path
 no_place rows path behind n all small ten whole rest e =
     let text : IsText behind = rw rest (text_behind n path (is_text path small)) in
     rw (based path behind n ten whole rest) (not_found behind text (rw all at e))

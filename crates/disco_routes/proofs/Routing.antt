@@ -11,7 +11,7 @@ use Rattle.disco_routes.specs.declared.place.Place.{Place}
 use Rattle.disco_routes.specs.declared.place.Place.TheVariants as place
 use Rattle.disco_routes.specs.declared.route.Route.{Route}
 use Rattle.disco_routes.specs.declared.route.Route.TheVariants.{Apps, Delta, App, Instance, Status, Metadata, Id, Vip, Svip}
-use Rattle.disco_routes.specs.Paths.{parts, place_of, of_apps, of_instance, one_name, is_empty}
+use Rattle.disco_routes.specs.Paths.{parts, parts_place, of_apps, of_instance, one_name, is_empty}
 use Rattle.disco_routes.specs.Table.{table, with_apps, with_instances, with_vips}
 use Rattle.disco_routes.proofs.Walk.{front, back, more, back_of, parts_of, split_on, same, under, ends, seek-empty, fork, branch, slash_cut, slash_on, param_on, plain_step, word, IsCut, append-nil}
 use Rattle.disco_routes.proofs.Named.{IsFolder, through, named, named_last}
@@ -253,13 +253,13 @@ four false false true w a b c d = refl
 four false false false true a b c d = refl
 four false false false false a b c d = refl
 
-of_folders : (p : List ℕ) → IsText p → first folder_rows p ≡ option_map kind (place_of ([] ∷ parts p))
+of_folders : (p : List ℕ) → IsText p → first folder_rows p ≡ option_map kind (parts_place ([] ∷ parts p))
 of_folders p text =
     folder_words p
     ∙ rw (parts_of p, of_apps_folder p text, of_folder Id (λ id. place.Id id) p (λ name. refl) text, of_folder Svip (λ svip. place.Svip svip) p (λ name. refl) text, of_folder Vip (λ vip. place.Vip vip) p (λ name. refl) text)
     (four (bytes_eq (front p) (codes "apps")) (bytes_eq (front p) (codes "instances")) (bytes_eq (front p) (codes "svips")) (bytes_eq (front p) (codes "vips")) (of_apps (more (back p))) (one_name (λ id. place.Id id) (more (back p))) (one_name (λ svip. place.Svip svip) (more (back p))) (one_name (λ vip. place.Vip vip) (more (back p))))
 
-of_paths : (p : List ℕ) → IsText p → first all_rows p ≡ option_map kind (place_of (parts p))
+of_paths : (p : List ℕ) → IsText p → first all_rows p ≡ option_map kind (parts_place (parts p))
 of_paths [] text = here all_rows
 of_paths (b ∷ p) text = elim (split_on (b == 47)) [
   | inl e ↦ rw (e, same b 47 e) (slash_on folder_rows None p ∙ of_folders p text.1)
@@ -267,5 +267,5 @@ of_paths (b ∷ p) text = elim (split_on (b == 47)) [
 ]
 
 -- the router's table, over any path, is the table of paths
-pub routed : (p : List ℕ) → IsText p → map_key (λ r. r.value) (first table p) ≡ option_map kind (place_of (parts p))
+pub routed : (p : List ℕ) → IsText p → map_key (λ r. r.value) (first table p) ≡ option_map kind (parts_place (parts p))
 routed p text = sym (first-rename (λ r. r.value) table p) ∙ ap (λ rows. first rows p) same_rows ∙ of_paths p text

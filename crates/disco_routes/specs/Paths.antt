@@ -38,18 +38,18 @@ of_apps (app ∷ []) =
 of_apps (app ∷ id ∷ more) = if is_empty app || is_empty id then None else of_instance app id more
 
 -- the table of paths, by their parts
-abbrev pub place_of : List (List ℕ) → Option (Place (List ℕ))
-place_of ([] ∷ folder ∷ names) =
+abbrev pub parts_place : List (List ℕ) → Option (Place (List ℕ))
+parts_place ([] ∷ folder ∷ names) =
     if bytes_eq folder (codes "apps") then of_apps names
     else (if bytes_eq folder (codes "instances") then one_name (λ id. Id id) names
     else (if bytes_eq folder (codes "svips") then one_name (λ svip. Svip svip) names
     else (if bytes_eq folder (codes "vips") then one_name (λ vip. Vip vip) names else None)))
-place_of _ = None
+parts_place _ = None
 
 -- what stands behind `/eureka/v2`
 abbrev pub behind_base : List ℕ → Option (List ℕ)
 behind_base path = if starts_with nat_eq path (codes "/eureka/v2") then Some (drop 10 path) else None
 
 -- what a path names
-abbrev pub place_at : List ℕ → Option (Place (List ℕ))
-place_at path = option_and_then (λ rest. place_of (parts rest)) (behind_base path)
+abbrev pub path_place : List ℕ → Option (Place (List ℕ))
+path_place path = option_and_then (λ rest. parts_place (parts rest)) (behind_base path)

@@ -5,13 +5,13 @@ use Rattle.disco_routes.specs.declared.place.Place.{Place}
 use Rattle.disco_routes.specs.declared.place.Place.TheVariants.{Apps, Delta, App, Instance, Status, Metadata, Id, Vip, Svip}
 
 -- the place with what its references point to
-abbrev pub shown : Place (Bor (List ℕ)) → Place (List ℕ)
-shown Apps = Apps
-shown Delta = Delta
-shown (App app) = App app.now
-shown (Instance app id) = Instance app.now id.now
-shown (Status app id) = Status app.now id.now
-shown (Metadata app id) = Metadata app.now id.now
-shown (Id id) = Id id.now
-shown (Vip vip) = Vip vip.now
-shown (Svip svip) = Svip svip.now
+abbrev pub place_view : Place (Bor (List ℕ)) → Place (List ℕ)
+place_view Apps = Apps
+place_view Delta = Delta
+place_view (App app) = App app.now
+place_view (Instance app id) = Instance app.now id.now
+place_view (Status app id) = Status app.now id.now
+place_view (Metadata app id) = Metadata app.now id.now
+place_view (Id id) = Id id.now
+place_view (Vip vip) = Vip vip.now
+place_view (Svip svip) = Svip svip.now

@@ -57,13 +57,13 @@ abbrev pub second_name : List ℕ → List ℕ
 second_name path = before_first is_slash (after_first is_slash (names path))
 
 -- what a path of a row names
-abbrev pub filled : Route → List ℕ → Place (List ℕ)
-filled Apps path = place.Apps
-filled Delta path = place.Delta
-filled App path = place.App (first_name path)
-filled Instance path = place.Instance (first_name path) (second_name path)
-filled Status path = place.Status (first_name path) (second_name path)
-filled Metadata path = place.Metadata (first_name path) (second_name path)
-filled Id path = place.Id (first_name path)
-filled Vip path = place.Vip (first_name path)
-filled Svip path = place.Svip (first_name path)
+abbrev pub place_filled : Route → List ℕ → Place (List ℕ)
+place_filled Apps path = place.Apps
+place_filled Delta path = place.Delta
+place_filled App path = place.App (first_name path)
+place_filled Instance path = place.Instance (first_name path) (second_name path)
+place_filled Status path = place.Status (first_name path) (second_name path)
+place_filled Metadata path = place.Metadata (first_name path) (second_name path)
+place_filled Id path = place.Id (first_name path)
+place_filled Vip path = place.Vip (first_name path)
+place_filled Svip path = place.Svip (first_name path)

@@ -1,8 +1,8 @@
 //! The table of paths.
 ghost use Rattle.std.specs.Prelude.{◌≡◌, IfOk, OnOk, option_map};
-ghost use Rattle.disco_routes.specs.Paths.{behind_base, place_at};
-ghost use Rattle.disco_routes.specs.Places.{shown};
-ghost use Rattle.disco_routes.specs.Table.{filled, table, with_apps, with_instances, with_vips};
+ghost use Rattle.disco_routes.specs.Paths.{behind_base, path_place};
+ghost use Rattle.disco_routes.specs.Places.{place_view};
+ghost use Rattle.disco_routes.specs.Table.{place_filled, table, with_apps, with_instances, with_vips};
 
 use crate::parts::split;
 use crate::place::Place;
@@ -64,7 +64,7 @@ fn router(alloc: Global) -> Result<Router<Route>, InsertError>
 
 /// What a path of a row names.
 fn filled(route: Route, path: &[u8]) -> Place<&[u8]>
-    ensures { shown result ≡ filled route path.now }
+    ensures { place_view result ≡ place_filled route path.now }
 {
     let (_, folder) = split(path);
     let (_, names) = split(folder);
@@ -104,7 +104,7 @@ impl Routes {
     /// What a path names, `None` where it names nothing. The names in it stand as in the path,
     /// percent-encoded; none is empty.
     pub fn find<'p>(&self, path: &'p str) -> Option<Place<&'p [u8]>>
-        ensures { option_map shown result ≡ place_at path.entry.now }
+        ensures { option_map place_view result ≡ path_place path.entry.now }
     {
         let behind = path.strip_prefix(BASE)?;
         match self.router.at(behind) {

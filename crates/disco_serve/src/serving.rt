@@ -6,7 +6,7 @@ ghost use Rattle.disco_options.specs.Ending.{EndsBy};
 ghost use Rattle.disco_options.specs.Options.{faults_of};
 ghost use Rattle.disco_press.specs.Openings.{Opens};
 ghost use Rattle.disco_reader.specs.Causes.{Cause};
-ghost use Rattle.disco_serve.specs.Serving.{IsGiven, SaysListening, listening_line};
+ghost use Rattle.disco_serve.specs.Serving.{IsServicePlan, SaysListening, listening_line};
 ghost use Rattle.disco_values.specs.declared.fault.Fault.TheVariants.{OutOfMemory, WriteFailed};
 
 use crate::service::Service;
@@ -14,7 +14,7 @@ use clap::ArgMatches;
 use disco_editions::Naming;
 use disco_message::Limits;
 use disco_options::{
-    MOST_PORT, MOST_WORKERS, Verb, WORKERS, count, number_given, read_words, refused, report,
+    MOST_PORT, MOST_WORKERS, Subcommand, WORKERS, count, number_given, read_words, refused, report,
     report_address, settings_from,
 };
 use disco_press::{Desk, Opening, Seat, open};
@@ -31,7 +31,7 @@ use std::thread::{Threads, join};
 
 /// What the words of `serve` name; the run is `run` where they name none.
 fn service_from(matches: &ArgMatches<'_>, run: u64) -> Service
-    ensures { IsGiven run (rows_of (found_of matches.now)) result }
+    ensures { IsServicePlan run (rows_of (found_of matches.now)) result }
 {
     Service {
         settings: settings_from(matches, run),
@@ -136,14 +136,14 @@ pub fn serve<J: Naming + Send + Sync, R, W: Sink, E: Sink>(
 where
     R: Net<Listener = TcpListener, Stream = TcpStream> + Threads + Wait + rt::Clock + Sync,
     requires opening { Opens J.list J.name J.parts opening }
-    ensures ends { EndsBy E.contents E.failed (faults_of Verb.Serve (map string_bytes words.now)) result out.old out.new errors.old errors.new }
+    ensures ends { EndsBy E.contents E.failed (faults_of Subcommand.Serve (map string_bytes words.now)) result out.old out.new errors.old errors.new }
     // Words with no fault are `serve` with options: 0 says that the line which these ask for was written.
-    ensures listening { faults_of Verb.Serve (map string_bytes words.now) ≡ [] → result ≡ 0
+    ensures listening { faults_of Subcommand.Serve (map string_bytes words.now) ≡ [] → result ≡ 0
         → SaysListening (map string_bytes words.now) (W.contents out.old) (W.contents out.new) }
 {
     let mut clock = SystemClock::new(rt);
     let run = clock.now();
-    let service = match read_words(alloc, Verb::Serve, words) {
+    let service = match read_words(alloc, Subcommand::Serve, words) {
         Ok(matches) => service_from(&matches, run),
         Err(error) => return refused(alloc, &error, out, errors),
     };

@@ -14,7 +14,7 @@ use std::sync::{Mutex, Wait};
 
 /// What all workers of a server share.
 #[derive(Drop)]
-pub struct Shop<'a, J: Naming, R, G> {
+pub struct ServerContext<'a, J: Naming, R, G> {
     pub rt: &'a R,
     pub alloc: Global,
     pub desk: &'a Mutex<Desk<J>>,
@@ -25,7 +25,7 @@ pub struct Shop<'a, J: Naming, R, G> {
 /// worker's clock says.
 #[derive(Drop)]
 pub struct DeskService<'a, J: Naming, R, C, G> {
-    pub shop: &'a Shop<'a, J, R, G>,
+    pub context: &'a ServerContext<'a, J, R, G>,
     /// The worker's own router.
     pub routes: Routes,
     /// The worker's own place at the desk.
@@ -39,7 +39,7 @@ pub struct DeskService<'a, J: Naming, R, C, G> {
 impl<'a, J: Naming, R, C, G> DeskService<'a, J, R, C, G> {
     /// A service for the connections of one worker, of which there was none yet.
     pub fn new(
-        shop: &'a Shop<'a, J, R, G>,
+        context: &'a ServerContext<'a, J, R, G>,
         routes: Routes,
         seat: Seat<J>,
         clock: C,
@@ -48,7 +48,7 @@ impl<'a, J: Naming, R, C, G> DeskService<'a, J, R, C, G> {
         ensures clock { result.clock ≡ clock }
     {
         DeskService {
-            shop,
+            context,
             routes,
             seat,
             clock,
@@ -72,18 +72,18 @@ impl<'a, J: Naming, R: Wait, C: Clock, G: Gate> Service for DeskService<'a, J, R
     ghost answers = { ServesDesk C.ticks };
 
     fn call(&mut self, request: &Request) -> Reply<Shared> {
-        self.shop.gate.pass(Point::Received(self.connection));
+        self.context.gate.pass(Point::Received(self.connection));
         let now = self.clock.now();
         let reply = answer(
-            self.shop.rt,
-            self.shop.alloc,
+            self.context.rt,
+            self.context.alloc,
             &self.routes,
-            self.shop.desk,
+            self.context.desk,
             &mut self.seat,
             request,
             now,
         );
-        self.shop.gate.pass(Point::Answered(self.connection));
+        self.context.gate.pass(Point::Answered(self.connection));
         reply
     }
 }

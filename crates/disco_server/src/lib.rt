@@ -13,7 +13,7 @@ mod starting;
 mod worker;
 
 pub use connection::serve_hub;
-pub use desk_service::{DeskService, Shop};
+pub use desk_service::{DeskService, ServerContext};
 pub use disco_answers::{answer, answer_hub, answer_on};
 pub use disco_connections::listen;
 pub use disco_routes::Routes;

@@ -2,10 +2,10 @@
 ghost use Rattle.std.specs.Prelude.{◌≡◌, ◌⊎◌, IfErr};
 ghost use Rattle.disco_values.specs.declared.fault.Fault.TheVariants.{OutOfMemory, ReadFailed};
 
-use crate::desk_service::Shop;
+use crate::desk_service::ServerContext;
 use crate::gate::Gate;
 use crate::worker::{Entrance, Worker, work};
-use disco_connections::{Door, Refusal, Waits, Workers};
+use disco_connections::{Acceptor, Refusal, Waits, Workers};
 use disco_editions::Naming;
 use disco_message::Limits;
 use disco_press::{Desk, Seat};
@@ -19,15 +19,15 @@ use std::{rt, thread};
 
 /// A worker for each seat.
 fn workers_for<'a, J: Naming, R, C: Clock + Copy, G>(
-    shop: &'a Shop<'a, J, R, G>,
+    context: &'a ServerContext<'a, J, R, G>,
     seats: Vec<Seat<J>>,
     limits: Limits,
     clock: C,
 ) -> Result<Vec<Worker<'a, J, R, C, G>>, AllocError> {
-    let mut workers = Vec::new(shop.alloc);
+    let mut workers = Vec::new(context.alloc);
     for seat in seats {
         let number = workers.len();
-        workers.push(Worker::new(shop, number, seat, clock, limits)?)?;
+        workers.push(Worker::new(context, number, seat, clock, limits)?)?;
     }
     Ok(workers)
 }
@@ -48,7 +48,7 @@ where
 {
     thread::scope(thread::scope_env(), rt, move |scope| {
         // No connection is taken before all workers are there.
-        let mut entry = entrance.door.lock(rt);
+        let mut entry = entrance.acceptor.lock(rt);
         for worker in workers {
             if scope
                 .spawn(move || work(rt, alloc, entrance, worker))
@@ -91,21 +91,21 @@ where
     ensures { IfErr result (λ fault. (fault ≡ OutOfMemory) ⊎ (fault ≡ ReadFailed)) }
 {
     let waits = Waits::of_server();
-    let shop = Shop {
+    let context = ServerContext {
         rt,
         alloc,
         desk,
         gate,
     };
     let known = Workers::new(alloc, seats.len())?;
-    let workers = workers_for(&shop, seats, *limits, clock)?;
-    let door = Mutex::new(Door::new(connections));
+    let workers = workers_for(&context, seats, *limits, clock)?;
+    let acceptor = Mutex::new(Acceptor::new(connections));
     let entrance = Entrance {
         listener: &listener,
-        door: &door,
+        acceptor: &acceptor,
         workers: &known,
         waits: &waits,
     };
     run(rt, alloc, entrance, workers);
-    door.into_inner().outcome()
+    acceptor.into_inner().outcome()
 }

@@ -1,7 +1,9 @@
 //! A worker, which serves one connection after another.
-use crate::desk_service::{DeskService, Shop};
+use crate::desk_service::{DeskService, ServerContext};
 use crate::gate::Gate;
-use disco_connections::{Buffers, Door, Post, Refusal, Waits, Workers, attend, next_connection};
+use disco_connections::{
+    Acceptor, Buffers, Post, Refusal, Waits, Workers, next_connection, serve_connection,
+};
 use disco_editions::Naming;
 use disco_message::Limits;
 use disco_press::Seat;
@@ -17,7 +19,7 @@ use std::sync::{Mutex, Wait};
 #[derive(Clone, Copy)]
 pub(crate) struct Entrance<'a> {
     pub(crate) listener: &'a TcpListener,
-    pub(crate) door: &'a Mutex<Door>,
+    pub(crate) acceptor: &'a Mutex<Acceptor>,
     pub(crate) workers: &'a Workers,
     pub(crate) waits: &'a Waits,
 }
@@ -25,7 +27,7 @@ pub(crate) struct Entrance<'a> {
 /// What a worker goes to its thread with.
 #[derive(Drop)]
 pub(crate) struct Worker<'a, J: Naming, R, C, G> {
-    shop: &'a Shop<'a, J, R, G>,
+    context: &'a ServerContext<'a, J, R, G>,
     /// Which worker it is, from 0.
     number: usize,
     seat: Seat<J>,
@@ -36,7 +38,7 @@ pub(crate) struct Worker<'a, J: Naming, R, C, G> {
 impl<'a, J: Naming, R, C, G> Worker<'a, J, R, C, G> {
     /// A worker with its buffers.
     pub(crate) fn new(
-        shop: &'a Shop<'a, J, R, G>,
+        context: &'a ServerContext<'a, J, R, G>,
         number: usize,
         seat: Seat<J>,
         clock: C,
@@ -45,9 +47,9 @@ impl<'a, J: Naming, R, C, G> Worker<'a, J, R, C, G> {
     where
         C: Drop,
     {
-        let buffers = Buffers::new(shop.alloc, limits)?;
+        let buffers = Buffers::new(context.alloc, limits)?;
         Ok(Worker {
-            shop,
+            context,
             number,
             seat,
             clock,
@@ -69,13 +71,13 @@ fn serve_all<J: Naming, R: Wait + rt::Clock, C: Clock + Copy, G: Gate>(
         let Some((stream, number)) = next_connection(
             rt,
             entrance.listener,
-            entrance.door,
+            entrance.acceptor,
             &mut post,
         ) else {
             return;
         };
         service.begin(number);
-        buffers = attend(
+        buffers = serve_connection(
             rt,
             alloc,
             buffers,
@@ -116,7 +118,7 @@ pub(crate) fn work<
     G: Gate,
 >(rt: &R, alloc: Global, entrance: Entrance<'_>, worker: Worker<'_, J, R, C, G>) {
     let Worker {
-        shop,
+        context,
         number,
         seat,
         clock,
@@ -124,9 +126,9 @@ pub(crate) fn work<
     } = worker;
     match equip(rt, alloc, number, entrance) {
         Ok((post, routes)) => {
-            let mut service = DeskService::new(shop, routes, seat, clock);
+            let mut service = DeskService::new(context, routes, seat, clock);
             serve_all(rt, alloc, entrance, post, &mut service, buffers);
         }
-        Err(refusal) => entrance.door.lock(rt).refuse(refusal),
+        Err(refusal) => entrance.acceptor.lock(rt).refuse(refusal),
     }
 }

@@ -8,5 +8,5 @@ abbrev pub AppendsFront : Option (List ℕ) → Option (List ℕ) → List ℕ �
 AppendsFront old new bytes = (done : List ℕ) × (rest : List ℕ) × (bytes ≡ done ++ rest) × Appends old new done
 
 -- all of these bytes are written, or a front of them, where a write failed; the numbers count failures before and after
-abbrev pub Writes : {A E : Type 0} → Option (List ℕ) → Option (List ℕ) → ℕ → ℕ → Result A E → List ℕ → Type 0
-Writes old new before now r bytes = MatchResult r (λ _. Appends old new bytes × (now ≡ before)) (λ _. AppendsFront old new bytes × Raises before now)
+abbrev pub WritesBytes : {A E : Type 0} → Option (List ℕ) → Option (List ℕ) → ℕ → ℕ → Result A E → List ℕ → Type 0
+WritesBytes old new before now r bytes = MatchResult r (λ _. Appends old new bytes × (now ≡ before)) (λ _. AppendsFront old new bytes × Raises before now)

@@ -1,13 +1,13 @@
 //! Whole texts that are written.
 ghost use Rattle.std.specs.Prelude.{◌≡◌, ◌≤◌, length};
-ghost use Rattle.disco_streams.specs.Writes.{Writes};
+ghost use Rattle.disco_streams.specs.Writes.{WritesBytes};
 
 use disco_reader::{Failed, Sink};
 
 /// Writes all of these bytes, in as many writes as it takes. Where a write fails, a front of them was
 /// written.
 pub fn write_all<W: Sink>(sink: &mut W, bytes: &[u8]) -> Result<(), Failed>
-    ensures { Writes (W.contents sink.old) (W.contents sink.new) (W.failed sink.old) (W.failed sink.new) result bytes.now }
+    ensures { WritesBytes (W.contents sink.old) (W.contents sink.new) (W.failed sink.old) (W.failed sink.new) result bytes.now }
 {
     let mut at = 0;
     while at < bytes.len() {

@@ -5,13 +5,13 @@ use Rattle.std.specs.Io.KnownBytes.{Appends}
 use Rattle.std.specs.List.{flat_map}
 use Rattle.disco_values.specs.declared.fault.Fault.{Fault}
 use Rattle.disco_query.specs.declared.key.DocKey.{DocKey}
-use Rattle.disco_reconcile.specs.State.{State}
+use Rattle.disco_reconcile.specs.State.{ClientState}
 use Rattle.disco_reconcile.specs.declared.fetch.Fetched.{Fetched}
 use Rattle.disco_telling.specs.Following.{AreTurns, IsTurn}
 use Rattle.disco_telling.specs.Telling.{Told}
 use Rattle.disco_telling.proofs.Writing.{appends_then}
 
-pub turns_more : {S : Type 0} (gives : S → DocKey → Result Fetched Fault → S → Type 0) (failed : S → ℕ) (vip : Option (List ℕ)) (old : State S) (told : Told) (texts : List (List ℕ)) (between : State S) (then_told : Told) (text : List ℕ) (new : State S) (now : Told) →
+pub turns_more : {S : Type 0} (gives : S → DocKey → Result Fetched Fault → S → Type 0) (failed : S → ℕ) (vip : Option (List ℕ)) (old : ClientState S) (told : Told) (texts : List (List ℕ)) (between : ClientState S) (then_told : Told) (text : List ℕ) (new : ClientState S) (now : Told) →
     AreTurns gives failed vip old told texts between then_told → IsTurn gives failed vip between then_told text new now → AreTurns gives failed vip old told (texts ++ text ∷ []) new now
 turns_more gives failed vip old told [] between then_told text new now all one =
     (new, now, subst (λ s. IsTurn gives failed vip s told text new now) all.0 (subst (λ t. IsTurn gives failed vip between t text new now) all.1 one), (refl, refl))

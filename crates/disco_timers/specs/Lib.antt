@@ -1,3 +1,3 @@
-pub mod Chores
+pub mod Tasks
 pub mod Publishing
 pub mod Timers

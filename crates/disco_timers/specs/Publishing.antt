@@ -10,7 +10,7 @@ use Rattle.disco_timers.specs.declared.publishing.Step.{Step}
 use Rattle.disco_timers.specs.declared.publishing.Step.TheVariants as step
 
 -- a round begins where none is open, the first key that is left of the open one is copied, or all that was noted is published
-abbrev pub Moves : DeskState → Step → DeskState → Type 0
-Moves old step.Begun new = (open_round old.hub ≡ None) × Notes (begin ∷ []) old new
-Moves old step.Copied new = (c : Copied) × Advances (is_doc c) old.hub.rounds new.hub.rounds × Notes (note_of c ∷ []) old new
-Moves old step.Published new = (new.published ≡ old.published ++ old.pending ∷ []) × (new.pending ≡ [])
+abbrev pub TakesStep : DeskState → Step → DeskState → Type 0
+TakesStep old step.Begun new = (open_round old.hub ≡ None) × Notes (begin ∷ []) old new
+TakesStep old step.Copied new = (c : Copied) × Advances (is_doc c) old.hub.rounds new.hub.rounds × Notes (note_of c ∷ []) old new
+TakesStep old step.Published new = (new.published ≡ old.published ++ old.pending ∷ []) × (new.pending ≡ [])

@@ -2,10 +2,10 @@
 //! and lets leases run out, each on a thread of its own, by a [`Clock`].
 #![tactic(auto)]
 
-mod chores;
 mod clock;
 mod publishing;
 mod system_clock;
+mod tasks;
 mod timer;
 mod timing;
 

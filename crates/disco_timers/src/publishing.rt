@@ -3,7 +3,7 @@ ghost use Rattle.std.specs.Prelude.{◌≡◌, IfErr, IfOk, None, OnErr};
 ghost use Rattle.disco_values.specs.declared.fault.Fault.TheVariants.{OutOfMemory};
 ghost use Rattle.disco_hub.specs.State.{open_round};
 ghost use Rattle.disco_hub.specs.Transitions.{HasNoneLeft, MovesRounds};
-ghost use Rattle.disco_timers.specs.Publishing.{Moves};
+ghost use Rattle.disco_timers.specs.Publishing.{TakesStep};
 
 use disco_editions::Naming;
 use disco_press::Desk;
@@ -24,7 +24,7 @@ pub enum Step {
 /// Begins a round.
 fn begin<J: Naming>(desk: &mut Desk<J>) -> Result<Step, Fault>
     requires { open_round desk.old.hub ≡ None }
-    ensures moves { IfOk result (λ step. Moves desk.old step desk.new) }
+    ensures moves { IfOk result (λ step. TakesStep desk.old step desk.new) }
     ensures rest { MovesRounds desk.old.hub desk.new.hub }
     ensures refused { IfErr result (λ fault. fault ≡ OutOfMemory) }
     ensures as_before { OnErr result (desk.new ≡ desk.old) }
@@ -38,7 +38,7 @@ fn begin<J: Naming>(desk: &mut Desk<J>) -> Result<Step, Fault>
 /// Publishes the open round, of which no key is left.
 fn publish<J: Naming, R: Wait>(rt: &R, desk: &mut Desk<J>) -> Step
     requires { HasNoneLeft desk.old.hub }
-    ensures moves { Moves desk.old result desk.new }
+    ensures moves { TakesStep desk.old result desk.new }
     ensures rest { MovesRounds desk.old.hub desk.new.hub }
 {
     let Ok(_) = desk.publish(rt) else {
@@ -51,7 +51,7 @@ fn publish<J: Naming, R: Wait>(rt: &R, desk: &mut Desk<J>) -> Step
 /// where none is. May wait for a seat that is inside its look. Refused only as `OutOfMemory`, and
 /// then the desk is as it was.
 pub fn publish_step<J: Naming, R: Wait>(rt: &R, desk: &mut Desk<J>) -> Result<Step, Fault>
-    ensures moves { IfOk result (λ step. Moves desk.old step desk.new) }
+    ensures moves { IfOk result (λ step. TakesStep desk.old step desk.new) }
     ensures rest { MovesRounds desk.old.hub desk.new.hub }
     ensures refused { IfErr result (λ fault. fault ≡ OutOfMemory) }
     ensures as_before { OnErr result (desk.new ≡ desk.old) }

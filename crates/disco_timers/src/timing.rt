@@ -2,8 +2,8 @@
 ghost use Rattle.std.specs.Prelude.{◌≡◌, IfErr};
 ghost use Rattle.disco_values.specs.declared.fault.Fault.TheVariants.{ReadFailed};
 
-use crate::chores::{CHORES, Chore, next_go, tend_once};
 use crate::clock::Clock;
+use crate::tasks::{CHORES, Task, next_go, tend_once};
 use crate::timer::Timer;
 use disco_editions::Naming;
 use disco_press::Desk;
@@ -36,13 +36,13 @@ impl<'a> Ends<'a> {
 /// Does a chore at a moment, each go of it under the lock, which others may have between two goes.
 /// Where there is no memory the round stays open for the next time, and what a run is refused is taken
 /// the next time.
-fn tend<J: Naming, R: Wait>(rt: &R, desk: &Mutex<Desk<J>>, chore: Chore, now: u64, ends: Ends<'_>) {
+fn tend<J: Naming, R: Wait>(rt: &R, desk: &Mutex<Desk<J>>, task: Task, now: u64, ends: Ends<'_>) {
     for _ in rt.forever() {
         if ends.have_come() {
             return;
         }
         let mut guard = desk.lock(rt);
-        let tended = tend_once(rt, &mut *guard, chore, now);
+        let tended = tend_once(rt, &mut *guard, task, now);
         MutexGuard::unlock(guard);
         if !matches!(tended, Ok(true)) {
             return;
@@ -53,13 +53,13 @@ fn tend<J: Naming, R: Wait>(rt: &R, desk: &Mutex<Desk<J>>, chore: Chore, now: u6
 /// Cleans up to a moment, by goes that forget the changes of a step each, so that nobody waits for
 /// all that came in a period.
 fn clean<J: Naming, R: Wait>(rt: &R, desk: &Mutex<Desk<J>>, now: u64, ends: Ends<'_>) {
-    let mut moment = now.saturating_sub(Chore::Clean.period());
+    let mut moment = now.saturating_sub(Task::Clean.period());
     for _ in rt.forever() {
         if ends.have_come() || moment >= now {
             return;
         }
         moment = next_go(moment, now);
-        tend(rt, desk, Chore::Clean, moment, ends);
+        tend(rt, desk, Task::Clean, moment, ends);
     }
 }
 
@@ -68,18 +68,18 @@ fn tend_often<J: Naming, R: Wait + rt::Clock, C: Clock + Copy>(
     rt: &R,
     desk: &Mutex<Desk<J>>,
     mut clock: C,
-    chore: Chore,
+    task: Task,
     ends: Ends<'_>,
 ) {
-    let mut timer = Timer::new(chore.period(), clock.now());
+    let mut timer = Timer::new(task.period(), clock.now());
     for _ in rt.forever() {
         if ends.have_come() {
             return;
         }
         let now = clock.now();
         if timer.is_due(now) {
-            match chore {
-                Chore::Clean => clean(rt, desk, now, ends),
+            match task {
+                Task::Clean => clean(rt, desk, now, ends),
                 other => tend(rt, desk, other, now, ends),
             }
         }
@@ -110,8 +110,8 @@ where
         refused: &refused,
     };
     thread::scope(thread::scope_env(), rt, move |scope| {
-        for chore in CHORES {
-            let worker = scope.spawn(move || tend_often(rt, desk, clock, chore, ends));
+        for task in CHORES {
+            let worker = scope.spawn(move || tend_often(rt, desk, clock, task, ends));
             if worker.is_err() {
                 ends.refused.store(true, Ordering::SeqCst);
                 break;

@@ -15,8 +15,8 @@ use Rattle.disco_client.specs.Tracks.{Histories}
 use Rattle.disco_client.specs.declared.certified.CertifiedCopy.{CertifiedCopy}
 use Rattle.disco_world.specs.Answers.{AreAnswers, AreExact, AreKnown, IsAnswer, NeverFall}
 use Rattle.disco_world.specs.Certified.{given}
-use Rattle.disco_world.specs.Clients.{MeansVersion, taken}
-use Rattle.disco_world.specs.Events.{Deed, World, loads, looks, takes, certifies, after, after_at, certified_done, certifies_any, clients_done, deed, doc_in, doc_of_event, for_clients, history_of, ran_out, takes_any, world}
+use Rattle.disco_world.specs.Clients.{MeansVersion, client_after}
+use Rattle.disco_world.specs.Events.{Effect, World, loads, looks, takes, certifies, after, after_at, certified_done, certifies_any, clients_done, effect, doc_in, doc_of_event, for_clients, history_of, ran_out, takes_any, world}
 use Rattle.disco_world.specs.Steps.{AreReadable}
 use Rattle.disco_world.specs.declared.clients.Client.{Client}
 use Rattle.disco_world.specs.declared.event.Event.{Event}
@@ -45,7 +45,7 @@ pub all_readable : (w : World) → Holds w → AreReadable w.replies
 all_readable w holds = λ k d is. readable (history_of w) d (holds.docs k d is)
 
 -- the document of a deed that gives a client one is true of a version
-abbrev IsGood : Histories → Deed → Type 0
+abbrev IsGood : Histories → Effect → Type 0
 IsGood hs (takes client d) = IsOf hs d
 IsGood hs (certifies client d) = IsOf hs d
 IsGood hs _ = Unit {0}
@@ -58,7 +58,7 @@ certify_good : (hs : Histories) (client : ℕ) (o : Option Payload) → ((d : Pa
 certify_good hs client None is = tt
 certify_good hs client (Some d) is = is d refl
 
-good : (rules : Rules) (w : World) (e : Event) → Holds w → IsGood (history_of w) (deed rules w e)
+good : (rules : Rules) (w : World) (e : Event) → Holds w → IsGood (history_of w) (effect rules w e)
 good rules w (Take client event) holds = take_good (history_of w) client (doc_of_event w.replies event) (holds.docs event)
 good rules w (Certify client event) holds = certify_good (history_of w) client (doc_of_event w.replies event) (holds.docs event)
 good rules w (Step Minute) holds = tt
@@ -70,7 +70,7 @@ kind_of : (d : Arc Payload Global) (e : Payload) (b : Bool) → for_clients d.va
 kind_of d e true kind is = (kind, same_Some _ _ is)
 kind_of d e false kind is = absurd (cc)
 
-served_is : (rules : Rules) (w : World) → Seen w → (what : Deed) (r : Reply) (d : Payload) → IsAnswer rules w what r → doc_in (Some r) ≡ Some d → IsOf (history_of w) d
+served_is : (rules : Rules) (w : World) → Seen w → (what : Effect) (r : Reply) (d : Payload) → IsAnswer rules w what r → doc_in (Some r) ≡ Some d → IsOf (history_of w) d
 served_is rules w seen (loads k) (Doc p) d answer is =
     let kind = kind_of p d (for_clients p.value.key.query) refl is in
     subst (IsOf (history_of w)) kind.1 (of_now (history_of w) w.past.run (history w.past) p.value (now_is w) answer.1.true_now kind.0)
@@ -81,7 +81,7 @@ served_is rules w seen (looks None) (Doc p) d answer is = absurd (cc)
 served_is rules w seen what (Doc p) d answer is = absurd answer
 served_is rules w seen what r d answer is = absurd (cc)
 
-docs_after : (rules : Rules) (w : World) → Seen w → (what : Deed) (r : Reply) → Holds w → IsAnswer rules w what r → (k : ℕ) (d : Payload) → doc_of_event (w.replies ++ r ∷ []) k ≡ Some d → IsOf (history_of w) d
+docs_after : (rules : Rules) (w : World) → Seen w → (what : Effect) (r : Reply) → Holds w → IsAnswer rules w what r → (k : ℕ) (d : Payload) → doc_of_event (w.replies ++ r ∷ []) k ≡ Some d → IsOf (history_of w) d
 docs_after rules w seen what r holds answer zero d is = absurd (cc)
 docs_after rules w seen what r holds answer (suc i) d is = by (place_of i (length w.replies))
   where
@@ -92,7 +92,7 @@ docs_after rules w seen what r holds answer (suc i) d is = by (place_of i (lengt
 
 -- ---- copies
 
-took : (hs : Histories) (d : Payload) (held : Option Client) (c : Client) → IsOf hs d → ((o : Client) → held ≡ Some o → MeansVersion hs o) → taken d held ≡ Some c → MeansVersion hs c
+took : (hs : Histories) (d : Payload) (held : Option Client) (c : Client) → IsOf hs d → ((o : Client) → held ≡ Some o → MeansVersion hs o) → client_after d held ≡ Some c → MeansVersion hs c
 took hs d held c is means gets = by (is_delta d.key.query) refl
   where
     by : (b : Bool) → is_delta d.key.query ≡ b → MeansVersion hs c
@@ -100,15 +100,15 @@ took hs d held c is means gets = by (is_delta d.key.query) refl
     by false full = full_means hs d held c is full gets
 
 one_of : (hs : Histories) (clients : ℕ → Option Client) (client q : ℕ) (d : Payload) (c : Client) (b : Bool) → IsOf hs d → ((q : ℕ) (o : Client) → clients q ≡ Some o → MeansVersion hs o)
-    → cond b (taken d (clients client)) (clients q) ≡ Some c → MeansVersion hs c
+    → cond b (client_after d (clients client)) (clients q) ≡ Some c → MeansVersion hs c
 one_of hs clients client q d c true is means e = took hs d (clients client) c is (means client) e
 one_of hs clients client q d c false is means e = means q c e
 
-copies_done : (hs : Histories) (clients : ℕ → Option Client) (what : Deed) (q : ℕ) (c : Client) → IsGood hs what → ((q : ℕ) (o : Client) → clients q ≡ Some o → MeansVersion hs o) → clients_done clients what q ≡ Some c → MeansVersion hs c
+copies_done : (hs : Histories) (clients : ℕ → Option Client) (what : Effect) (q : ℕ) (c : Client) → IsGood hs what → ((q : ℕ) (o : Client) → clients q ≡ Some o → MeansVersion hs o) → clients_done clients what q ≡ Some c → MeansVersion hs c
 copies_done hs clients (takes client d) q c is means e = one_of hs clients client q d c (eqb q client) is means e
 copies_done hs clients what q c is means e = means q c e
 
-copies_after : (hs : Histories) (clients : ℕ → Option Client) (what : Deed) (r : Bool) (q : ℕ) (c : Client) → IsGood hs what → ((q : ℕ) (o : Client) → clients q ≡ Some o → MeansVersion hs o)
+copies_after : (hs : Histories) (clients : ℕ → Option Client) (what : Effect) (r : Bool) (q : ℕ) (c : Client) → IsGood hs what → ((q : ℕ) (o : Client) → clients q ≡ Some o → MeansVersion hs o)
     → cond r clients (clients_done clients what) q ≡ Some c → MeansVersion hs c
 copies_after hs clients what true q c is means e = means q c e
 copies_after hs clients what false q c is means e = copies_done hs clients what q c is means e
@@ -120,20 +120,20 @@ one_exact : (hs : Histories) (clients : ℕ → Option CertifiedCopy) (client q 
 one_exact hs clients client q d k true is exact e = given_exact hs d (clients client) k is (exact client) e
 one_exact hs clients client q d k false is exact e = exact q k e
 
-exact_done : (hs : Histories) (clients : ℕ → Option CertifiedCopy) (what : Deed) (q : ℕ) (k : CertifiedCopy) → IsGood hs what → ((q : ℕ) (o : CertifiedCopy) → clients q ≡ Some o → IsExact hs o) → certified_done clients what q ≡ Some k → IsExact hs k
+exact_done : (hs : Histories) (clients : ℕ → Option CertifiedCopy) (what : Effect) (q : ℕ) (k : CertifiedCopy) → IsGood hs what → ((q : ℕ) (o : CertifiedCopy) → clients q ≡ Some o → IsExact hs o) → certified_done clients what q ≡ Some k → IsExact hs k
 exact_done hs clients (certifies client d) q k is exact e = one_exact hs clients client q d k (eqb q client) is exact e
 exact_done hs clients what q k is exact e = exact q k e
 
-exact_after : (hs : Histories) (clients : ℕ → Option CertifiedCopy) (what : Deed) (r : Bool) (q : ℕ) (k : CertifiedCopy) → IsGood hs what → ((q : ℕ) (o : CertifiedCopy) → clients q ≡ Some o → IsExact hs o)
+exact_after : (hs : Histories) (clients : ℕ → Option CertifiedCopy) (what : Effect) (r : Bool) (q : ℕ) (k : CertifiedCopy) → IsGood hs what → ((q : ℕ) (o : CertifiedCopy) → clients q ≡ Some o → IsExact hs o)
     → cond r clients (certified_done clients what) q ≡ Some k → IsExact hs k
 exact_after hs clients what true q k is exact e = exact q k e
 exact_after hs clients what false q k is exact e = exact_done hs clients what q k is exact e
 
 -- ---- one event on, and all
 
-holds_after : (rules : Rules) (w : World) → AreNumbered w → Seen w → (e : Event) (r : Reply) → Holds w → IsAnswer rules w (deed rules w e) r → Holds (after rules w (deed rules w e) r)
+holds_after : (rules : Rules) (w : World) → AreNumbered w → Seen w → (e : Event) (r : Reply) → Holds w → IsAnswer rules w (effect rules w e) r → Holds (after rules w (effect rules w e) r)
 holds_after rules w numbered seen e r holds answer =
-    let what = deed rules w e in
+    let what = effect rules w e in
     let hs = history_of w in
     let gs = history_of (after rules w what r) in
     let grow = grows rules w numbered what r answer in
@@ -177,16 +177,16 @@ one_rises : (clients : ℕ → Option CertifiedCopy) (client q : ℕ) (d : Paylo
 one_rises clients client q d k true same is = subst (λ o. Rises k (given d o)) (sym (ap clients (sym (eqb-true q client same)) ∙ is)) (given_rises d k)
 one_rises clients client q d k false other is = rises_alone k (clients q) is
 
-rises_done : (clients : ℕ → Option CertifiedCopy) (what : Deed) (q : ℕ) (k : CertifiedCopy) → clients q ≡ Some k → Rises k (certified_done clients what q)
+rises_done : (clients : ℕ → Option CertifiedCopy) (what : Effect) (q : ℕ) (k : CertifiedCopy) → clients q ≡ Some k → Rises k (certified_done clients what q)
 rises_done clients (certifies client d) q k is = one_rises clients client q d k (eqb q client) refl is
 rises_done clients what q k is = rises_alone k (clients q) is
 
-rises_after : (clients : ℕ → Option CertifiedCopy) (what : Deed) (b : Bool) (q : ℕ) (k : CertifiedCopy) → clients q ≡ Some k → Rises k (cond b clients (certified_done clients what) q)
+rises_after : (clients : ℕ → Option CertifiedCopy) (what : Effect) (b : Bool) (q : ℕ) (k : CertifiedCopy) → clients q ≡ Some k → Rises k (cond b clients (certified_done clients what) q)
 rises_after clients what true q k is = rises_alone k (clients q) is
 rises_after clients what false q k is = rises_done clients what q k is
 
 rises_at : (rules : Rules) (w : World) (e : Option Event) (r : Option Reply) (q : ℕ) (k : CertifiedCopy) → w.certified q ≡ Some k → Rises k ((after_at rules w e r).certified q)
-rises_at rules w (Some e) (Some r) q k is = rises_after w.certified (deed rules w e) (ran_out r) q k is
+rises_at rules w (Some e) (Some r) q k is = rises_after w.certified (effect rules w e) (ran_out r) q k is
 rises_at rules w None r q k is = rises_alone k (w.certified q) is
 rises_at rules w (Some e) None q k is = rises_alone k (w.certified q) is
 

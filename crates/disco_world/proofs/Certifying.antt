@@ -9,7 +9,7 @@ use Rattle.disco_query.specs.Query.{is_delta}
 use Rattle.disco_query.specs.declared.query.Query.TheVariants as query
 use Rattle.disco_cache.specs.Payloads.{cert_of}
 use Rattle.disco_cache.specs.declared.payload.Payload.{Payload}
-use Rattle.disco_client.specs.Tracks.{Histories, IsAt, gives_way, known_at, reaches, same_form}
+use Rattle.disco_client.specs.Tracks.{Histories, IsVersionIn, gives_way, known_at, reaches, same_form}
 use Rattle.disco_client.specs.declared.certified.CertifiedCopy.{CertifiedCopy}
 use Rattle.disco_client.proofs.Moves.{Moves, moves, rises}
 use Rattle.disco_world.specs.Certified.{IsGiven, given, given_by, given_from, takes_it}
@@ -17,7 +17,7 @@ use Rattle.disco_world.proofs.Known.{IsOf, delta_at, full_at, meaning_at, means_
 
 -- a copy is exactly the version of its run's history at which it is known
 abbrev pub IsExact : Histories → CertifiedCopy → Type 0
-IsExact hs k = IsAt (hs k.known.run) k.known k.copy
+IsExact hs k = IsVersionIn (hs k.known.run) k.known k.copy
 
 pub given_is : (d : Payload) (held : Option CertifiedCopy) (b : Bool) (m : Meaning) → is_delta d.key.query ≡ b → document_of d.text ≡ Ok m → given d held ≡ given_by b d m held
 given_is d held b m kind means = ap (λ x. given_from d x held) means ∙ ap (λ b. given_by b d m held) kind

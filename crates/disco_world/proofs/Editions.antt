@@ -17,7 +17,7 @@ use Rattle.disco_hub.specs.State.{MayServe}
 use Rattle.disco_rounds.specs.declared.copied.Copied.TheVariants as copied
 use Rattle.disco_rounds.proofs.Notes.{copied-begin, copied-doc, copied-gone}
 use Rattle.disco_world.specs.Answers.{AreAnswers, IsAnswer}
-use Rattle.disco_world.specs.Events.{Deed, World, begins, copies, publishes, restarts, after, after_at, changes_since, deed, past_after, press_done, world}
+use Rattle.disco_world.specs.Events.{Effect, World, begins, copies, publishes, restarts, after, after_at, changes_since, effect, past_after, press_done, world}
 use Rattle.disco_world.specs.Rounds.{Press, all_of, press_from}
 use Rattle.disco_world.specs.declared.event.Event.{Event}
 use Rattle.disco_hub.proofs.Levels.{copied_changes}
@@ -132,7 +132,7 @@ module _ (rules : Rules) (first_run : ℕ) (es : List Event) (rs : List Reply) w
       abbrev plain : SeesIn s i n → SeesIn (record s { pending = s.pending ++ map change cs }) (i + 1) (n + 1)
       plain = plainly s cs
 
-      sees_on : (what : Deed) (r : Reply) → IsAnswer rules (here i) what r → IsPublishable (press_done s cs (n + 1) what r).published → SeesIn s i n → SeesIn (press_done s cs (n + 1) what r) (i + 1) (n + 1)
+      sees_on : (what : Effect) (r : Reply) → IsAnswer rules (here i) what r → IsPublishable (press_done s cs (n + 1) what r).published → SeesIn s i n → SeesIn (press_done s cs (n + 1) what r) (i + 1) (n + 1)
       sees_on begins (Begun m) answer fresh sees = begun_on s m sees
       sees_on copies (Copied (copied.Doc p)) answer fresh sees = doc_on s p.value answer.2.1 sees
       sees_on copies (Copied (copied.Drop j)) answer fresh sees = gone_on s j sees
@@ -168,7 +168,7 @@ module _ (rules : Rules) (first_run : ℕ) (es : List Event) (rs : List Reply) w
   one_on answers i now (Some e) event (Some r) reply fresh =
       let w = world rules first_run es rs i in
       let n = length w.replies in
-      let what = deed rules w e in
+      let what = effect rules w e in
       let many : length (w.replies ++ r ∷ []) ≡ n + 1 = length-append w.replies (r ∷ []) in
       record {
         count = omega (arith, many, now.count);

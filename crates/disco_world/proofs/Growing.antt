@@ -13,7 +13,7 @@ use Rattle.disco_core.proofs.Runs.{run_done}
 use Rattle.disco_hub.proofs.Runs.{run_cancelled}
 use Rattle.disco_client.specs.Tracks.{Histories}
 use Rattle.disco_world.specs.Answers.{AreAnswers, IsAnswer}
-use Rattle.disco_world.specs.Events.{Deed, World, writes, expires, restarts, after, after_at, after_run, deed, done, ended_after, history_of, past_done, ran_out, world}
+use Rattle.disco_world.specs.Events.{Effect, World, writes, expires, restarts, after, after_at, after_run, effect, done, ended_after, history_of, past_done, ran_out, world}
 use Rattle.disco_world.specs.declared.event.Event.{Event}
 use Rattle.disco_world.specs.declared.event.Reply.{Reply}
 use Rattle.disco_world.specs.declared.event.Reply.TheVariants.{Expired, Restarted}
@@ -47,17 +47,17 @@ run_extends rules p now r = extends_same (history p)
 
 -- ---- deeds that begin no run
 
-abbrev pub goes_on : Deed → Reply → Bool
+abbrev pub goes_on : Effect → Reply → Bool
 goes_on (restarts run) (Restarted r) = false
 goes_on _ _ = true
 
-done_extends : (rules : Rules) (p : Past) (what : Deed) (r : Reply) → goes_on what r ≡ true → Extends (history p) (history (past_done rules p what r))
+done_extends : (rules : Rules) (p : Past) (what : Effect) (r : Reply) → goes_on what r ≡ true → Extends (history p) (history (past_done rules p what r))
 done_extends rules p (expires now) r goes = run_extends rules p now r
 done_extends rules p (writes now (Ok ask)) r goes = ask_extends rules.queue p now ask (done rules p now (Ok ask))
 done_extends rules p (restarts run) (Restarted s) goes = absurd (cc)
 done_extends rules p what r goes = extends_same (history p)
 
-pub past_extends : (rules : Rules) (p : Past) (what : Deed) (r : Reply) (b : Bool) → goes_on what r ≡ true → Extends (history p) (history (cond b p (past_done rules p what r)))
+pub past_extends : (rules : Rules) (p : Past) (what : Effect) (r : Reply) (b : Bool) → goes_on what r ≡ true → Extends (history p) (history (cond b p (past_done rules p what r)))
 past_extends rules p what r true goes = extends_same (history p)
 past_extends rules p what r false goes = done_extends rules p what r goes
 
@@ -69,13 +69,13 @@ expiry_stays : (rules : Rules) (p : Past) (now : ℕ) (r : Reply) → (after_run
 expiry_stays rules p now (Expired run) = run_cancelled rules p now (taken_in p now) run.gone
 expiry_stays rules p now r = refl
 
-done_stays : (rules : Rules) (p : Past) (what : Deed) (r : Reply) → goes_on what r ≡ true → (past_done rules p what r).run ≡ p.run
+done_stays : (rules : Rules) (p : Past) (what : Effect) (r : Reply) → goes_on what r ≡ true → (past_done rules p what r).run ≡ p.run
 done_stays rules p (expires now) r goes = expiry_stays rules p now r
 done_stays rules p (writes now (Ok ask)) r goes = ask_stays rules.queue p now ask (done rules p now (Ok ask))
 done_stays rules p (restarts run) (Restarted s) goes = absurd (cc)
 done_stays rules p what r goes = refl
 
-pub run_stays : (rules : Rules) (p : Past) (what : Deed) (r : Reply) (b : Bool) → goes_on what r ≡ true → (cond b p (past_done rules p what r)).run ≡ p.run
+pub run_stays : (rules : Rules) (p : Past) (what : Effect) (r : Reply) (b : Bool) → goes_on what r ≡ true → (cond b p (past_done rules p what r)).run ≡ p.run
 run_stays rules p what r true goes = refl
 run_stays rules p what r false goes = done_stays rules p what r goes
 
@@ -124,22 +124,22 @@ module _ (w : World) (run : ℕ) (numbered : AreNumbered w) (new : w.past.run < 
       by false other = extends_same (history_of w n)
 
 -- what is ended stays so where no run begins
-ended_stays : (w : World) (what : Deed) (r : Reply) → goes_on what r ≡ true → ended_after w what r ≡ w.ended
+ended_stays : (w : World) (what : Effect) (r : Reply) → goes_on what r ≡ true → ended_after w what r ≡ w.ended
 ended_stays w (restarts run) (Restarted s) goes = absurd (cc)
 ended_stays w what r goes = refl
 
 module _ (rules : Rules) (w : World) (numbered : AreNumbered w) where
-  goes_so : (what : Deed) (r : Reply) → goes_on what r ≡ true → Grow (history_of w) (history_of (after rules w what r))
+  goes_so : (what : Effect) (r : Reply) → goes_on what r ≡ true → Grow (history_of w) (history_of (after rules w what r))
   goes_so what r goes = grows_in w (after rules w what r) (run_stays rules w.past what r (ran_out r) goes) (ended_stays w what r goes) (past_extends rules w.past what r (ran_out r) goes)
 
-  pub grows : (what : Deed) (r : Reply) → IsAnswer rules w what r → Grow (history_of w) (history_of (after rules w what r))
+  pub grows : (what : Effect) (r : Reply) → IsAnswer rules w what r → Grow (history_of w) (history_of (after rules w what r))
   grows (restarts run) (Restarted s) answer = grows_anew w run numbered answer.1
   grows what r answer = goes_so what r refl
 
-  stays_so : (what : Deed) (r : Reply) → goes_on what r ≡ true → AreNumbered (after rules w what r)
+  stays_so : (what : Effect) (r : Reply) → goes_on what r ≡ true → AreNumbered (after rules w what r)
   stays_so what r goes = numbered_in w (after rules w what r) (run_stays rules w.past what r (ran_out r) goes) (ended_stays w what r goes) numbered
 
-  pub numbered_after : (what : Deed) (r : Reply) → IsAnswer rules w what r → AreNumbered (after rules w what r)
+  pub numbered_after : (what : Effect) (r : Reply) → IsAnswer rules w what r → AreNumbered (after rules w what r)
   numbered_after (restarts run) (Restarted s) answer = λ n lt. none_yet w run numbered answer.1 n (omega (arith, lt, answer.1))
   numbered_after what r answer = stays_so what r refl
 
@@ -150,7 +150,7 @@ module _ (rules : Rules) (first_run : ℕ) (es : List Event) (rs : List Reply) (
   here i = world rules first_run es rs i
 
   one_numbered : (i : ℕ) → AreNumbered (here i) → (e : Option Event) → slice_get es i ≡ e → (r : Option Reply) → slice_get rs i ≡ r → AreNumbered (after_at rules (here i) e r)
-  one_numbered i numbered (Some e) event (Some r) reply = numbered_after rules (here i) numbered (deed rules (here i) e) r (answers i e r event reply)
+  one_numbered i numbered (Some e) event (Some r) reply = numbered_after rules (here i) numbered (effect rules (here i) e) r (answers i e r event reply)
   one_numbered i numbered None event r reply = numbered
   one_numbered i numbered (Some e) event None reply = numbered
 
@@ -160,7 +160,7 @@ module _ (rules : Rules) (first_run : ℕ) (es : List Event) (rs : List Reply) (
   numbered_at (suc i) = one_numbered i (numbered_at i) (slice_get es i) refl (slice_get rs i) refl
 
   one_grows : (i : ℕ) (e : Option Event) → slice_get es i ≡ e → (r : Option Reply) → slice_get rs i ≡ r → Grow (history_of (here i)) (history_of (after_at rules (here i) e r))
-  one_grows i (Some e) event (Some r) reply = grows rules (here i) (numbered_at i) (deed rules (here i) e) r (answers i e r event reply)
+  one_grows i (Some e) event (Some r) reply = grows rules (here i) (numbered_at i) (effect rules (here i) e) r (answers i e r event reply)
   one_grows i None event r reply = grow_same (history_of (here i))
   one_grows i (Some e) event None reply = grow_same (history_of (here i))
 

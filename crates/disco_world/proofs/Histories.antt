@@ -9,20 +9,20 @@ use Rattle.disco_core.specs.State.{Rules}
 use Rattle.disco_core.specs.Past.{history, nothing}
 use Rattle.disco_rounds.specs.Press.{IsPublishable}
 use Rattle.disco_rounds.specs.Rounds.{KeySet, Round, Rounds}
-use Rattle.disco_hub.specs.State.{MayServe, StandsFor, rules_of}
+use Rattle.disco_hub.specs.State.{MayServe, HubStandsFor, rules_of}
 use Rattle.disco_hub.proofs.Levels.{first_levels}
 use Rattle.disco_rounds.proofs.Pressed.{first_pressed}
 use Rattle.std.specs.FinMap.{empty}
-use Rattle.disco_world.specs.Answers.{AreAnswers, AreServed, IsAnswer, IsFirstBadEvent, IsPressed, IsServed, key_asked}
+use Rattle.disco_world.specs.Answers.{AreAnswers, AreServed, IsAnswer, IsFirstBadEvent, IsPressState, IsServed, key_asked}
 use Rattle.disco_world.specs.Caching.{AreCached, Cache, Caches, new_cache}
-use Rattle.disco_world.specs.Levels.{AreLevelsOf, Goes}
-use Rattle.disco_world.specs.declared.levels.Levels.{Levels}
+use Rattle.disco_world.specs.Levels.{AreLevelsOf, AnswersEvent}
+use Rattle.disco_world.specs.declared.levels.CacheLevels.{CacheLevels}
 use Rattle.disco_world.proofs.Rooms.{room_stays}
 use Rattle.disco_world.proofs.Editions.{Sees, ShowsFresh, sees_at}
 use Rattle.disco_values.specs.declared.fault.Fault.{Fault}
 use Rattle.disco_values.specs.declared.fault.Fault.TheVariants.{BadEvent}
 use Rattle.disco_query.specs.declared.key.DocKey.{DocKey}
-use Rattle.disco_world.specs.Events.{Deed, World, writes, loads, cleans, closes, expires, begins, copies, publishes, looks, takes, certifies, shows, shows_certified, restarts, bad, after, after_at, deed, new_world, world}
+use Rattle.disco_world.specs.Events.{Effect, World, writes, loads, cleans, closes, expires, begins, copies, publishes, looks, takes, certifies, shows, shows_certified, restarts, bad, after, after_at, effect, new_world, world}
 use Rattle.disco_world.specs.Steps.{AreHeld, Holders, cache_of}
 use Rattle.disco_world.specs.declared.event.Event.{Event}
 use Rattle.disco_world.specs.declared.event.Reply.{Reply}
@@ -65,10 +65,10 @@ place_of (suc i) (suc n) = one_on i n (place_of i n)
 -- ---- histories
 
 abbrev pub answers_event : Rules → World → Event → Reply → Type 0
-answers_event rules w e r = IsAnswer rules w (deed rules w e) r
+answers_event rules w e r = IsAnswer rules w (effect rules w e) r
 
 abbrev pub after_event : Rules → World → Event → Reply → World
-after_event rules w e r = after rules w (deed rules w e) r
+after_event rules w e r = after rules w (effect rules w e) r
 
 -- a history does not look past the replies to its events
 world-front : (rules : Rules) (first_run : ℕ) (es : List Event) (rs : List Reply) (r : Reply) (i : ℕ) → i ≤ length rs → world rules first_run es (rs ++ r ∷ []) i ≡ world rules first_run es rs i
@@ -84,15 +84,15 @@ world-suc rules first_run es rs i e r event reply = ap (world rules first_run es
 
 -- what was noted is as it has to be after the first k events
 abbrev pub IsPressedAt : Rules → ℕ → List Event → List Reply → ℕ → Type 0
-IsPressedAt rules first_run es rs k = let w = world rules first_run es rs k in (edition : KeySet) × (round : Option Round) × IsPressed w.past.run w.press (history w.past) edition round
+IsPressedAt rules first_run es rs k = let w = world rules first_run es rs k in (edition : KeySet) × (round : Option Round) × IsPressState w.past.run w.press (history w.past) edition round
 
 -- and it is so with the rounds of a cache
 abbrev pub IsPressedBy : Rules → ℕ → List Event → List Reply → ℕ → Cache → Type 0
-IsPressedBy rules first_run es rs k s = let w = world rules first_run es rs k in IsPressed w.past.run w.press (history w.past) s.rounds.edition s.rounds.round
+IsPressedBy rules first_run es rs k s = let w = world rules first_run es rs k in IsPressState w.past.run w.press (history w.past) s.rounds.edition s.rounds.round
 
 -- the event of index k leaves this
 abbrev pub CachesAt : Rules → ℕ → List Event → List Reply → ℕ → Event → Reply → Cache → Cache → Type 0
-CachesAt rules first_run es rs k e r old new = let w = world rules first_run es rs k in Caches rules w.past (deed rules w e) r old new
+CachesAt rules first_run es rs k e r old new = let w = world rules first_run es rs k in Caches rules w.past (effect rules w e) r old new
 
 -- what was kept and copied, up to the first i events, which leave this
 pub record IsCourse (most : ℕ) (rules : Rules) (first_run : ℕ) (es : List Event) (rs : List Reply) (i : ℕ) (now : Cache) : Type 0 where
@@ -107,7 +107,7 @@ pub some_pressed : (most : ℕ) (rules : Rules) (first_run : ℕ) (es : List Eve
 some_pressed most rules first_run es rs i now course k le = ((course.caches k).rounds.edition, (course.caches k).rounds.round, course.pressed k le)
 
 -- what is true of a run after its first i events
-pub record IsRun (most : ℕ) (rules : Rules) (first_run : ℕ) (es : List Event) (rs : List Reply) (i : ℕ) (s : Levels) (clients : Holders) : Type 0 where
+pub record IsRun (most : ℕ) (rules : Rules) (first_run : ℕ) (es : List Event) (rs : List Reply) (i : ℕ) (s : CacheLevels) (clients : Holders) : Type 0 where
   pub count : length rs ≡ i
   pub levels : AreLevelsOf s (world rules first_run es rs i)
   pub course : IsCourse most rules first_run es rs i (cache_of s.hub)
@@ -156,15 +156,15 @@ module _ (rules : Rules) (first_run : ℕ) (es : List Event) (rs : List Reply) (
     abbrev at_each : ℕ → Cache
     at_each = extended course.caches new
 
-    here_is : Caches rules (world rules first_run es rs i).past (deed rules (world rules first_run es rs i) e) r old new → CachesAt rules first_run es (rs ++ r ∷ []) i e r (at_each i) (at_each (i + 1))
+    here_is : Caches rules (world rules first_run es rs i).past (effect rules (world rules first_run es rs i) e) r old new → CachesAt rules first_run es (rs ++ r ∷ []) i e r (at_each i) (at_each (i + 1))
     here_is here =
-        subst (λ x. x) (λ j. let w = sym (same_front i (omega (arith, count))) j in Caches rules w.past (deed rules w e) r (sym (before_it course.caches new i (omega arith) ∙ course.last) j) (sym (after_it course.caches new (i + 1) refl) j)) here
+        subst (λ x. x) (λ j. let w = sym (same_front i (omega (arith, count))) j in Caches rules w.past (effect rules w e) r (sym (before_it course.caches new i (omega arith) ∙ course.last) j) (sym (after_it course.caches new (i + 1) refl) j)) here
 
-    each_at : Caches rules (world rules first_run es rs i).past (deed rules (world rules first_run es rs i) e) r old new → (k : ℕ) (f : Event) (q : Reply) → slice_get es k ≡ Some f → slice_get (rs ++ r ∷ []) k ≡ Some q → Place k (length rs)
+    each_at : Caches rules (world rules first_run es rs i).past (effect rules (world rules first_run es rs i) e) r old new → (k : ℕ) (f : Event) (q : Reply) → slice_get es k ≡ Some f → slice_get (rs ++ r ∷ []) k ≡ Some q → Place k (length rs)
         → CachesAt rules first_run es (rs ++ r ∷ []) k f q (at_each k) (at_each (k + 1))
     each_at here k f q ev rep (below lt) =
         let so_far = course.each k f q ev (sym (get_front rs r k lt) ∙ rep) in
-        subst (λ x. x) (λ j. let w = sym (same_front k (omega (arith, lt))) j in Caches rules w.past (deed rules w f) q (sym (before_it course.caches new k (omega (arith, lt, count))) j) (sym (before_it course.caches new (k + 1) (omega (arith, lt, count))) j)) so_far
+        subst (λ x. x) (λ j. let w = sym (same_front k (omega (arith, lt))) j in Caches rules w.past (effect rules w f) q (sym (before_it course.caches new k (omega (arith, lt, count))) j) (sym (before_it course.caches new (k + 1) (omega (arith, lt, count))) j)) so_far
     each_at here k f q ev rep (at is) =
         let same_k : k ≡ i = is ∙ count in
         let same_e : e ≡ f = same_Some e f (sym event ∙ ap (slice_get es) (sym same_k) ∙ ev) in
@@ -172,16 +172,16 @@ module _ (rules : Rules) (first_run : ℕ) (es : List Event) (rs : List Reply) (
         subst (λ x. x) (λ j. CachesAt rules first_run es (rs ++ r ∷ []) (sym same_k j) (same_e j) (same_r j) (at_each (sym same_k j)) (at_each (sym same_k j + 1))) (here_is here)
     each_at here k f q ev rep (beyond lt) = absurd (let bad = sym (get_past rs r k lt) ∙ rep in cc)
 
-    pressed_at : (levels : Levels) → cache_of levels.hub ≡ new → AreLevelsOf levels (after_event rules (world rules first_run es rs i) e r) → (k : ℕ) → k ≤ i + 1 → Place k (i + 1) → IsPressedBy rules first_run es (rs ++ r ∷ []) k (at_each k)
+    pressed_at : (levels : CacheLevels) → cache_of levels.hub ≡ new → AreLevelsOf levels (after_event rules (world rules first_run es rs i) e r) → (k : ℕ) → k ≤ i + 1 → Place k (i + 1) → IsPressedBy rules first_run es (rs ++ r ∷ []) k (at_each k)
     pressed_at levels is_new are k le (below lt) =
-        subst (λ x. x) (λ j. let w = sym (same_front k (omega (arith, lt, count))) j in let s = sym (before_it course.caches new k lt) j in IsPressed w.past.run w.press (history w.past) s.rounds.edition s.rounds.round) (course.pressed k (omega (arith, lt)))
+        subst (λ x. x) (λ j. let w = sym (same_front k (omega (arith, lt, count))) j in let s = sym (before_it course.caches new k lt) j in IsPressState w.past.run w.press (history w.past) s.rounds.edition s.rounds.round) (course.pressed k (omega (arith, lt)))
     pressed_at levels is_new are k le (at is) =
-        let here : IsPressed (after_event rules (world rules first_run es rs i) e r).past.run (after_event rules (world rules first_run es rs i) e r).press (history (after_event rules (world rules first_run es rs i) e r).past) levels.hub.rounds.edition levels.hub.rounds.round = record { pressed = are.levels.pressed; keys = are.keys } in
+        let here : IsPressState (after_event rules (world rules first_run es rs i) e r).past.run (after_event rules (world rules first_run es rs i) e r).press (history (after_event rules (world rules first_run es rs i) e r).past) levels.hub.rounds.edition levels.hub.rounds.round = record { pressed = are.levels.pressed; keys = are.keys } in
         subst (λ n. IsPressedBy rules first_run es (rs ++ r ∷ []) n (at_each n)) (sym is)
-        (subst (λ x. x) (λ j. let w = sym world_next j in let s = (is_new ∙ sym (after_it course.caches new (i + 1) refl)) j in IsPressed w.past.run w.press (history w.past) s.rounds.edition s.rounds.round) here)
+        (subst (λ x. x) (λ j. let w = sym world_next j in let s = (is_new ∙ sym (after_it course.caches new (i + 1) refl)) j in IsPressState w.past.run w.press (history w.past) s.rounds.edition s.rounds.round) here)
     pressed_at levels is_new are k le (beyond lt) = absurd (omega (arith, le, lt))
 
-    pub course_more : (levels : Levels) → cache_of levels.hub ≡ new → AreLevelsOf levels (after_event rules (world rules first_run es rs i) e r) → Caches rules (world rules first_run es rs i).past (deed rules (world rules first_run es rs i) e) r old new
+    pub course_more : (levels : CacheLevels) → cache_of levels.hub ≡ new → AreLevelsOf levels (after_event rules (world rules first_run es rs i) e r) → Caches rules (world rules first_run es rs i).past (effect rules (world rules first_run es rs i) e) r old new
         → IsCourse most rules first_run es (rs ++ r ∷ []) (i + 1) new
     course_more levels is_new are here = record {
       caches = at_each;
@@ -191,11 +191,11 @@ module _ (rules : Rules) (first_run : ℕ) (es : List Event) (rs : List Reply) (
       pressed = λ k le. pressed_at levels is_new are k le (place_of k (i + 1));
     }
 
-  pub run_more : (most : ℕ) (old new : Levels) (held now : Holders) → IsRun most rules first_run es rs i old held
-      → ((w : World) → w.replies ≡ rs → AreHeld held w → AreLevelsOf old w → Goes (rules_of old.hub) w e r old.hub new now) → rules_of new.hub ≡ rules_of old.hub → IsRun most rules first_run es (rs ++ r ∷ []) (i + 1) new now
+  pub run_more : (most : ℕ) (old new : CacheLevels) (held now : Holders) → IsRun most rules first_run es rs i old held
+      → ((w : World) → w.replies ≡ rs → AreHeld held w → AreLevelsOf old w → AnswersEvent (rules_of old.hub) w e r old.hub new now) → rules_of new.hub ≡ rules_of old.hub → IsRun most rules first_run es (rs ++ r ∷ []) (i + 1) new now
   run_more most old new held now run goes same =
       let w = world rules first_run es rs i in
-      let done : Goes rules w e r old.hub new now = subst (λ l. Goes l w e r old.hub new now) run.rules_are (goes w run.replies run.held run.levels) in
+      let done : AnswersEvent rules w e r old.hub new now = subst (λ l. AnswersEvent l w e r old.hub new now) run.rules_are (goes w run.replies run.held run.levels) in
       record {
         count = length-append rs (r ∷ []) ∙ ap (λ n. n + 1) count;
         levels = subst (AreLevelsOf new) (sym world_next) done.1;
@@ -203,14 +203,14 @@ module _ (rules : Rules) (first_run : ℕ) (es : List Event) (rs : List Reply) (
         held = subst (AreHeld now) (sym world_next) done.2;
         replies = ap (λ (x : World). x.replies) world_next ∙ ap (λ xs. xs ++ r ∷ []) run.replies;
         rules_are = same ∙ run.rules_are;
-        room = room_stays rules w.past (deed rules w e) r (cache_of old.hub) (cache_of new.hub) done.3 ∙ run.room;
+        room = room_stays rules w.past (effect rules w e) r (cache_of old.hub) (cache_of new.hub) done.3 ∙ run.room;
         answers = answers_more done.0 run.answers;
       }
 
 -- ---- served documents
 
 -- a document that is answered comes from a load or a look, after which what readers see is as before
-load_or_look : (rules : Rules) (first_run : ℕ) (es : List Event) (rs : List Reply) (i : ℕ) → Sees rules first_run es rs i → (what : Deed) (d : Arc Payload Global) → IsAnswer rules (world rules first_run es rs i) what (Doc d)
+load_or_look : (rules : Rules) (first_run : ℕ) (es : List Event) (rs : List Reply) (i : ℕ) → Sees rules first_run es rs i → (what : Effect) (d : Arc Payload Global) → IsAnswer rules (world rules first_run es rs i) what (Doc d)
     → (v : World) → world rules first_run es rs (i + 1) ≡ v → v ≡ after rules (world rules first_run es rs i) what (Doc d) → IsServed rules first_run es rs i what d.value
 load_or_look rules first_run es rs i sees (loads asked) d answer v next is =
     let same : world rules first_run es rs (i + 1) ≡ after rules (world rules first_run es rs i) (loads asked) (Doc d) = next ∙ is in record {
@@ -255,20 +255,20 @@ pub served : (rules : Rules) (first_run : ℕ) (es : List Event) (rs : List Repl
 served rules first_run es rs answers fresh = λ i e d event is.
     let lt = in_range rs i (Doc d) is in
     let sees = sees_at rules first_run es rs answers i (λ j le. fresh j (omega (arith, le, lt))) in
-    load_or_look rules first_run es rs i sees (deed rules (world rules first_run es rs i) e) d (answers i e (Doc d) event is) _ refl (world-suc rules first_run es rs i e (Doc d) event is)
+    load_or_look rules first_run es rs i sees (effect rules (world rules first_run es rs i) e) d (answers i e (Doc d) event is) _ refl (world-suc rules first_run es rs i e (Doc d) event is)
 
 -- ---- the first event that can't be run
 
-pub first_bad : (most : ℕ) (rules : Rules) (first_run : ℕ) (es : List Event) (rs : List Reply) (i : ℕ) (e : Event) (n : ℕ) (s : Levels) (held : Holders) → IsRun most rules first_run es rs i s held → slice_get es i ≡ Some e → n ≡ length rs
-    → ((w : World) → w.replies ≡ rs → deed (rules_of s.hub) w e ≡ bad) → IsFirstBadEvent rules first_run es (BadEvent (n + 1))
+pub first_bad : (most : ℕ) (rules : Rules) (first_run : ℕ) (es : List Event) (rs : List Reply) (i : ℕ) (e : Event) (n : ℕ) (s : CacheLevels) (held : Holders) → IsRun most rules first_run es rs i s held → slice_get es i ≡ Some e → n ≡ length rs
+    → ((w : World) → w.replies ≡ rs → effect (rules_of s.hub) w e ≡ bad) → IsFirstBadEvent rules first_run es (BadEvent (n + 1))
 first_bad most rules first_run es rs i e n s held run event number is = record {
   replies = rs;
   event = e;
   before = run.answers;
   is_next = ap (slice_get es) run.count ∙ event;
   is_bad =
-      ap (λ k. deed rules (world rules first_run es rs k) e) run.count
-      ∙ ap (λ l. deed l (world rules first_run es rs i) e) (sym run.rules_are)
+      ap (λ k. effect rules (world rules first_run es rs k) e) run.count
+      ∙ ap (λ l. effect l (world rules first_run es rs i) e) (sym run.rules_are)
       ∙ is (world rules first_run es rs i) run.replies;
   number = ap (λ k. BadEvent (k + 1)) number;
 }
@@ -281,7 +281,7 @@ no_answers rules first_run es rs none = λ i event reply ev is. absurd (let bad 
 
 -- ---- nothing has happened yet
 
-pub new_levels : (run most : ℕ) (s : Levels) → StandsFor s.hub (nothing run) → cache_of s.hub ≡ new_cache most → s.published ≡ empty → AreLevelsOf s (new_world run)
+pub new_levels : (run most : ℕ) (s : CacheLevels) → HubStandsFor s.hub (nothing run) → cache_of s.hub ≡ new_cache most → s.published ≡ empty → AreLevelsOf s (new_world run)
 new_levels run most s stands cache published =
     let rounds : s.hub.rounds ≡ record { edition = empty; round = None } = ap (λ (c : Cache). c.rounds) cache in
     record {

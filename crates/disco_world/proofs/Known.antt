@@ -4,10 +4,10 @@ use Rattle.std.proofs.lemmas.Option.{same_Some}
 use Rattle.std.specs.FinMap.{FinMap, values}
 use Rattle.disco_values.specs.Key.{key_cmp}
 use Rattle.disco_instance.specs.Row.{Row}
-use Rattle.disco_history.specs.Change.{Entry, front}
+use Rattle.disco_history.specs.Change.{Entry, prefix}
 use Rattle.disco_history.specs.Forms.{in_form}
 use Rattle.disco_history.specs.Mentions.{copied, delta, mention_of, overlay}
-use Rattle.disco_history.specs.Registry.{reg}
+use Rattle.disco_history.specs.Registry.{registry_of}
 use Rattle.disco_history.proofs.FormLemmas.{copied_formed, overlay_formed}
 use Rattle.disco_history.proofs.Overlays.{copy_law, overlay_law}
 use Rattle.std.proofs.lemmas.List.{length-append, take-append-le, take-take, take_all}
@@ -22,10 +22,10 @@ use Rattle.disco_query.specs.declared.query.Query.{Query}
 use Rattle.disco_query.specs.declared.query.Query.TheVariants as query
 use Rattle.disco_cache.specs.Payloads.{IsTrue, cert_of}
 use Rattle.disco_cache.specs.declared.payload.Payload.{Payload}
-use Rattle.disco_client.specs.Tracks.{Histories, IsAt, known_at, moved}
+use Rattle.disco_client.specs.Tracks.{Histories, IsVersionIn, known_at, moved}
 use Rattle.disco_client.specs.declared.known.Known.{Known}
 use Rattle.disco_client.proofs.Moves.{Moves, moves}
-use Rattle.disco_world.specs.Clients.{MeansVersion, taken, taken_by, taken_from}
+use Rattle.disco_world.specs.Clients.{MeansVersion, client_after, taken_by, taken_from}
 use Rattle.disco_world.specs.Events.{for_clients}
 use Rattle.disco_world.specs.Steps.{IsReadable}
 use Rattle.disco_world.specs.declared.clients.Client.{Client}
@@ -48,22 +48,22 @@ extends_on h g f one two = record {
   begins = sym (take-take (length h) (length g) f one.longer) ∙ ap (take (length h)) two.begins ∙ one.begins;
 }
 
-same_version : (h g : List Entry) (v : ℕ) → Extends h g → v ≤ length h → front g v ≡ front h v
+same_version : (h g : List Entry) (v : ℕ) → Extends h g → v ≤ length h → prefix g v ≡ prefix h v
 same_version h g v ext le = sym (take-take v (length h) g le) ∙ ap (take v) ext.begins
 
 -- each run's history goes on
 abbrev pub Grow : Histories → Histories → Type 0
 Grow hs gs = (r : ℕ) → Extends (hs r) (gs r)
 
-pub at_on : (h g : List Entry) (k : Known) (s : FinMap key_cmp Row) → Extends h g → IsAt h k s → IsAt g k s
-at_on h g k s ext so = (omega (arith, so.0, ext.longer), so.1 ∙ ap (λ x. in_form k.form (reg x)) (sym (same_version h g k.version ext so.0)))
+pub at_on : (h g : List Entry) (k : Known) (s : FinMap key_cmp Row) → Extends h g → IsVersionIn h k s → IsVersionIn g k s
+at_on h g k s ext so = (omega (arith, so.0, ext.longer), so.1 ∙ ap (λ x. in_form k.form (registry_of x)) (sym (same_version h g k.version ext so.0)))
 
 pub means_on : (hs gs : Histories) (c : Client) → Grow hs gs → MeansVersion hs c → MeansVersion gs c
 means_on hs gs c grow means = λ at is. at_on (hs at.run) (gs at.run) at c.copy (grow at.run) (means at is)
 
 -- the history of its run as far as a document's version
 abbrev pub seen_by : Histories → Payload → List Entry
-seen_by hs d = front (hs d.run) d.version
+seen_by hs d = prefix (hs d.run) d.version
 
 -- a document that a client can take, true of a version of its run's history
 pub record IsOf (hs : Histories) (d : Payload) : Type 0 where
@@ -143,52 +143,52 @@ readable hs d is = by (is_delta d.key.query) refl
     by false e = (_, (means_full hs d is e, refl))
 
 -- a document of all apps makes the records of its version
-pub full_at : (hs : Histories) (d : Payload) → IsOf hs d → is_delta d.key.query ≡ false → IsAt (hs d.run) (known_at d.key.form (cert_of d)) (copied (meaning_at hs d query.Apps).mentions)
+pub full_at : (hs : Histories) (d : Payload) → IsOf hs d → is_delta d.key.query ≡ false → IsVersionIn (hs d.run) (known_at d.key.form (cert_of d)) (copied (meaning_at hs d query.Apps).mentions)
 full_at hs d is full =
     let f = d.key.form in
     let g = seen_by hs d in
     (is.inside, copied_formed f (map mention_of (mentioned all g)) ∙ ap (λ es. in_form f (copied (map mention_of es))) (values-said_all g) ∙ ap (in_form f) (copy_law g))
 
 -- a delta that reaches records makes of them those of its version
-pub delta_at : (hs : Histories) (d : Payload) (k at : Known) (s : FinMap key_cmp Row) → IsOf hs d → is_delta d.key.query ≡ true → IsAt (hs k.run) k s → Moves k d.key.form (cert_of d) at
-    → IsAt (hs d.run) (known_at d.key.form (cert_of d)) (overlay s (meaning_at hs d query.Delta).mentions)
+pub delta_at : (hs : Histories) (d : Payload) (k at : Known) (s : FinMap key_cmp Row) → IsOf hs d → is_delta d.key.query ≡ true → IsVersionIn (hs k.run) k s → Moves k d.key.form (cert_of d) at
+    → IsVersionIn (hs d.run) (known_at d.key.form (cert_of d)) (overlay s (meaning_at hs d query.Delta).mentions)
 delta_at hs d k at s is kind so m =
     let f = d.key.form in
     let g = seen_by hs d in
     let t = true_delta hs d is kind in
     let es = values (delta g d.base) in
-    let here : IsAt (hs d.run) k s = subst (λ r. IsAt (hs r) k s) (sym m.reaches.run) so in
-    let there : s ≡ in_form f (reg (front g k.version)) =
-    here.1 ∙ ap (λ f. in_form f (reg (front (hs d.run) k.version))) m.form ∙ ap (λ x. in_form f (reg x)) (sym (take-take k.version d.version (hs d.run) m.reaches.below)) in
+    let here : IsVersionIn (hs d.run) k s = subst (λ r. IsVersionIn (hs r) k s) (sym m.reaches.run) so in
+    let there : s ≡ in_form f (registry_of (prefix g k.version)) =
+    here.1 ∙ ap (λ f. in_form f (registry_of (prefix (hs d.run) k.version))) m.form ∙ ap (λ x. in_form f (registry_of x)) (sym (take-take k.version d.version (hs d.run) m.reaches.below)) in
     let within : k.version ≤ length g = omega (arith, m.reaches.below, t.now refl) in
-    (is.inside, ap (λ s. overlay s (mentions_in f es)) there ∙ overlay_formed f (reg (front g k.version)) (map mention_of es) ∙ ap (in_form f) (overlay_law g d.base k.version m.reaches.above within))
+    (is.inside, ap (λ s. overlay s (mentions_in f es)) there ∙ overlay_formed f (registry_of (prefix g k.version)) (map mention_of es) ∙ ap (in_form f) (overlay_law g d.base k.version m.reaches.above within))
 
 -- ---- plain clients
 
-pub taken_is : (d : Payload) (held : Option Client) (b : Bool) (m : Meaning) → is_delta d.key.query ≡ b → document_of d.text ≡ Ok m → taken d held ≡ taken_by b d m held
+pub taken_is : (d : Payload) (held : Option Client) (b : Bool) (m : Meaning) → is_delta d.key.query ≡ b → document_of d.text ≡ Ok m → client_after d held ≡ taken_by b d m held
 taken_is d held b m kind means = ap (λ x. taken_from d x held) means ∙ ap (λ b. taken_by b d m held) kind
 
 same_known : (c : Client) (s : FinMap key_cmp Row) (at now : Known) → c ≡ record { copy = s; known = Some now } → c.known ≡ Some at → now ≡ at
 same_known c s at now e is = same_Some now at (sym (ap (λ (c : Client). c.known) e) ∙ is)
 
-pub full_means : (hs : Histories) (d : Payload) (held : Option Client) (c : Client) → IsOf hs d → is_delta d.key.query ≡ false → taken d held ≡ Some c → MeansVersion hs c
+pub full_means : (hs : Histories) (d : Payload) (held : Option Client) (c : Client) → IsOf hs d → is_delta d.key.query ≡ false → client_after d held ≡ Some c → MeansVersion hs c
 full_means hs d held c is full takes = λ at known.
     let m = meaning_at hs d query.Apps in
     let now : Known = known_at d.key.form (cert_of d) in
     let e : c ≡ record { copy = copied m.mentions; known = Some now } = same_Some _ _ (sym takes ∙ taken_is d held false m full (means_full hs d is full)) in
-    let so : IsAt (hs d.run) now c.copy = subst (IsAt (hs d.run) now) (sym (ap (λ (c : Client). c.copy) e)) (full_at hs d is full) in
-    subst (λ (k : Known). IsAt (hs k.run) k c.copy) (same_known c (copied m.mentions) at now e known) so
+    let so : IsVersionIn (hs d.run) now c.copy = subst (IsVersionIn (hs d.run) now) (sym (ap (λ (c : Client). c.copy) e)) (full_at hs d is full) in
+    subst (λ (k : Known). IsVersionIn (hs k.run) k c.copy) (same_known c (copied m.mentions) at now e known) so
 
-pub delta_means : (hs : Histories) (d : Payload) (held : Option Client) (c : Client) → IsOf hs d → is_delta d.key.query ≡ true → ((o : Client) → held ≡ Some o → MeansVersion hs o) → taken d held ≡ Some c → MeansVersion hs c
+pub delta_means : (hs : Histories) (d : Payload) (held : Option Client) (c : Client) → IsOf hs d → is_delta d.key.query ≡ true → ((o : Client) → held ≡ Some o → MeansVersion hs o) → client_after d held ≡ Some c → MeansVersion hs c
 delta_means hs d None c is kind means takes = absurd (let bad = sym takes ∙ taken_is d None true (meaning_at hs d query.Delta) kind (means_delta hs d is kind) in cc)
 delta_means hs d (Some old) c is kind means takes = λ at known.
     let m = meaning_at hs d query.Delta in
     let e : c ≡ record { copy = overlay old.copy m.mentions; known = moved old.known d.key.form (cert_of d) } = same_Some _ _ (sym takes ∙ taken_is d (Some old) true m kind (means_delta hs d is kind)) in
     by at (ap (λ (c : Client). c.copy) e) old.known refl (sym (ap (λ (c : Client). c.known) e) ∙ known)
   where
-    by : (at : Known) → c.copy ≡ overlay old.copy (meaning_at hs d query.Delta).mentions → (o : Option Known) → old.known ≡ o → moved old.known d.key.form (cert_of d) ≡ Some at → IsAt (hs at.run) at c.copy
+    by : (at : Known) → c.copy ≡ overlay old.copy (meaning_at hs d query.Delta).mentions → (o : Option Known) → old.known ≡ o → moved old.known d.key.form (cert_of d) ≡ Some at → IsVersionIn (hs at.run) at c.copy
     by at copy None none goes = absurd (let bad = ap (λ o. moved o d.key.form (cert_of d)) (sym none) ∙ goes in cc)
     by at copy (Some k) some goes =
         let m = moves k d.key.form (cert_of d) at (ap (λ o. moved o d.key.form (cert_of d)) (sym some) ∙ goes) in
-        let so : IsAt (hs d.run) (known_at d.key.form (cert_of d)) c.copy = subst (IsAt (hs d.run) (known_at d.key.form (cert_of d))) (sym copy) (delta_at hs d k at old.copy is kind (means old refl k some) m) in
-        subst (λ (k : Known). IsAt (hs k.run) k c.copy) m.now so
+        let so : IsVersionIn (hs d.run) (known_at d.key.form (cert_of d)) c.copy = subst (IsVersionIn (hs d.run) (known_at d.key.form (cert_of d))) (sym copy) (delta_at hs d k at old.copy is kind (means old refl k some) m) in
+        subst (λ (k : Known). IsVersionIn (hs k.run) k c.copy) m.now so

@@ -12,11 +12,11 @@ use Rattle.disco_client.specs.declared.known.Known.{Known}
 use Rattle.disco_core.specs.State.{Rules}
 use Rattle.disco_world.specs.Answers.{IsAnswer}
 use Rattle.disco_world.specs.Certified.{IsGiven, given}
-use Rattle.disco_world.specs.Clients.{IsTold, shown, taken, taken_by, taken_from}
+use Rattle.disco_world.specs.Clients.{IsTakenReply, summaries, client_after, taken_by, taken_from}
 use Rattle.disco_world.specs.Events.{World, certifies, ran_out, shows, shows_certified, takes}
 use Rattle.disco_world.specs.Steps.{AreHeld, ClientIsGiven, ClientTakes, Holders, reply_to_give, reply_to_show, reply_to_take, with_clients}
 use Rattle.disco_world.specs.declared.clients.Client.{Client}
-use Rattle.disco_world.specs.declared.holding.Holding.{Holding}
+use Rattle.disco_world.specs.declared.instance_summary.InstanceSummary.{InstanceSummary}
 use Rattle.disco_world.specs.declared.event.Reply.TheVariants.{Refused}
 use Rattle.disco_world.proofs.Certifying.{none_given}
 
@@ -33,12 +33,12 @@ no_copy_from d (Err e) held is = is
 -- ---- what a look at a copy answers
 
 module _ (rules : Rules) (w : World) (held : Holders) (are : AreHeld held w) (client : ℕ) where
-  pub showed : (r : Result (List Holding) Fault) → IfOk r (λ h. h ≡ shown (option_map (λ (c : Client). c.copy) (held.plain client))) → IfErr r (λ e. e ≡ OutOfMemory) → IsAnswer rules w (shows client) (reply_to_show r)
-  showed (Ok h) is memory = is ∙ ap (λ o. shown (option_map (λ (c : Client). c.copy) o)) (are.0 client)
+  pub showed : (r : Result (List InstanceSummary) Fault) → IfOk r (λ h. h ≡ summaries (option_map (λ (c : Client). c.copy) (held.plain client))) → IfErr r (λ e. e ≡ OutOfMemory) → IsAnswer rules w (shows client) (reply_to_show r)
+  showed (Ok h) is memory = is ∙ ap (λ o. summaries (option_map (λ (c : Client). c.copy) o)) (are.0 client)
   showed (Err e) is memory = memory
 
-  pub showed_certified : (r : Result (List Holding) Fault) → IfOk r (λ h. h ≡ shown (option_map (λ (c : CertifiedCopy). c.copy) (held.certified client))) → IfErr r (λ e. e ≡ OutOfMemory) → IsAnswer rules w (shows_certified client) (reply_to_show r)
-  showed_certified (Ok h) is memory = is ∙ ap (λ o. shown (option_map (λ (c : CertifiedCopy). c.copy) o)) (are.1 client)
+  pub showed_certified : (r : Result (List InstanceSummary) Fault) → IfOk r (λ h. h ≡ summaries (option_map (λ (c : CertifiedCopy). c.copy) (held.certified client))) → IfErr r (λ e. e ≡ OutOfMemory) → IsAnswer rules w (shows_certified client) (reply_to_show r)
+  showed_certified (Ok h) is memory = is ∙ ap (λ o. summaries (option_map (λ (c : CertifiedCopy). c.copy) o)) (are.1 client)
   showed_certified (Err e) is memory = memory
 
 -- ---- clients of either kind
@@ -68,13 +68,13 @@ module _ (rules : Rules) (w : World) (old : Holders) (client : ℕ) (d : Payload
   pub took : (plain : ℕ → Option Client) (r : Result (Bool × Option ℕ) Fault) → ClientTakes old.plain plain client d r
       → IsAnswer rules w (takes client d) (reply_to_take r) × AreHeld (record old { plain = plain }) (with_clients w (takes client d) (reply_to_take r))
   took plain (Ok told) is = (
-    subst (λ o. IsTold d (taken d o) told.0 told.1) (are.0 client) is.0,
-    (λ q. is.1 q ∙ (λ i. cond (eqb q client) (taken d (are.0 client i)) (are.0 q i)), are.1),
+    subst (λ o. IsTakenReply d (client_after d o) told.0 told.1) (are.0 client) is.0,
+    (λ q. is.1 q ∙ (λ i. cond (eqb q client) (client_after d (are.0 client i)) (are.0 q i)), are.1),
   )
   took plain (Err e) is =
-      let none : e ≢ OutOfMemory → taken d (w.clients client) ≡ None = λ other. ap (taken d) (sym (are.0 client)) ∙ (is.0 other).1 in (
+      let none : e ≢ OutOfMemory → client_after d (w.clients client) ≡ None = λ other. ap (client_after d) (sym (are.0 client)) ∙ (is.0 other).1 in (
         λ other. ((is.0 other).0, none other),
-        (λ q. is.1 q ∙ are.0 q ∙ sym (refused_leaves w.clients client (taken d (w.clients client)) e none (no_copy_from d (document_of d.text) (w.clients client)) q), λ q. are.1 q ∙ ap (λ f. f q) (sym (same_either (ran_out (Refused e)) w.certified))),
+        (λ q. is.1 q ∙ are.0 q ∙ sym (refused_leaves w.clients client (client_after d (w.clients client)) e none (no_copy_from d (document_of d.text) (w.clients client)) q), λ q. are.1 q ∙ ap (λ f. f q) (sym (same_either (ran_out (Refused e)) w.certified))),
       )
 
   pub gave : (certified : ℕ → Option CertifiedCopy) (r : Result (Bool × Known) Fault) → ClientIsGiven old.certified certified client d r

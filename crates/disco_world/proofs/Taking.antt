@@ -10,7 +10,7 @@ use Rattle.disco_wire.specs.Meaning.{Meaning}
 use Rattle.disco_query.specs.Query.{is_delta}
 use Rattle.disco_cache.specs.Payloads.{cert_of}
 use Rattle.disco_cache.specs.declared.payload.Payload.{Payload}
-use Rattle.disco_world.specs.Clients.{IsTold, taken, taken_by}
+use Rattle.disco_world.specs.Clients.{IsTakenReply, client_after, taken_by}
 use Rattle.disco_world.specs.Steps.{IsMeant}
 use Rattle.disco_world.specs.declared.clients.Client.{Client}
 use Rattle.disco_world.proofs.Known.{taken_is}
@@ -22,11 +22,11 @@ is_at_number c q = grind (arith, nat_tests)
 pub with_now : {A : Type 0} (old new : ℕ → Option A) (c : ℕ) (now : A) → ((q : ℕ) → new q ≡ cond (is_at (nat_cmp c) q) (Some now) (old q)) → (o : Option A) → o ≡ Some now → (q : ℕ) → new q ≡ cond (eqb q c) o (old q)
 with_now old new c now updated o is = λ q. updated q ∙ ap (λ b. cond b (Some now) (old q)) (is_at_number c q) ∙ ap (λ x. cond (eqb q c) x (old q)) (sym is)
 
-pub took_full : (d : Payload) (m : Meaning) (held : Option Client) (now : Client) → IsMeant d m → is_delta d.key.query ≡ false → now ≡ record { copy = copied m.mentions; known = Some (known_at d.key.form (cert_of d)) } → taken d held ≡ Some now
+pub took_full : (d : Payload) (m : Meaning) (held : Option Client) (now : Client) → IsMeant d m → is_delta d.key.query ≡ false → now ≡ record { copy = copied m.mentions; known = Some (known_at d.key.form (cert_of d)) } → client_after d held ≡ Some now
 took_full d m held now meant full e = taken_is d held false m full meant.0 ∙ ap (λ x. Some x) (sym e)
 
 pub told_full : (d : Payload) (m : Meaning) (held : Option Client) (now : Client) (equal : Bool) → IsMeant d m → is_delta d.key.query ≡ false → now ≡ record { copy = copied m.mentions; known = Some (known_at d.key.form (cert_of d)) }
-    → equal ≡ hash_equal m.hash now.copy → IsTold d (taken d held) equal (Some d.version)
+    → equal ≡ hash_equal m.hash now.copy → IsTakenReply d (client_after d held) equal (Some d.version)
 told_full d m held now equal meant full e hash = record {
   meaning = m;
   client = now;
@@ -36,11 +36,11 @@ told_full d m held now equal meant full e hash = record {
   version_is = ap (λ (c : Client). option_map (λ at. at.version) c.known) (sym e);
 }
 
-pub took_delta : (d : Payload) (m : Meaning) (held : Option Client) (old now : Client) → IsMeant d m → is_delta d.key.query ≡ true → held ≡ Some old → now ≡ record { copy = overlay old.copy m.mentions; known = moved old.known d.key.form (cert_of d) } → taken d held ≡ Some now
+pub took_delta : (d : Payload) (m : Meaning) (held : Option Client) (old now : Client) → IsMeant d m → is_delta d.key.query ≡ true → held ≡ Some old → now ≡ record { copy = overlay old.copy m.mentions; known = moved old.known d.key.form (cert_of d) } → client_after d held ≡ Some now
 took_delta d m held old now meant delta has e = taken_is d held true m delta meant.0 ∙ ap (taken_by true d m) has ∙ ap (λ x. Some x) (sym e)
 
 pub told_delta : (d : Payload) (m : Meaning) (held : Option Client) (old now : Client) (equal : Bool) (version : Option ℕ) → IsMeant d m → is_delta d.key.query ≡ true → held ≡ Some old → now ≡ record { copy = overlay old.copy m.mentions; known = moved old.known d.key.form (cert_of d) }
-    → equal ≡ hash_equal m.hash now.copy → version ≡ option_map (λ at. at.version) now.known → IsTold d (taken d held) equal version
+    → equal ≡ hash_equal m.hash now.copy → version ≡ option_map (λ at. at.version) now.known → IsTakenReply d (client_after d held) equal version
 told_delta d m held old now equal version meant delta has e hash known = record {
   meaning = m;
   client = now;

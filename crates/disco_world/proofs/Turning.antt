@@ -6,7 +6,7 @@ use Rattle.std.specs.FinMap.{empty, get, insert, keys, len, len-entries, len-ins
 use Rattle.disco_values.specs.declared.fault.Fault.{Fault}
 use Rattle.disco_values.specs.declared.fault.Fault.TheVariants.{KeysLeft}
 use Rattle.disco_history.specs.Query.{is_absent}
-use Rattle.disco_history.specs.Registry.{reg}
+use Rattle.disco_history.specs.Registry.{registry_of}
 use Rattle.disco_documents.specs.Documents.{asked_by}
 use Rattle.disco_cache.specs.Docs.{Docs}
 use Rattle.disco_query.specs.declared.key.DocKey.{DocKey}
@@ -17,7 +17,7 @@ use Rattle.disco_hub.specs.Levels.{AreLevels}
 use Rattle.disco_rounds.specs.Press.{Edition, change, edition_of, steps_to}
 use Rattle.disco_rounds.specs.Rounds.{KeySet, Round, Rounds, StaysOpen, add_within, round_keys}
 use Rattle.disco_hub.specs.Kept.{IsCopiedAsKept}
-use Rattle.disco_hub.specs.State.{IsCopied, State, StandsFor, rules_of}
+use Rattle.disco_hub.specs.State.{IsCopied, HubState, HubStandsFor, rules_of}
 use Rattle.disco_hub.specs.Transitions.{BeginsRound, EndsRound}
 use Rattle.disco_rounds.specs.Press.{is_doc, key_of_copy}
 use Rattle.disco_rounds.specs.declared.copied.Copied.{Copied}
@@ -25,14 +25,14 @@ use Rattle.disco_rounds.specs.declared.copied.Copied.TheVariants as copied
 use Rattle.disco_rounds.proofs.KeySets.{same_len}
 use Rattle.disco_hub.proofs.Levels.{begun_levels, copied_is, copied_levels, ended_edition, ended_len, ended_levels, first_levels, plain_levels}
 use Rattle.disco_world.specs.Answers.{IsAnswer}
-use Rattle.disco_world.specs.Events.{Deed, World, begins, copies, publishes, looks, restarts, after, changes_since, past_after, past_done, ran_out}
+use Rattle.disco_world.specs.Events.{Effect, World, begins, copies, publishes, looks, restarts, after, changes_since, past_after, past_done, ran_out}
 use Rattle.disco_world.specs.Caching.{Cache, Caches, IsNext, new_cache}
 use Rattle.disco_world.specs.Levels.{AreLevelsOf, Copies, Looks}
 use Rattle.disco_world.specs.Steps.{cache_of}
 use Rattle.disco_world.specs.Rounds.{Press, all_of, left_after, left_in, unfinished}
 use Rattle.disco_world.specs.declared.event.Reply.{Reply}
 use Rattle.disco_world.specs.declared.event.Reply.TheVariants as reply
-use Rattle.disco_world.specs.declared.levels.Levels.{Levels}
+use Rattle.disco_world.specs.declared.levels.CacheLevels.{CacheLevels}
 use Rattle.disco_world.proofs.Known.{Extends, extends_same}
 
 -- ---- how many keys a round has
@@ -68,8 +68,8 @@ abbrev many_left : Option Round → Option ℕ
 many_left o = option_map (λ (r : Round). length r.left) o
 
 -- a deed of the hub alone
-pub plainly : (old new : Levels) (w v : World) → AreLevelsOf old w → v.press ≡ record w.press { pending = w.press.pending ++ map change (changes_since w.past v.past) } → v.past.run ≡ w.past.run → Extends (history w.past) (history v.past)
-    → StandsFor new.hub v.past → new.hub.rounds ≡ old.hub.rounds → new.published ≡ old.published → new.next ≡ old.next → AreLevelsOf new v
+pub plainly : (old new : CacheLevels) (w v : World) → AreLevelsOf old w → v.press ≡ record w.press { pending = w.press.pending ++ map change (changes_since w.past v.past) } → v.past.run ≡ w.past.run → Extends (history w.past) (history v.past)
+    → HubStandsFor new.hub v.past → new.hub.rounds ≡ old.hub.rounds → new.published ≡ old.published → new.next ≡ old.next → AreLevelsOf new v
 plainly old new w v was press run ext stands rounds published next =
     let s = w.press in
     let levels = plain_levels old.hub new.hub old.next new.next s.published s.pending w.past was.levels v.past (changes_since w.past v.past) run (history_on w.past v.past ext) stands rounds next in
@@ -80,7 +80,7 @@ plainly old new w v was press run ext stands rounds published next =
       published = published ∙ was.published ∙ ap (λ (t : Press). edition_of t.published) (sym press);
     }
 
-module _ (old new : Levels) (w : World) (was : AreLevelsOf old w) where
+module _ (old new : CacheLevels) (w : World) (was : AreLevelsOf old w) where
   abbrev s : Press
   s = w.press
 
@@ -98,14 +98,14 @@ module _ (old new : Levels) (w : World) (was : AreLevelsOf old w) where
           keys = ap (left_after n) steps ∙ ap Some (omega (arith, is.many)) ∙ ap (λ (r : Rounds). many_left r.round) (sym is.round);
           published = published ∙ was.published;
         },
-        (is, ap (λ (h : State). h.docs) begins_round.rest),
+        (is, ap (λ (h : HubState). h.docs) begins_round.rest),
       )
 
   fewer : (n a b c : ℕ) → Some (n - a) ≡ Some (suc b) → c ≡ a + 1 → n - c ≡ b
   fewer n a b c e is = omega (arith, same_Some _ _ e, is)
 
-  gone_key : (j k : DocKey) → IsCopied k (copied.Drop j) w.past → is_absent (reg (history w.past)) (asked_by j.query) ≡ true
-  gone_key j k it = subst (λ (x : DocKey). is_absent (reg (history w.past)) (asked_by x.query) ≡ true) (sym it.0) it.1
+  gone_key : (j k : DocKey) → IsCopied k (copied.Drop j) w.past → is_absent (registry_of (history w.past)) (asked_by j.query) ≡ true
+  gone_key j k it = subst (λ (x : DocKey). is_absent (registry_of (history w.past)) (asked_by x.query) ≡ true) (sym it.0) it.1
 
   of_key : (c : Copied) (k : DocKey) → IsCopied k c w.past → IsCopied (key_of_copy c) c w.past
   of_key (copied.Doc d) k it = (refl, it.1)
@@ -124,7 +124,7 @@ module _ (old new : Levels) (w : World) (was : AreLevelsOf old w) where
   both_in P Q R None f p q = tt
   both_in P Q R (Some r) f p q = both_of P Q R (slice_get r.left 0) f p q
 
-  next_is : (h : State) (c : Copied) → ((p : Past) → StandsFor h p → IfSome h.rounds.round (λ r. IfSome (slice_get r.left 0) (λ k. IsCopied k c p))) → (p : Past) → StandsFor h p
+  next_is : (h : HubState) (c : Copied) → ((p : Past) → HubStandsFor h p → IfSome h.rounds.round (λ r. IfSome (slice_get r.left 0) (λ k. IsCopied k c p))) → (p : Past) → HubStandsFor h p
       → IfSome h.rounds.round (λ r. IfSome (slice_get r.left 0) (λ k. IsCopiedAsKept h.docs k c)) → IsNext (cache_of h) c
   next_is h c copied p stands kept = both_in (λ k. IsCopied k c p) (λ k. IsCopiedAsKept h.docs k c) (λ k. key_of_copy c ≡ k) h.rounds.round (λ k it. key_is c k p it) (copied p stands) kept
 
@@ -145,7 +145,7 @@ module _ (old new : Levels) (w : World) (was : AreLevelsOf old w) where
           keys = ap (left_after s.keys) steps ∙ ap Some (fewer s.keys (length (map Some m.before.done)) (length m.after.left) (length (map Some m.after.done)) few one) ∙ ap (λ (r : Rounds). many_left r.round) (sym m.round);
           published = is.published ∙ was.published;
         },
-        (next_is old.hub c is.one.copied.copied w.past was.levels.stands is.one.copied.as_kept, m, ap (λ (h : State). h.docs) is.one.rest),
+        (next_is old.hub c is.one.copied.copied w.past was.levels.stands is.one.copied.as_kept, m, ap (λ (h : HubState). h.docs) is.one.rest),
       )
 
   pub published_turns : (n k : ℕ) → EndsRound old.hub new.hub k → new.published ≡ old.next → n ≡ len new.published
@@ -160,12 +160,12 @@ module _ (old new : Levels) (w : World) (was : AreLevelsOf old w) where
           keys = ap (λ (r : Rounds). many_left r.round) (sym is.edition);
           published = shown;
         },
-        (record { round = is.round; was = is.was; whole = is.whole; edition = is.edition; many = many ∙ ap (λ (m : Edition). len m) shown ∙ ended_len old.hub new.hub old.next new.next s.published s.pending w.past was.levels k is }, ap (λ (h : State). h.docs) ends.rest),
+        (record { round = is.round; was = is.was; whole = is.whole; edition = is.edition; many = many ∙ ap (λ (m : Edition). len m) shown ∙ ended_len old.hub new.hub old.next new.next s.published s.pending w.past was.levels k is }, ap (λ (h : HubState). h.docs) ends.rest),
       )
 
 -- ---- another run begins
 
-pub restarted_turns : (old new : Levels) (w : World) (run : ℕ) → w.past.run < run → StandsFor new.hub (nothing run) → cache_of new.hub ≡ new_cache old.hub.docs.max → new.published ≡ empty
+pub restarted_turns : (old new : CacheLevels) (w : World) (run : ℕ) → w.past.run < run → HubStandsFor new.hub (nothing run) → cache_of new.hub ≡ new_cache old.hub.docs.max → new.published ≡ empty
     → IsAnswer (rules_of old.hub) w (restarts run) (reply.Restarted run) × AreLevelsOf new (after (rules_of old.hub) w (restarts run) (reply.Restarted run)) × Caches (rules_of old.hub) w.past (restarts run) (reply.Restarted run) (cache_of old.hub) (cache_of new.hub)
 restarted_turns old new w run later stands cache published =
     let rounds : new.hub.rounds ≡ record { edition = empty; round = None } = ap (λ (c : Cache). c.rounds) cache in (
@@ -180,16 +180,16 @@ restarted_turns old new w run later stands cache published =
 
 -- ---- what changes nothing
 
-module _ (old new : Levels) (w : World) (was : AreLevelsOf old w) (same : new ≡ old) where
+module _ (old new : CacheLevels) (w : World) (was : AreLevelsOf old w) (same : new ≡ old) where
   abbrev press_before : Press
   press_before = w.press
 
   -- a deed that is answered so leaves all as it was
   unchanged : (v : World) → v.past ≡ w.past → v.press ≡ record w.press { pending = w.press.pending ++ map change (changes_since w.past v.past) } → AreLevelsOf new v
   unchanged v past press = plainly old new w v was press (ap (λ (p : Past). p.run) past) (subst (λ p. Extends (history w.past) (history p)) (sym past) (extends_same (history w.past)))
-      (subst (λ p. StandsFor new.hub p) (sym past) (subst (λ (l : Levels). StandsFor l.hub w.past) (sym same) was.levels.stands)) (ap (λ (l : Levels). l.hub.rounds) same) (ap (λ (l : Levels). l.published) same) (ap (λ (l : Levels). l.next) same)
+      (subst (λ p. HubStandsFor new.hub p) (sym past) (subst (λ (l : CacheLevels). HubStandsFor l.hub w.past) (sym same) was.levels.stands)) (ap (λ (l : CacheLevels). l.hub.rounds) same) (ap (λ (l : CacheLevels). l.published) same) (ap (λ (l : CacheLevels). l.next) same)
 
-  past_stays : (what : Deed) (r : Reply) → past_done (rules_of old.hub) w.past what r ≡ w.past → past_after (rules_of old.hub) w.past what r ≡ w.past
+  past_stays : (what : Effect) (r : Reply) → past_done (rules_of old.hub) w.past what r ≡ w.past → past_after (rules_of old.hub) w.past what r ≡ w.past
   past_stays what r is = one (ran_out r)
     where
       one : (b : Bool) → cond b w.past (past_done (rules_of old.hub) w.past what r) ≡ w.past
@@ -197,12 +197,12 @@ module _ (old new : Levels) (w : World) (was : AreLevelsOf old w) (same : new �
       one false = is
 
   -- a deed that only asks
-  pub quiet_turns : (what : Deed) (r : Reply) → past_done (rules_of old.hub) w.past what r ≡ w.past
+  pub quiet_turns : (what : Effect) (r : Reply) → past_done (rules_of old.hub) w.past what r ≡ w.past
       → (after (rules_of old.hub) w what r).press ≡ record w.press { pending = w.press.pending ++ map change (changes_since w.past (past_after (rules_of old.hub) w.past what r)) } → AreLevelsOf new (after (rules_of old.hub) w what r)
   quiet_turns what r is press = unchanged (after (rules_of old.hub) w what r) (past_stays what r is) press
 
   pub refused_publish : (f : Fault) → StaysOpen f old.hub.rounds.round → IsAnswer (rules_of old.hub) w publishes (reply.Refused f) × AreLevelsOf new (after (rules_of old.hub) w publishes (reply.Refused f)) × Caches (rules_of old.hub) w.past publishes (reply.Refused f) (cache_of old.hub) (cache_of new.hub)
-  refused_publish f stays = (ap unfinished was.keys ∙ why old.hub.rounds.round stays, unchanged (after (rules_of old.hub) w publishes (reply.Refused f)) (past_stays publishes (reply.Refused f) refl) refl, ap (λ (l : Levels). cache_of l.hub) same)
+  refused_publish f stays = (ap unfinished was.keys ∙ why old.hub.rounds.round stays, unchanged (after (rules_of old.hub) w publishes (reply.Refused f)) (past_stays publishes (reply.Refused f) refl) refl, ap (λ (l : CacheLevels). cache_of l.hub) same)
     where
       some_left : (ks : List DocKey) → (ks ≡ [] → ⊥) → unfinished (Some (length ks)) ≡ Some KeysLeft
       some_left [] left = absurd (left refl)

@@ -8,7 +8,7 @@ use Rattle.disco_history.specs.Change.{Entry}
 use Rattle.disco_core.specs.Past.{Past, after_ask, history, with_done}
 use Rattle.disco_core.specs.State.{Rules}
 use Rattle.disco_rounds.specs.Press.{change}
-use Rattle.disco_hub.specs.State.{State, StandsFor, rules_of}
+use Rattle.disco_hub.specs.State.{HubState, HubStandsFor, rules_of}
 use Rattle.disco_hub.specs.Transitions.{Declines, IsDocOf, Loads, Withholds, Writes}
 use Rattle.disco_query.specs.declared.key.DocKey.{DocKey}
 use Rattle.disco_cache.specs.declared.payload.Payload.{Payload}
@@ -23,25 +23,25 @@ use Rattle.disco_registry.proofs.Histories.{accepts_after}
 use Rattle.disco_queue.specs.Timed.{Timed}
 use Rattle.disco_client.specs.declared.certified.CertifiedCopy.{CertifiedCopy}
 use Rattle.disco_world.specs.Answers.{IsAnswer}
-use Rattle.disco_world.specs.Events.{Deed, World, after, certified_done, changes_since, clients_done, past_after, past_done, loaded, loads, ran_out, unless, writes, done}
+use Rattle.disco_world.specs.Events.{Effect, World, after, certified_done, changes_since, clients_done, past_after, past_done, loaded, loads, ran_out, unless, writes, done}
 use Rattle.disco_world.specs.declared.clients.Client.{Client}
 use Rattle.disco_world.specs.declared.event.Reply.{Reply}
 use Rattle.disco_world.specs.Levels.{AreLevelsOf}
 use Rattle.std.specs.FinMap.{get}
-use Rattle.disco_history.specs.Registry.{reg}
+use Rattle.disco_history.specs.Registry.{registry_of}
 use Rattle.disco_hub.specs.Kept.{Forgets, IsAsKept}
-use Rattle.disco_world.specs.Caching.{Caches, change_of}
-use Rattle.disco_world.specs.Steps.{AreHeld, Does, Holders, cache_of, reply_of, reply_to, with_clients}
-use Rattle.disco_world.specs.declared.levels.Levels.{Levels}
+use Rattle.disco_world.specs.Caching.{Caches, change_made}
+use Rattle.disco_world.specs.Steps.{AreHeld, Performs, Holders, cache_of, reply_of, reply_to, with_clients}
+use Rattle.disco_world.specs.declared.levels.CacheLevels.{CacheLevels}
 use Rattle.disco_world.proofs.Growing.{goes_on, past_extends, run_stays}
 use Rattle.disco_world.proofs.Turning.{plainly}
 use Rattle.disco_world.specs.declared.event.Reply.TheVariants.{Refused}
 
 -- what a hub does is done after all that it stands for
-at_history : (s : State) (p : Past) (ask : Ask) (now : ℕ) → StandsFor s p → accepts s.core.registry ask now ≡ accept_after (rules_of s).limits (history p) ask now
+at_history : (s : HubState) (p : Past) (ask : Ask) (now : ℕ) → HubStandsFor s p → accepts s.core.registry ask now ≡ accept_after (rules_of s).limits (history p) ask now
 at_history s p ask now stands = accepts_after s.core.registry (history p) stands.core.registry ask now
 
-gives : (old new : State) (p : Past) (ask : Ask) (now : ℕ) (r : Result Applied Fault) → StandsFor old p → IfOk r (λ a. Writes old new ask now (done_by a)) → IfErr r (Declines old new ask now) → Gives done_by r (done (rules_of old) p now (Ok ask))
+gives : (old new : HubState) (p : Past) (ask : Ask) (now : ℕ) (r : Result Applied Fault) → HubStandsFor old p → IfOk r (λ a. Writes old new ask now (done_by a)) → IfErr r (Declines old new ask now) → Gives done_by r (done (rules_of old) p now (Ok ask))
 gives old new p ask now (Ok a) stands done refused = sym (at_history old p ask now stands) ∙ done.accepted
 gives old new p ask now (Err e) stands done refused = λ other. sym (at_history old p ask now stands) ∙ refused.cause other
 
@@ -55,7 +55,7 @@ abbrev with_result : ℕ → Past → ℕ → Ask → Result Applied Fault → P
 with_result most p now ask (Ok a) = with_done most p now ask (done_by a)
 with_result most p now ask (Err e) = p
 
-stands_after : (old new : State) (ask : Ask) (now : ℕ) (r : Result Applied Fault) → IfOk r (λ a. Writes old new ask now (done_by a)) → IfErr r (Declines old new ask now) → (p : Past) → StandsFor old p → StandsFor new (with_result (rules_of old).queue p now ask r)
+stands_after : (old new : HubState) (ask : Ask) (now : ℕ) (r : Result Applied Fault) → IfOk r (λ a. Writes old new ask now (done_by a)) → IfErr r (Declines old new ask now) → (p : Past) → HubStandsFor old p → HubStandsFor new (with_result (rules_of old).queue p now ask r)
 stands_after old new ask now (Ok a) done refused p stands = done.history p stands
 stands_after old new ask now (Err e) done refused p stands = refused.history p stands
 
@@ -71,8 +71,8 @@ stays rules p now asked f refused = one (ran_out (Refused f)) refl
     one true memory = refl
     one false memory = same asked (refused (λ same. let bad = sym memory ∙ ap (λ x. ran_out (Refused x)) same in cc))
 
-module _ (old new : State) (w : World) (now : ℕ) (ask : Ask) where
-  answer_by : (r : Result Applied Fault) → Gives done_by r (done (rules_of old) w.past now (Ok ask)) → StandsFor new (with_result (rules_of old).queue w.past now ask r) → IsAnswer (rules_of old) w (writes now (Ok ask)) (reply_to r new.core.registry.version)
+module _ (old new : HubState) (w : World) (now : ℕ) (ask : Ask) where
+  answer_by : (r : Result Applied Fault) → Gives done_by r (done (rules_of old) w.past now (Ok ask)) → HubStandsFor new (with_result (rules_of old).queue w.past now ask r) → IsAnswer (rules_of old) w (writes now (Ok ask)) (reply_to r new.core.registry.version)
   answer_by (Ok (applied.Changed c)) gives stands = (_, gives, stands.core.registry.version ∙ one_longer (rules_of old).queue w.past now ask _)
   answer_by (Ok applied.Same) gives stands = gives
   answer_by (Err f) gives stands = gives
@@ -83,25 +83,25 @@ module _ (old new : State) (w : World) (now : ℕ) (ask : Ask) where
   after_is (Err f) v gives = stays (rules_of old) w.past now (Ok ask) f gives
 
 -- what is kept, where the rounds stay
-kept_on : (old new : State) → new.rounds ≡ old.rounds → new.docs ≡ old.docs → cache_of new ≡ cache_of old
+kept_on : (old new : HubState) → new.rounds ≡ old.rounds → new.docs ≡ old.docs → cache_of new ≡ cache_of old
 kept_on old new rounds docs = λ i. record { docs = docs i; rounds = rounds i }
 
-caches_by : (old new : State) (ask : Ask) (now : ℕ) (p : Past) (r : Result Applied Fault) (v : ℕ) → new.rounds ≡ old.rounds → Gives done_by r (done (rules_of old) p now (Ok ask)) → StandsFor old p
+caches_by : (old new : HubState) (ask : Ask) (now : ℕ) (p : Past) (r : Result Applied Fault) (v : ℕ) → new.rounds ≡ old.rounds → Gives done_by r (done (rules_of old) p now (Ok ask)) → HubStandsFor old p
     → IfOk r (λ a. Writes old new ask now (done_by a)) → IfErr r (Declines old new ask now) → Caches (rules_of old) p (writes now (Ok ask)) (reply_to r v) (cache_of old) (cache_of new)
 caches_by old new ask now p (Ok (applied.Changed c)) v rounds gives stands wrote refused =
-    (subst (λ o. Forgets (get (reg (history p))) o old.docs new.docs) (sym (ap change_of gives)) (wrote.docs p stands), rounds)
+    (subst (λ o. Forgets (get (registry_of (history p))) o old.docs new.docs) (sym (ap change_made gives)) (wrote.docs p stands), rounds)
 caches_by old new ask now p (Ok applied.Same) v rounds gives stands wrote refused = kept_on old new rounds (wrote.docs p stands)
 caches_by old new ask now p (Err e) v rounds gives stands wrote refused = kept_on old new rounds refused.docs
 
-pub does : (old new : State) (ask : Ask) (asked : Result Ask Fault) (now : ℕ) (r : Result Applied Fault) → asked ≡ Ok ask → new.rounds ≡ old.rounds → IfOk r (λ a. Writes old new ask now (done_by a)) → IfErr r (Declines old new ask now)
-    → Does old new (λ _. writes now asked) (reply_to r new.core.registry.version)
+pub does : (old new : HubState) (ask : Ask) (asked : Result Ask Fault) (now : ℕ) (r : Result Applied Fault) → asked ≡ Ok ask → new.rounds ≡ old.rounds → IfOk r (λ a. Writes old new ask now (done_by a)) → IfErr r (Declines old new ask now)
+    → Performs old new (λ _. writes now asked) (reply_to r new.core.registry.version)
 does old new ask asked now r is rounds done refused = λ w stands.
     let gives = gives old new w.past ask now r stands done refused in
     let stands_now = stands_after old new ask now r done refused w.past stands in
     let v = new.core.registry.version in
-    let here : IsAnswer (rules_of old) w (writes now (Ok ask)) (reply_to r v) × StandsFor new (past_after (rules_of old) w.past (writes now (Ok ask)) (reply_to r v)) × Caches (rules_of old) w.past (writes now (Ok ask)) (reply_to r v) (cache_of old) (cache_of new)
-    = (answer_by old new w now ask r gives stands_now, subst (StandsFor new) (sym (after_is old new w now ask r v gives)) stands_now, caches_by old new ask now w.past r v rounds gives stands done refused) in
-    subst (λ a. IsAnswer (rules_of old) w (writes now a) (reply_to r v) × StandsFor new (past_after (rules_of old) w.past (writes now a) (reply_to r v)) × Caches (rules_of old) w.past (writes now a) (reply_to r v) (cache_of old) (cache_of new)) (sym is) here
+    let here : IsAnswer (rules_of old) w (writes now (Ok ask)) (reply_to r v) × HubStandsFor new (past_after (rules_of old) w.past (writes now (Ok ask)) (reply_to r v)) × Caches (rules_of old) w.past (writes now (Ok ask)) (reply_to r v) (cache_of old) (cache_of new)
+    = (answer_by old new w now ask r gives stands_now, subst (HubStandsFor new) (sym (after_is old new w now ask r v gives)) stands_now, caches_by old new ask now w.past r v rounds gives stands done refused) in
+    subst (λ a. IsAnswer (rules_of old) w (writes now a) (reply_to r v) × HubStandsFor new (past_after (rules_of old) w.past (writes now a) (reply_to r v)) × Caches (rules_of old) w.past (writes now a) (reply_to r v) (cache_of old) (cache_of new)) (sym is) here
 
 -- ---- loads
 
@@ -112,17 +112,17 @@ nothing_then rules p asked f = one (ran_out (Refused f))
     one true = refl
     one false = refl
 
-pub loads_so : (old new : State) (key : DocKey) (r : Result (Arc Payload Global) Fault) → IfOk r (λ d. IsDocOf old (rules_of old).delta key d.value) → IfErr r (Withholds old (rules_of old).delta key) → IfOk r (λ d. Loads old new key d.value) → OnErr r (new ≡ old) → Does old new (λ w. loads (loaded (rules_of old).delta key (history w.past))) (reply_of r)
-loads_so old new key (Ok d) may refused did same = λ w stands. ((ap (unless key) (may.allowed w.past stands) ∙ ap (λ k. Ok k) (sym may.key), may.served w.past stands), did.history w.past stands, (subst (λ k. IsAsKept old.docs k d.value) (sym may.key) did.as_kept, did.keeps, ap (λ (s : State). s.rounds) did.rest))
+pub loads_so : (old new : HubState) (key : DocKey) (r : Result (Arc Payload Global) Fault) → IfOk r (λ d. IsDocOf old (rules_of old).delta key d.value) → IfErr r (Withholds old (rules_of old).delta key) → IfOk r (λ d. Loads old new key d.value) → OnErr r (new ≡ old) → Performs old new (λ w. loads (loaded (rules_of old).delta key (history w.past))) (reply_of r)
+loads_so old new key (Ok d) may refused did same = λ w stands. ((ap (unless key) (may.allowed w.past stands) ∙ ap (λ k. Ok k) (sym may.key), may.served w.past stands), did.history w.past stands, (subst (λ k. IsAsKept old.docs k d.value) (sym may.key) did.as_kept, did.keeps, ap (λ (s : HubState). s.rounds) did.rest))
 loads_so old new key (Err e) may refused did same = λ w stands.
-    (λ other. ap (unless key) (refused other w.past stands), subst (StandsFor new) (sym (nothing_then (rules_of old) w.past (loaded (rules_of old).delta key (history w.past)) e)) (subst (λ (s : State). StandsFor s w.past) (sym same) stands), ap cache_of same)
+    (λ other. ap (unless key) (refused other w.past stands), subst (HubStandsFor new) (sym (nothing_then (rules_of old) w.past (loaded (rules_of old).delta key (history w.past)) e)) (subst (λ (s : HubState). HubStandsFor s w.past) (sym same) stands), ap cache_of same)
 
 -- a deed of the hub leaves the clients
 pub clients_stay : {A : Type 0} (clients done : ℕ → Option A) (b : Bool) → done ≡ clients → cond b clients done ≡ clients
 clients_stay clients done true same = refl
 clients_stay clients done false same = same
 
-module _ (old new : Levels) (held : Holders) (w : World) (what : Deed) (r : Reply) (plain : clients_done w.clients what ≡ w.clients) (certified : certified_done w.certified what ≡ w.certified) (are : AreHeld held w) where
+module _ (old new : CacheLevels) (held : Holders) (w : World) (what : Effect) (r : Reply) (plain : clients_done w.clients what ≡ w.clients) (certified : certified_done w.certified what ≡ w.certified) (are : AreHeld held w) where
   abbrev CachesIt : Type 0
   CachesIt = Caches (rules_of old.hub) w.past what r (cache_of old.hub) (cache_of new.hub)
 
@@ -135,7 +135,7 @@ module _ (old new : Levels) (held : Holders) (w : World) (what : Deed) (r : Repl
 
   -- a deed that the hub answers alone
   pub with_hub : goes_on what r ≡ true → (after (rules_of old.hub) w what r).press ≡ record w.press { pending = w.press.pending ++ map change (changes_since w.past (past_after (rules_of old.hub) w.past what r)) } → AreLevelsOf old w
-      → new.hub.rounds ≡ old.hub.rounds → new.published ≡ old.published → new.next ≡ old.next → IsAnswer (rules_of old.hub) w what r × StandsFor new.hub (past_after (rules_of old.hub) w.past what r) × CachesIt
+      → new.hub.rounds ≡ old.hub.rounds → new.published ≡ old.published → new.next ≡ old.next → IsAnswer (rules_of old.hub) w what r × HubStandsFor new.hub (past_after (rules_of old.hub) w.past what r) × CachesIt
       → IsAnswer (rules_of old.hub) w what r × AreLevelsOf new (after (rules_of old.hub) w what r) × AreHeld held (with_clients w what r) × CachesIt
   with_hub goes press levels rounds published next so =
       (so.0, plainly old new w (after (rules_of old.hub) w what r) levels press (run_stays (rules_of old.hub) w.past what r (ran_out r) goes) (past_extends (rules_of old.hub) w.past what r (ran_out r) goes) so.1 rounds published next, held_on, so.2)

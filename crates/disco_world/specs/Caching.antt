@@ -3,7 +3,7 @@ use Rattle.std.specs.Prelude.{◌≡◌, ◌≤◌, ℕ, ◌+◌, List, length, 
 use Rattle.std.specs.FinMap.{empty, get}
 use Rattle.disco_values.specs.declared.fault.Fault.{Fault}
 use Rattle.disco_history.specs.Change.{Entry}
-use Rattle.disco_history.specs.Registry.{reg}
+use Rattle.disco_history.specs.Registry.{registry_of}
 use Rattle.disco_cache.specs.Docs.{Docs}
 use Rattle.disco_core.specs.Past.{Past, history, taken_in}
 use Rattle.disco_core.specs.State.{Rules}
@@ -12,8 +12,8 @@ use Rattle.disco_rounds.specs.Rounds.{Advances, Begins, Ends, Rounds, round_keys
 use Rattle.disco_rounds.specs.declared.copied.Copied as copied
 use Rattle.disco_hub.specs.Expiry.{ForgetsEach}
 use Rattle.disco_hub.specs.Kept.{Forgets, IsAsKept, IsCopiedAsKept, KeepsAtMost}
-use Rattle.disco_world.specs.Answers.{IsPressed}
-use Rattle.disco_world.specs.Events.{Deed, writes, loads, expires, begins, copies, publishes, restarts, deed, done, world}
+use Rattle.disco_world.specs.Answers.{IsPressState}
+use Rattle.disco_world.specs.Events.{Effect, writes, loads, expires, begins, copies, publishes, restarts, effect, done, world}
 use Rattle.disco_world.specs.declared.event.Event.{Event}
 use Rattle.disco_world.specs.declared.event.Reply.{Reply}
 use Rattle.disco_world.specs.declared.event.Reply.TheVariants.{Changed, Doc, Expired, Begun, Copied, Published, Restarted}
@@ -28,17 +28,17 @@ abbrev pub new_cache : ℕ → Cache
 new_cache most = record { docs = record { docs = empty; max = most }; rounds = record { edition = empty; round = None } }
 
 -- the change that an operation makes, if it makes one
-abbrev pub change_of : Result (Option Entry) Fault → Option Entry
-change_of (Ok change) = change
-change_of (Err e) = None
+abbrev pub change_made : Result (Option Entry) Fault → Option Entry
+change_made (Ok change) = change
+change_made (Err e) = None
 
 -- what is copied is of the first key that is left, and as it is kept where it is kept
 abbrev pub IsNext : Cache → copied.Copied → Type 0
 IsNext s c = IfSome s.rounds.round (λ r. IfSome (slice_get r.left 0) (λ k. (key_of_copy c ≡ k) × IsCopiedAsKept s.docs k c))
 
 -- what a deed with that answer does to it: a change drops what it names, a load is answered as it is kept and keeps its document at most, a round begins with the keys that are due, each copy takes out the first that is left, a publish ends it, and after a restart nothing is kept and no round is open
-abbrev pub Caches : Rules → Past → Deed → Reply → Cache → Cache → Type 0
-Caches rules p (writes now asked) (Changed v) old new = Forgets (get (reg (history p))) (change_of (done rules p now asked)) old.docs new.docs × (new.rounds ≡ old.rounds)
+abbrev pub Caches : Rules → Past → Effect → Reply → Cache → Cache → Type 0
+Caches rules p (writes now asked) (Changed v) old new = Forgets (get (registry_of (history p))) (change_made (done rules p now asked)) old.docs new.docs × (new.rounds ≡ old.rounds)
 Caches rules p (loads asked) (Doc d) old new = IsAsKept old.docs d.value.key d.value × KeepsAtMost rules.delta d.value old.docs new.docs × (new.rounds ≡ old.rounds)
 Caches rules p (expires now) (Expired run) old new = ForgetsEach rules p now (taken_in p now) run.gone old.docs new.docs × (new.rounds ≡ old.rounds)
 Caches rules p begins (Begun n) old new = Begins (round_keys old.rounds.edition old.docs) n old.rounds new.rounds × (new.docs ≡ old.docs)
@@ -52,5 +52,5 @@ pub record AreCached (most : ℕ) (rules : Rules) (run : ℕ) (events : List Eve
   pub caches : ℕ → Cache
   pub first : caches 0 ≡ new_cache most
   pub each : (i : ℕ) (event : Event) (reply : Reply) → slice_get events i ≡ Some event → slice_get replies i ≡ Some reply
-      → let w = world rules run events replies i in Caches rules w.past (deed rules w event) reply (caches i) (caches (i + 1))
-  pub pressed : (i : ℕ) → i ≤ length replies → let w = world rules run events replies i in IsPressed w.past.run w.press (history w.past) (caches i).rounds.edition (caches i).rounds.round
+      → let w = world rules run events replies i in Caches rules w.past (effect rules w event) reply (caches i) (caches (i + 1))
+  pub pressed : (i : ℕ) → i ≤ length replies → let w = world rules run events replies i in IsPressState w.past.run w.press (history w.past) (caches i).rounds.edition (caches i).rounds.round

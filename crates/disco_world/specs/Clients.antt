@@ -11,10 +11,10 @@ use Rattle.disco_query.specs.Query.{is_delta}
 use Rattle.disco_cache.specs.Payloads.{cert_of}
 use Rattle.disco_cache.specs.declared.payload.Payload.{Payload}
 use Rattle.disco_client.specs.Copies.{hash_equal}
-use Rattle.disco_client.specs.Tracks.{Histories, IsAt, known_at, moved}
+use Rattle.disco_client.specs.Tracks.{Histories, IsVersionIn, known_at, moved}
 use Rattle.disco_client.specs.declared.known.Known.{Known}
 use Rattle.disco_world.specs.declared.clients.Client.{Client}
-use Rattle.disco_world.specs.declared.holding.Holding.{Holding}
+use Rattle.disco_world.specs.declared.instance_summary.InstanceSummary.{InstanceSummary}
 
 -- a document of all apps replaces the copy; a delta is overlaid on the copy that is there
 abbrev pub taken_by : Bool → Payload → Meaning → Option Client → Option Client
@@ -27,15 +27,15 @@ taken_from d (Ok m) held = taken_by (is_delta d.key.query) d m held
 taken_from d (Err e) held = held
 
 -- a client after it took a document
-abbrev pub taken : Payload → Option Client → Option Client
-taken d held = taken_from d (document_of d.text) held
+abbrev pub client_after : Payload → Option Client → Option Client
+client_after d held = taken_from d (document_of d.text) held
 
 -- all clients after one of them took a document
 abbrev pub clients_with : (ℕ → Option Client) → ℕ → Payload → ℕ → Option Client
-clients_with clients c d q = if q == c then taken d (clients c) else clients q
+clients_with clients c d q = if q == c then client_after d (clients c) else clients q
 
 -- what is told of a client that took a document: whether the hash codes are equal, and the version at which the copy is known
-pub record IsTold (d : Payload) (now : Option Client) (equal : Bool) (version : Option ℕ) : Type 0 where
+pub record IsTakenReply (d : Payload) (now : Option Client) (equal : Bool) (version : Option ℕ) : Type 0 where
   pub meaning : Meaning
   pub client : Client
   pub means : document_of d.text ≡ Ok meaning
@@ -44,10 +44,10 @@ pub record IsTold (d : Payload) (now : Option Client) (equal : Bool) (version : 
   pub version_is : version ≡ option_map (λ at. at.version) client.known
 
 -- what is shown of a copy: each instance's key and status, by key
-abbrev pub shown : Option (FinMap key_cmp Row) → List Holding
-shown None = []
-shown (Some s) = map (λ r. record { key = r.key; status = r.status }) (values s)
+abbrev pub summaries : Option (FinMap key_cmp Row) → List InstanceSummary
+summaries None = []
+summaries (Some s) = map (λ r. record { key = r.key; status = r.status }) (values s)
 
 -- a copy that is known at a version of a run is exactly that version of the run's history, in its form
 abbrev pub MeansVersion : Histories → Client → Type 0
-MeansVersion hs c = (at : Known) → c.known ≡ Some at → IsAt (hs at.run) at c.copy
+MeansVersion hs c = (at : Known) → c.known ≡ Some at → IsVersionIn (hs at.run) at c.copy

@@ -7,7 +7,7 @@ use Rattle.disco_values.specs.declared.fault.Fault.TheVariants.{OutOfMemory, Not
 use Rattle.disco_values.specs.declared.form.Form.{Form}
 use Rattle.disco_history.specs.Change.{Entry}
 use Rattle.disco_history.specs.Query.{by_id}
-use Rattle.disco_history.specs.Registry.{reg}
+use Rattle.disco_history.specs.Registry.{registry_of}
 use Rattle.disco_registry.specs.Accept.{accept_after}
 use Rattle.disco_registry.specs.Op.{Ask, cancel, renew, set_status, drop_status, add_metadata}
 use Rattle.disco_wire.specs.Registration.{registration_of}
@@ -44,22 +44,22 @@ pub record World : Type 0 where
   pub press : Press
 
 -- what an event is for: an operation at a moment in milliseconds, or why it is none; a document, or why it isn't served; a cleaning at a moment; the closing of a minute; a run at a moment that cancels instances whose leases ran out; the beginning of a round, a copy in it, and its publish; a look for a document, if readers can see one of its kind; a document for a client, and one for a certified client; a look at a client's copy, and at a certified client's; a restart of the server in a run; nothing that can be run
-pub data Deed : Type 0 where
-  writes : ℕ → Result Ask Fault → Deed
-  loads : Result DocKey Fault → Deed
-  cleans : ℕ → Deed
-  closes : Deed
-  expires : ℕ → Deed
-  begins : Deed
-  copies : Deed
-  publishes : Deed
-  looks : Option DocKey → Deed
-  takes : ℕ → Payload → Deed
-  certifies : ℕ → Payload → Deed
-  shows : ℕ → Deed
-  shows_certified : ℕ → Deed
-  restarts : ℕ → Deed
-  bad : Deed
+pub data Effect : Type 0 where
+  writes : ℕ → Result Ask Fault → Effect
+  loads : Result DocKey Fault → Effect
+  cleans : ℕ → Effect
+  closes : Effect
+  expires : ℕ → Effect
+  begins : Effect
+  copies : Effect
+  publishes : Effect
+  looks : Option DocKey → Effect
+  takes : ℕ → Payload → Effect
+  certifies : ℕ → Payload → Effect
+  shows : ℕ → Effect
+  shows_certified : ℕ → Effect
+  restarts : ℕ → Effect
+  bad : Effect
 
 -- what is asked for, with the name of an app in upper case
 abbrev pub query_asked : Query → Query
@@ -101,37 +101,37 @@ doc_of_event replies zero = None
 doc_of_event replies (suc i) = doc_in (slice_get replies i)
 
 -- a client can take an earlier document alone
-abbrev pub takes_any : ℕ → Option Payload → Deed
+abbrev pub takes_any : ℕ → Option Payload → Effect
 takes_any client None = bad
 takes_any client (Some d) = takes client d
 
-abbrev pub certifies_any : ℕ → Option Payload → Deed
+abbrev pub certifies_any : ℕ → Option Payload → Effect
 certifies_any client None = bad
 certifies_any client (Some d) = certifies client d
 
 -- the table of events: what each is for after what has happened
-abbrev pub deed : Rules → World → Event → Deed
-deed rules w (Step (Register now app json)) = writes now (registers app (registration_of json))
-deed rules w (Step (Cancel now app id)) = writes now (Ok (cancel (key_named app id)))
-deed rules w (Step (Renew now app id)) = writes now (Ok (renew (key_named app id)))
-deed rules w (Step (SetStatus now app id status)) = writes now (Ok (set_status (key_named app id) status))
-deed rules w (Step (DropStatus now app id status)) = writes now (Ok (drop_status (key_named app id) status))
-deed rules w (Step (Metadata now app id entries)) = writes now (Ok (add_metadata (key_named app id) entries))
-deed rules w (Step (Load key)) = loads (loaded rules.delta (record { query = query_asked key.query; form = key.form }) (history w.past))
-deed rules w (Step (LoadById id form)) = loads (loaded_of (by_id (reg (history w.past)) id) form (history w.past))
-deed rules w (Step (Clean now)) = cleans now
-deed rules w (Step Minute) = closes
-deed rules w (Step (Expire now)) = expires now
-deed rules w (Step Begin) = begins
-deed rules w (Step Copy) = copies
-deed rules w (Step Publish) = publishes
-deed rules w (Step (Look key)) = looks (Some (record { query = query_asked key.query; form = key.form }))
-deed rules w (Step (LookById id form)) = looks None
-deed rules w (Step (Show client)) = shows client
-deed rules w (Step (ShowCertified client)) = shows_certified client
-deed rules w (Step (Restart run)) = restarts run
-deed rules w (Take client event) = takes_any client (doc_of_event w.replies event)
-deed rules w (Certify client event) = certifies_any client (doc_of_event w.replies event)
+abbrev pub effect : Rules → World → Event → Effect
+effect rules w (Step (Register now app json)) = writes now (registers app (registration_of json))
+effect rules w (Step (Cancel now app id)) = writes now (Ok (cancel (key_named app id)))
+effect rules w (Step (Renew now app id)) = writes now (Ok (renew (key_named app id)))
+effect rules w (Step (SetStatus now app id status)) = writes now (Ok (set_status (key_named app id) status))
+effect rules w (Step (DropStatus now app id status)) = writes now (Ok (drop_status (key_named app id) status))
+effect rules w (Step (Metadata now app id entries)) = writes now (Ok (add_metadata (key_named app id) entries))
+effect rules w (Step (Load key)) = loads (loaded rules.delta (record { query = query_asked key.query; form = key.form }) (history w.past))
+effect rules w (Step (LoadById id form)) = loads (loaded_of (by_id (registry_of (history w.past)) id) form (history w.past))
+effect rules w (Step (Clean now)) = cleans now
+effect rules w (Step Minute) = closes
+effect rules w (Step (Expire now)) = expires now
+effect rules w (Step Begin) = begins
+effect rules w (Step Copy) = copies
+effect rules w (Step Publish) = publishes
+effect rules w (Step (Look key)) = looks (Some (record { query = query_asked key.query; form = key.form }))
+effect rules w (Step (LookById id form)) = looks None
+effect rules w (Step (Show client)) = shows client
+effect rules w (Step (ShowCertified client)) = shows_certified client
+effect rules w (Step (Restart run)) = restarts run
+effect rules w (Take client event) = takes_any client (doc_of_event w.replies event)
+effect rules w (Certify client event) = certifies_any client (doc_of_event w.replies event)
 
 -- what an operation does at a moment after what has happened, where it is one: its change or none, or the first cause against it
 abbrev pub done : Rules → Past → ℕ → Result Ask Fault → Result (Option Entry) Fault
@@ -149,7 +149,7 @@ after_restart run p (Restarted r) = nothing run
 after_restart run p _ = p
 
 -- what has happened to the registry after a deed with that answer that found memory
-abbrev pub past_done : Rules → Past → Deed → Reply → Past
+abbrev pub past_done : Rules → Past → Effect → Reply → Past
 past_done rules p (writes now (Ok ask)) reply = after_ask rules.queue p now ask (accept_after rules.limits (history p) ask now)
 past_done rules p (cleans now) reply = cleaned rules.retention p now
 past_done rules p closes reply = minute_closed p
@@ -158,12 +158,12 @@ past_done rules p (restarts run) reply = after_restart run p reply
 past_done rules p _ reply = p
 
 -- the clients' copies after a deed that found memory
-abbrev pub clients_done : (ℕ → Option Client) → Deed → ℕ → Option Client
+abbrev pub clients_done : (ℕ → Option Client) → Effect → ℕ → Option Client
 clients_done clients (takes client d) = clients_with clients client d
 clients_done clients _ = clients
 
 -- and those of the certified clients
-abbrev pub certified_done : (ℕ → Option CertifiedCopy) → Deed → ℕ → Option CertifiedCopy
+abbrev pub certified_done : (ℕ → Option CertifiedCopy) → Effect → ℕ → Option CertifiedCopy
 certified_done clients (certifies client d) = certified_with clients client d
 certified_done clients _ = clients
 
@@ -172,7 +172,7 @@ abbrev pub changes_since : Past → Past → List Entry
 changes_since p q = drop (length (history p)) (history q)
 
 -- what was noted after the deed of the event of that number, which made these changes, and its answer
-abbrev pub press_done : Press → List Entry → ℕ → Deed → Reply → Press
+abbrev pub press_done : Press → List Entry → ℕ → Effect → Reply → Press
 press_done s cs i begins (Begun n) = record s { pending = s.pending ++ press.begin ∷ []; keys = n; begun = i }
 press_done s cs i copies (Copied c) = record s { pending = s.pending ++ note_of c ∷ [] }
 press_done s cs i publishes (Published n) = record s { published = all_of s; pending = []; floor = s.begun }
@@ -184,7 +184,7 @@ abbrev pub history_of : World → Histories
 history_of w r = if r == w.past.run then history w.past else w.ended r
 
 -- the histories of the runs that ended, after a deed with that answer: a restart ends the run that is running
-abbrev pub ended_after : World → Deed → Reply → Histories
+abbrev pub ended_after : World → Effect → Reply → Histories
 ended_after w (restarts run) (Restarted r) = history_of w
 ended_after w _ _ = w.ended
 
@@ -193,17 +193,17 @@ abbrev pub ran_out : Reply → Bool
 ran_out (Refused OutOfMemory) = true
 ran_out _ = false
 
-abbrev pub past_after : Rules → Past → Deed → Reply → Past
+abbrev pub past_after : Rules → Past → Effect → Reply → Past
 past_after rules p what reply = if ran_out reply then p else past_done rules p what reply
 
-abbrev pub clients_after : (ℕ → Option Client) → Deed → Reply → ℕ → Option Client
+abbrev pub clients_after : (ℕ → Option Client) → Effect → Reply → ℕ → Option Client
 clients_after clients what reply = if ran_out reply then clients else clients_done clients what
 
-abbrev pub certified_after : (ℕ → Option CertifiedCopy) → Deed → Reply → ℕ → Option CertifiedCopy
+abbrev pub certified_after : (ℕ → Option CertifiedCopy) → Effect → Reply → ℕ → Option CertifiedCopy
 certified_after clients what reply = if ran_out reply then clients else certified_done clients what
 
 -- what has happened after a deed with that answer: nothing but the answer where there was no memory
-abbrev pub after : Rules → World → Deed → Reply → World
+abbrev pub after : Rules → World → Effect → Reply → World
 after rules w what reply = record {
   past = past_after rules w.past what reply;
   ended = ended_after w what reply;
@@ -218,7 +218,7 @@ abbrev pub new_world : ℕ → World
 new_world run = record { past = nothing run; ended = λ r. []; replies = []; clients = λ c. None; certified = λ c. None; press = press_from 0 }
 
 abbrev pub after_at : Rules → World → Option Event → Option Reply → World
-after_at rules w (Some event) (Some reply) = after rules w (deed rules w event) reply
+after_at rules w (Some event) (Some reply) = after rules w (effect rules w event) reply
 after_at rules w _ _ = w
 
 -- what has happened after the first i events, with these replies, where that was the first run

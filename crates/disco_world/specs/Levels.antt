@@ -7,36 +7,36 @@ use Rattle.disco_core.specs.State.{Rules}
 use Rattle.disco_hub.specs.Levels.{AreLevels}
 use Rattle.disco_rounds.specs.Press.{put_copy}
 use Rattle.disco_rounds.specs.Press.{Edition, edition_of}
-use Rattle.disco_hub.specs.State.{State, rules_of}
+use Rattle.disco_hub.specs.State.{HubState, rules_of}
 use Rattle.disco_hub.specs.Transitions.{CopiesOne}
 use Rattle.disco_rounds.specs.declared.copied.Copied.{Copied}
 use Rattle.disco_world.specs.Answers.{IsAnswer}
-use Rattle.disco_world.specs.Events.{Deed, World, after, deed, query_asked}
+use Rattle.disco_world.specs.Events.{Effect, World, after, effect, query_asked}
 use Rattle.disco_world.specs.Rounds.{left_in}
 use Rattle.disco_world.specs.Caching.{Caches}
 use Rattle.disco_world.specs.Steps.{AreHeld, Holders, cache_of, with_clients}
 use Rattle.disco_world.specs.declared.event.Event.{Event}
 use Rattle.disco_world.specs.declared.event.Reply.{Reply}
 use Rattle.disco_world.specs.declared.event.Reply.TheVariants.{Doc, Missed, Refused}
-use Rattle.disco_world.specs.declared.levels.Levels.{Levels}
+use Rattle.disco_world.specs.declared.levels.CacheLevels.{CacheLevels}
 
 -- the levels are those of what has happened
-pub record AreLevelsOf (s : Levels) (w : World) : Type 0 where
+pub record AreLevelsOf (s : CacheLevels) (w : World) : Type 0 where
   pub levels : AreLevels s.hub s.next w.press.published w.press.pending w.past
   pub keys : left_in w.press ≡ option_map (λ r. length r.left) s.hub.rounds.round
   pub published : s.published ≡ edition_of w.press.published
 
 -- they answer a deed, and are then those of what has happened with it
-abbrev pub Turns : Levels → Levels → (World → Deed) → Reply → Type 0
+abbrev pub Turns : CacheLevels → CacheLevels → (World → Effect) → Reply → Type 0
 Turns old new what reply = (w : World) → AreLevelsOf old w → IsAnswer (rules_of old.hub) w (what w) reply × AreLevelsOf new (after (rules_of old.hub) w (what w) reply) × Caches (rules_of old.hub) w.past (what w) reply (cache_of old.hub) (cache_of new.hub)
 
 -- they and the clients answer an event, and are then those of what has happened with it
-abbrev pub Goes : Rules → World → Event → Reply → State → Levels → Holders → Type 0
-Goes rules w e r old new held = let what = deed rules w e in
+abbrev pub AnswersEvent : Rules → World → Event → Reply → HubState → CacheLevels → Holders → Type 0
+AnswersEvent rules w e r old new held = let what = effect rules w e in
     IsAnswer rules w what r × AreLevelsOf new (after rules w what r) × AreHeld held (with_clients w what r) × Caches rules w.past what r (cache_of old) (cache_of new.hub)
 
 -- the first key that was left was copied so, and put in or taken out
-pub record Copies (old new : Levels) (c : Copied) : Type 0 where
+pub record Copies (old new : CacheLevels) (c : Copied) : Type 0 where
   pub one : CopiesOne old.hub new.hub c
   pub published : new.published ≡ old.published
   pub next : new.next ≡ put_copy old.next c

@@ -13,19 +13,19 @@ use Rattle.disco_wire.specs.Documents.{document_of}
 use Rattle.disco_wire.specs.Meaning.{Meaning}
 use Rattle.disco_wire.specs.declared.wire.Shape.TheVariants.{Many}
 use Rattle.disco_cache.specs.declared.payload.Payload.{Payload}
-use Rattle.disco_hub.specs.State.{State, StandsFor, rules_of}
+use Rattle.disco_hub.specs.State.{HubState, HubStandsFor, rules_of}
 use Rattle.disco_world.specs.Answers.{IsAnswer}
 use Rattle.disco_world.specs.Caching.{Cache, Caches}
 use Rattle.disco_client.specs.declared.certified.CertifiedCopy.{CertifiedCopy}
 use Rattle.disco_client.specs.declared.known.Known.{Known}
 use Rattle.disco_world.specs.Certified.{IsGiven, certified_with, given, takes_it}
-use Rattle.disco_world.specs.Clients.{IsTold, clients_with, taken}
-use Rattle.disco_world.specs.Events.{Deed, World, certified_after, clients_after, doc_of_event, past_after}
+use Rattle.disco_world.specs.Clients.{IsTakenReply, clients_with, client_after}
+use Rattle.disco_world.specs.Events.{Effect, World, certified_after, clients_after, doc_of_event, past_after}
 use Rattle.disco_world.specs.declared.clients.Client.{Client}
 use Rattle.disco_world.specs.declared.clients.Clients.{Clients}
 use Rattle.disco_world.specs.declared.event.Reply.{Reply}
 use Rattle.disco_world.specs.declared.event.Reply.TheVariants.{Changed, Same, Doc, Taken, Certified, Held, Refused}
-use Rattle.disco_world.specs.declared.holding.Holding.{Holding}
+use Rattle.disco_world.specs.declared.instance_summary.InstanceSummary.{InstanceSummary}
 
 -- the reply to a write, after which there are so many versions
 abbrev pub reply_to : Result Applied Fault → ℕ → Reply
@@ -49,18 +49,18 @@ reply_to_give (Ok told) = Certified told.0 told.1.run told.1.version
 reply_to_give (Err e) = Refused e
 
 -- the reply to a show
-abbrev pub reply_to_show : Result (List Holding) Fault → Reply
-reply_to_show (Ok holdings) = Held holdings
+abbrev pub reply_to_show : Result (List InstanceSummary) Fault → Reply
+reply_to_show (Ok listed) = Held listed
 reply_to_show (Err e) = Refused e
 
 -- what a hub keeps and copies
-abbrev pub cache_of : State → Cache
+abbrev pub cache_of : HubState → Cache
 cache_of s = record { docs = s.docs; rounds = s.rounds }
 
 -- a hub answers a deed, then stands for what has happened with it, and keeps what it leaves
-abbrev pub Does : State → State → (World → Deed) → Reply → Type 0
-Does old new what reply = (w : World) → StandsFor old w.past
-    → IsAnswer (rules_of old) w (what w) reply × StandsFor new (past_after (rules_of old) w.past (what w) reply) × Caches (rules_of old) w.past (what w) reply (cache_of old) (cache_of new)
+abbrev pub Performs : HubState → HubState → (World → Effect) → Reply → Type 0
+Performs old new what reply = (w : World) → HubStandsFor old w.past
+    → IsAnswer (rules_of old) w (what w) reply × HubStandsFor new (past_after (rules_of old) w.past (what w) reply) × Caches (rules_of old) w.past (what w) reply (cache_of old) (cache_of new)
 
 -- the document means that, which is of many apps
 abbrev pub IsMeant : Payload → Meaning → Type 0
@@ -71,8 +71,8 @@ IsReadable d = (m : Meaning) × IsMeant d m
 
 -- a client takes a document, or is refused it and all is as before
 abbrev pub ClientTakes : (ℕ → Option Client) → (ℕ → Option Client) → ℕ → Payload → Result (Bool × Option ℕ) Fault → Type 0
-ClientTakes old new client d (Ok told) = IsTold d (taken d (old client)) told.0 told.1 × ((q : ℕ) → new q ≡ clients_with old client d q)
-ClientTakes old new client d (Err e) = (e ≢ OutOfMemory → (e ≡ NotFetched) × (taken d (old client) ≡ None)) × ((q : ℕ) → new q ≡ old q)
+ClientTakes old new client d (Ok told) = IsTakenReply d (client_after d (old client)) told.0 told.1 × ((q : ℕ) → new q ≡ clients_with old client d q)
+ClientTakes old new client d (Err e) = (e ≢ OutOfMemory → (e ≡ NotFetched) × (client_after d (old client) ≡ None)) × ((q : ℕ) → new q ≡ old q)
 
 -- a copy is given a document: so it is then, and so is told
 pub record IsTurned (delta : Bool) (d : Payload) (old new : CertifiedCopy) (taken : Bool) : Type 0 where
@@ -88,8 +88,8 @@ ClientIsGiven old new client d (Err e) = (e ≢ OutOfMemory → (e ≡ NotFetche
 abbrev pub AreReadable : List Reply → Type 0
 AreReadable replies = (event : ℕ) (d : Payload) → doc_of_event replies event ≡ Some d → IsReadable d
 
-abbrev pub holding : Row → Holding
-holding r = record { key = r.key; status = r.status }
+abbrev pub summary_of : Row → InstanceSummary
+summary_of r = record { key = r.key; status = r.status }
 
 -- the clients that have a copy, plain and certified, by their numbers
 pub record Holders : Type 0 where
@@ -104,5 +104,5 @@ abbrev pub AreHeld : Holders → World → Type 0
 AreHeld held w = ((q : ℕ) → held.plain q ≡ w.clients q) × ((q : ℕ) → held.certified q ≡ w.certified q)
 
 -- what a deed with that answer makes of the clients
-abbrev pub with_clients : World → Deed → Reply → World
+abbrev pub with_clients : World → Effect → Reply → World
 with_clients w what r = record w { clients = clients_after w.clients what r; certified = certified_after w.certified what r }

@@ -7,10 +7,10 @@ ghost use Rattle.disco_values.specs.declared.fault.Fault.TheVariants.{OutOfMemor
 ghost use Rattle.disco_client.specs.Copies.{hash_equal};
 ghost use Rattle.disco_wire.specs.Wire.{wire_meaning};
 ghost use Rattle.disco_query.specs.Query.{is_delta};
-ghost use Rattle.disco_world.specs.Clients.{shown};
-ghost use Rattle.disco_world.specs.Steps.{IsMeant, IsReadable, ClientTakes, holding};
+ghost use Rattle.disco_world.specs.Clients.{summaries};
+ghost use Rattle.disco_world.specs.Steps.{IsMeant, IsReadable, ClientTakes, summary_of};
 
-use crate::holding::{Holding, Holdings};
+use crate::instance_summary::{InstanceSummaries, InstanceSummary};
 use disco_cache::Payload;
 use disco_client::{CertifiedCopy, Copy, Known};
 use disco_history::Held;
@@ -148,36 +148,40 @@ pub(crate) fn take(
     }
 }
 
-fn holdings(alloc: Global, records: &[Held]) -> Result<Vec<Holding>, Fault>
-    ensures holdings { IfOk result (λ v. v.items ≡ map (λ h. holding (row h.rec.value)) records.now) }
+fn summarized(alloc: Global, records: &[Held]) -> Result<Vec<InstanceSummary>, Fault>
+    ensures listed { IfOk result (λ v. v.items ≡ map (λ h. summary_of (row h.rec.value)) records.now) }
     ensures memory { IfErr result (λ e. e ≡ OutOfMemory) }
 {
-    let mut holdings = Vec::new(alloc);
+    let mut listed = Vec::new(alloc);
     for held in records {
-        holdings.push(Holding {
+        listed.push(InstanceSummary {
             key: held.rec.key.clone()?,
             status: held.rec.status,
         })?;
     }
-    Ok(holdings)
+    Ok(listed)
 }
 
 /// The instances of a copy, by key.
-fn held_in(alloc: Global, copy: &Copy) -> Result<Holdings, Fault>
-    ensures holdings { IfOk result (λ h. h ≡ shown (Some copy.now)) }
+fn held_in(alloc: Global, copy: &Copy) -> Result<InstanceSummaries, Fault>
+    ensures listed { IfOk result (λ h. h ≡ summaries (Some copy.now)) }
     ensures memory { IfErr result (λ e. e ≡ OutOfMemory) }
 {
-    Ok(Holdings::from_vec(holdings(alloc, copy.records())?))
+    Ok(InstanceSummaries::from_vec(summarized(alloc, copy.records())?))
 }
 
 /// The instances of a plain client's copy, by key: none where it has no copy.
-pub(crate) fn show(alloc: Global, clients: &PlainClients, client: u32) -> Result<Holdings, Fault>
-    ensures holdings { IfOk result (λ h. h ≡ shown (option_map (λ c. c.copy) (tree.get nat_cmp clients.now client))) }
+pub(crate) fn show(
+    alloc: Global,
+    clients: &PlainClients,
+    client: u32,
+) -> Result<InstanceSummaries, Fault>
+    ensures listed { IfOk result (λ h. h ≡ summaries (option_map (λ c. c.copy) (tree.get nat_cmp clients.now client))) }
     ensures memory { IfErr result (λ e. e ≡ OutOfMemory) }
 {
     match clients.get(&client) {
         Some(held) => held_in(alloc, &held.copy),
-        None => Ok(Holdings::from_vec(Vec::new(alloc))),
+        None => Ok(InstanceSummaries::from_vec(Vec::new(alloc))),
     }
 }
 
@@ -186,12 +190,12 @@ pub(crate) fn show_certified(
     alloc: Global,
     clients: &CertifiedClients,
     client: u32,
-) -> Result<Holdings, Fault>
-    ensures holdings { IfOk result (λ h. h ≡ shown (option_map (λ c. c.copy) (tree.get nat_cmp clients.now client))) }
+) -> Result<InstanceSummaries, Fault>
+    ensures listed { IfOk result (λ h. h ≡ summaries (option_map (λ c. c.copy) (tree.get nat_cmp clients.now client))) }
     ensures memory { IfErr result (λ e. e ≡ OutOfMemory) }
 {
     match clients.get(&client) {
         Some(held) => held_in(alloc, &held.copy),
-        None => Ok(Holdings::from_vec(Vec::new(alloc))),
+        None => Ok(InstanceSummaries::from_vec(Vec::new(alloc))),
     }
 }

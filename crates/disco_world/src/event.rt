@@ -1,5 +1,5 @@
 //! Events and their replies.
-use crate::holding::Holdings;
+use crate::instance_summary::InstanceSummaries;
 use disco_cache::Payload;
 use disco_hub::Expired;
 use disco_lease::Minute;
@@ -155,7 +155,7 @@ pub enum Reply {
         version: u64,
     },
     /// The instances of a client's copy, by key.
-    Held(Holdings),
+    Held(InstanceSummaries),
     /// Another run has begun.
     Restarted(u64),
     Refused(Fault),

@@ -10,7 +10,7 @@ mod asks;
 mod certified;
 mod clients;
 mod event;
-mod holding;
+mod instance_summary;
 mod levels;
 mod loads;
 mod restarts;
@@ -20,7 +20,7 @@ mod steps;
 mod telling;
 
 pub use event::{Event, Reply, Step};
-pub use holding::{Holding, Holdings};
+pub use instance_summary::{InstanceSummaries, InstanceSummary};
 pub use runs::run;
 pub use steps::Steps;
 pub use telling::{Tell, run_to};

@@ -1,8 +1,8 @@
 //! Documents that are served.
 ghost use Rattle.std.specs.Prelude.{◌≡◌, IfOk, IfErr};
 ghost use Rattle.disco_values.specs.declared.fault.Fault.TheVariants.{OutOfMemory};
-ghost use Rattle.disco_world.specs.Events.{deed, query_asked};
-ghost use Rattle.disco_world.specs.Steps.{Does, reply_of};
+ghost use Rattle.disco_world.specs.Events.{effect, query_asked};
+ghost use Rattle.disco_world.specs.Steps.{Performs, reply_of};
 ghost use Rattle.disco_world.specs.declared.event.Event.TheVariants as event;
 ghost use Rattle.disco_world.specs.declared.event.Step.TheVariants as step;
 ghost use Rattle.disco_hub.specs.State.{rules_of};
@@ -39,7 +39,7 @@ fn served(loaded: Result<Arc<Payload, Global>, Fault>) -> Reply
 
 /// Answers a load, by a key whose app may be in any case.
 pub(crate) fn load(alloc: Global, hub: &mut Hub, key: &DocKey) -> Reply
-    ensures does { Does hub.old hub.new (λ w. deed (rules_of hub.old) w (event.Step (step.Load key.now))) result }
+    ensures does { Performs hub.old hub.new (λ w. effect (rules_of hub.old) w (event.Step (step.Load key.now))) result }
     ensures rules { rules_of hub.new ≡ rules_of hub.old }
     ensures rounds { hub.new.rounds ≡ hub.old.rounds }
 {
@@ -54,7 +54,7 @@ pub(crate) fn load(alloc: Global, hub: &mut Hub, key: &DocKey) -> Reply
 
 /// Answers a load of the instance of an id.
 pub(crate) fn load_by_id(hub: &Hub, id: &Text, form: Form) -> Reply
-    ensures { Does hub.now hub.now (λ w. deed (rules_of hub.now) w (event.Step (step.LoadById id.now form))) result }
+    ensures { Performs hub.now hub.now (λ w. effect (rules_of hub.now) w (event.Step (step.LoadById id.now form))) result }
 {
     served(hub.by_id(id.as_str(), form))
 }

@@ -6,7 +6,7 @@ ghost use Rattle.disco_world.specs.Events.{restarts};
 ghost use Rattle.disco_world.specs.Levels.{Turns};
 
 use crate::event::Reply;
-use crate::levels::Levels;
+use crate::levels::CacheLevels;
 use disco_settings::Settings;
 use disco_values::Fault;
 use std::alloc::Global;
@@ -25,7 +25,12 @@ fn in_run(settings: &Settings, run: u64) -> Settings
 /// Begins another run of the server: an empty registry, of which readers see nothing. Clients keep
 /// their copies. Refused as `RunNotNew` where the run isn't greater than the one that is running, and
 /// then all is as before. Takes no memory.
-pub(crate) fn restart(alloc: Global, settings: &Settings, levels: &mut Levels, run: u64) -> Reply
+pub(crate) fn restart(
+    alloc: Global,
+    settings: &Settings,
+    levels: &mut CacheLevels,
+    run: u64,
+) -> Reply
     requires ruled { rules_of levels.old.hub ≡ rules settings.now }
     requires room { levels.old.hub.docs.max ≡ settings.now.entries }
     ensures turns { Turns levels.old levels.new (λ _. restarts run) result }
@@ -34,6 +39,6 @@ pub(crate) fn restart(alloc: Global, settings: &Settings, levels: &mut Levels, r
     if run <= levels.hub.run() {
         return Reply::Refused(Fault::RunNotNew);
     }
-    *levels = Levels::new(alloc, &in_run(settings, run));
+    *levels = CacheLevels::new(alloc, &in_run(settings, run));
     Reply::Restarted(run)
 }

@@ -6,7 +6,7 @@ ghost use Rattle.disco_world.specs.Events.{begins, copies, publishes};
 ghost use Rattle.disco_world.specs.Levels.{Looks, Turns, key_looked};
 
 use crate::event::Reply;
-use crate::levels::Levels;
+use crate::levels::CacheLevels;
 use crate::loads::query_asked;
 use disco_cache::Edition;
 use disco_query::DocKey;
@@ -16,7 +16,7 @@ use std::mem::replace;
 use std::sync::Arc;
 
 /// Begins a round.
-pub(crate) fn begin(alloc: Global, levels: &mut Levels) -> Reply
+pub(crate) fn begin(alloc: Global, levels: &mut CacheLevels) -> Reply
     ensures turns { Turns levels.old levels.new (λ _. begins) result }
     ensures rules { rules_of levels.new.hub ≡ rules_of levels.old.hub }
 {
@@ -30,7 +30,7 @@ pub(crate) fn begin(alloc: Global, levels: &mut Levels) -> Reply
 }
 
 /// Copies the next key of the round.
-pub(crate) fn copy(levels: &mut Levels) -> Reply
+pub(crate) fn copy(levels: &mut CacheLevels) -> Reply
     ensures turns { Turns levels.old levels.new (λ _. copies) result }
     ensures rules { rules_of levels.new.hub ≡ rules_of levels.old.hub }
 {
@@ -42,7 +42,7 @@ pub(crate) fn copy(levels: &mut Levels) -> Reply
 }
 
 /// Publishes the round: what it copied is what readers see.
-pub(crate) fn publish(alloc: Global, levels: &mut Levels) -> Reply
+pub(crate) fn publish(alloc: Global, levels: &mut CacheLevels) -> Reply
     ensures turns { Turns levels.old levels.new (λ _. publishes) result }
     ensures rules { rules_of levels.new.hub ≡ rules_of levels.old.hub }
 {

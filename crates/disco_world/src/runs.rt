@@ -8,20 +8,20 @@ ghost use Rattle.disco_values.specs.declared.fault.Fault.TheVariants.{OutOfMemor
 ghost use Rattle.disco_registry.specs.Op.{Ask, ask_of};
 ghost use Rattle.disco_core.specs.Past.{nothing};
 ghost use Rattle.disco_core.specs.State.{rules};
-ghost use Rattle.disco_hub.specs.State.{StandsFor, rules_of};
+ghost use Rattle.disco_hub.specs.State.{HubStandsFor, rules_of};
 ghost use Rattle.disco_world.specs.Answers.{AreAnswers, AreExact, AreKnown, AreServed, IsFirstBadEvent, NeverFall};
 ghost use Rattle.disco_world.specs.Caching.{AreCached, new_cache};
-ghost use Rattle.disco_world.specs.Events.{World, bad, closes, deed, doc_in, doc_of_event, expires, for_clients, writes};
-ghost use Rattle.disco_world.specs.Levels.{AreLevelsOf, Goes};
-ghost use Rattle.disco_world.specs.Steps.{AreHeld, AreReadable, Does, cache_of, holders, reply_to, reply_to_give, reply_to_show, reply_to_take};
+ghost use Rattle.disco_world.specs.Events.{World, bad, closes, effect, doc_in, doc_of_event, expires, for_clients, writes};
+ghost use Rattle.disco_world.specs.Levels.{AreLevelsOf, AnswersEvent};
+ghost use Rattle.disco_world.specs.Steps.{AreHeld, AreReadable, Performs, cache_of, holders, reply_to, reply_to_give, reply_to_show, reply_to_take};
 ghost use Rattle.disco_world.specs.declared.event.Event.TheVariants as event;
 
 use crate::asks::{add_metadata, cancel, drop_status, renew, set_status};
 use crate::certified::{Given, give};
 use crate::clients::{Clients, Told, show, show_certified, take};
 use crate::event::{Event, Reply, Step};
-use crate::holding::Holdings;
-use crate::levels::Levels;
+use crate::instance_summary::InstanceSummaries;
+use crate::levels::CacheLevels;
 use crate::loads::{load, load_by_id};
 use crate::restarts::restart;
 use crate::rounds::{begin, copy, look, publish};
@@ -49,7 +49,7 @@ pub fn run(alloc: Global, settings: &Settings, events: &[Event]) -> Result<Vec<R
     ensures rising { IfOk result (λ replies. NeverFall (rules settings.now) settings.now.run events.now replies.items) }
     ensures refused { IfErr result (λ e. e ≢ OutOfMemory → IsFirstBadEvent (rules settings.now) settings.now.run events.now e) }
 {
-    let mut levels = Levels::new(alloc, settings);
+    let mut levels = CacheLevels::new(alloc, settings);
     let mut clients = Clients::new(alloc);
     run_all(alloc, settings, &mut levels, &mut clients, events)
 }
@@ -58,11 +58,11 @@ pub fn run(alloc: Global, settings: &Settings, events: &[Event]) -> Result<Vec<R
 fn run_all(
     alloc: Global,
     settings: &Settings,
-    levels: &mut Levels,
+    levels: &mut CacheLevels,
     clients: &mut Clients,
     events: &[Event],
 ) -> Result<Vec<Reply>, Fault>
-    requires stands { StandsFor levels.old.hub (nothing settings.now.run) }
+    requires stands { HubStandsFor levels.old.hub (nothing settings.now.run) }
     requires ruled { rules_of levels.old.hub ≡ rules settings.now }
     requires cache { cache_of levels.old.hub ≡ new_cache settings.now.entries }
     requires published { levels.old.published ≡ empty }
@@ -92,7 +92,7 @@ fn run_all(
 fn answer(
     alloc: Global,
     settings: &Settings,
-    levels: &mut Levels,
+    levels: &mut CacheLevels,
     clients: &mut Clients,
     replies: &[Reply],
     event: &Event,
@@ -100,9 +100,9 @@ fn answer(
     requires ruled { rules_of levels.old.hub ≡ rules settings.now }
     requires room { levels.old.hub.docs.max ≡ settings.now.entries }
     requires readable { AreReadable replies.now }
-    ensures is_bad { IfNone result ((w : World) → w.replies ≡ replies.now → deed (rules_of levels.old.hub) w event.now ≡ bad) }
+    ensures is_bad { IfNone result ((w : World) → w.replies ≡ replies.now → effect (rules_of levels.old.hub) w event.now ≡ bad) }
     ensures does { IfSome result (λ r. (w : World) → w.replies ≡ replies.now → AreHeld (holders clients.old) w → AreLevelsOf levels.old w
-        → Goes (rules_of levels.old.hub) w event.now r levels.old.hub levels.new (holders clients.new)) }
+        → AnswersEvent (rules_of levels.old.hub) w event.now r levels.old.hub levels.new (holders clients.new)) }
     ensures rules { rules_of levels.new.hub ≡ rules_of levels.old.hub }
 {
     match event {
@@ -122,14 +122,14 @@ fn answer(
 pub(crate) fn answer_step(
     alloc: Global,
     settings: &Settings,
-    levels: &mut Levels,
+    levels: &mut CacheLevels,
     clients: &Clients,
     step: &Step,
 ) -> Reply
     requires ruled { rules_of levels.old.hub ≡ rules settings.now }
     requires room { levels.old.hub.docs.max ≡ settings.now.entries }
     ensures does { (w : World) → AreHeld (holders clients.now) w → AreLevelsOf levels.old w
-        → Goes (rules_of levels.old.hub) w (event.Step step.now) result levels.old.hub levels.new (holders clients.now) }
+        → AnswersEvent (rules_of levels.old.hub) w (event.Step step.now) result levels.old.hub levels.new (holders clients.now) }
     ensures rules { rules_of levels.new.hub ≡ rules_of levels.old.hub }
 {
     match step {
@@ -178,7 +178,7 @@ pub(crate) fn answer_step(
 
 /// Closes a minute.
 fn close(hub: &mut Hub) -> Reply
-    ensures does { Does hub.old hub.new (λ _. closes) result }
+    ensures does { Performs hub.old hub.new (λ _. closes) result }
     ensures rules { rules_of hub.new ≡ rules_of hub.old }
     ensures rounds { hub.new.rounds ≡ hub.old.rounds }
 {
@@ -187,7 +187,7 @@ fn close(hub: &mut Hub) -> Reply
 
 /// Cancels the instances whose leases have run out.
 fn expire(hub: &mut Hub, now: u64) -> Reply
-    ensures does { Does hub.old hub.new (λ _. expires now) result }
+    ensures does { Performs hub.old hub.new (λ _. expires now) result }
     ensures rules { rules_of hub.new ≡ rules_of hub.old }
     ensures rounds { hub.new.rounds ≡ hub.old.rounds }
 {
@@ -247,18 +247,18 @@ fn gave(told: Result<Given, Fault>) -> Reply
 }
 
 /// The reply to a show.
-fn showed(shown: Result<Holdings, Fault>) -> Reply
+fn showed(shown: Result<InstanceSummaries, Fault>) -> Reply
     ensures { result ≡ reply_to_show shown }
 {
     match shown {
-        Ok(holdings) => Reply::Held(holdings),
+        Ok(listed) => Reply::Held(listed),
         Err(fault) => Reply::Refused(fault),
     }
 }
 
 /// Does the operation that an event asks for, if it asks for one.
 fn write(hub: &mut Hub, now: u64, op: Result<Op, Fault>) -> Reply
-    ensures does { (asked : Result Ask Fault) → Gives ask_of op asked → Does hub.old hub.new (λ _. writes now asked) result }
+    ensures does { (asked : Result Ask Fault) → Gives ask_of op asked → Performs hub.old hub.new (λ _. writes now asked) result }
     ensures rules { rules_of hub.new ≡ rules_of hub.old }
     ensures rounds { hub.new.rounds ≡ hub.old.rounds }
 {

@@ -6,7 +6,7 @@ ghost use Rattle.std.specs.Io.KnownBytes.{Appends};
 ghost use Rattle.disco_values.specs.declared.fault.Fault.TheVariants.{OutOfMemory, WriteFailed};
 ghost use Rattle.disco_core.specs.Past.{nothing};
 ghost use Rattle.disco_core.specs.State.{rules};
-ghost use Rattle.disco_hub.specs.State.{StandsFor, rules_of};
+ghost use Rattle.disco_hub.specs.State.{HubStandsFor, rules_of};
 ghost use Rattle.disco_world.specs.Caching.{new_cache};
 ghost use Rattle.disco_world.specs.Steps.{cache_of};
 ghost use Rattle.disco_world.specs.Telling.{AreTold};
@@ -14,7 +14,7 @@ ghost use Rattle.disco_world.specs.declared.event.Reply.{Reply};
 
 use crate::clients::Clients;
 use crate::event::{Event, Reply};
-use crate::levels::Levels;
+use crate::levels::CacheLevels;
 use crate::runs::answer_step;
 use crate::steps::Steps;
 use disco_settings::Settings;
@@ -48,7 +48,7 @@ pub fn run_to<W, T: Tell<W>>(
     ensures told { OnOk result (AreTold settings.now.entries (rules settings.now) settings.now.run steps.entry.events.now T.text (T.told teller.old out.old) (T.told teller.new out.new)) }
     ensures fault { IfErr result (λ e. (e ≡ WriteFailed) ⊎ (e ≡ OutOfMemory)) }
 {
-    let mut levels = Levels::new(alloc, settings);
+    let mut levels = CacheLevels::new(alloc, settings);
     let clients = Clients::new(alloc);
     tell_all(alloc, settings, &mut levels, &clients, steps, teller, out)
 }
@@ -57,13 +57,13 @@ pub fn run_to<W, T: Tell<W>>(
 fn tell_all<W, T: Tell<W>>(
     alloc: Global,
     settings: &Settings,
-    levels: &mut Levels,
+    levels: &mut CacheLevels,
     clients: &Clients,
     steps: Steps,
     teller: &mut T,
     out: &mut W,
 ) -> Result<(), Fault>
-    requires stands { StandsFor levels.old.hub (nothing settings.now.run) }
+    requires stands { HubStandsFor levels.old.hub (nothing settings.now.run) }
     requires ruled { rules_of levels.old.hub ≡ rules settings.now }
     requires cache { cache_of levels.old.hub ≡ new_cache settings.now.entries }
     requires published { levels.old.published ≡ empty }

@@ -13,14 +13,14 @@ use Rattle.disco_values.specs.declared.action.Action.{Action}
 use Rattle.disco_instance.specs.Row.{Row}
 use Rattle.disco_writer.specs.Fields.{done_fields, entry_fields, from_moments, to_hosts, to_metadata, to_moments, to_urls, to_vips}
 use Rattle.disco_writer.specs.Kept.{mention_tree}
-use Rattle.disco_writer.specs.Tokens.{Adds, member_tokens}
+use Rattle.disco_writer.specs.Tokens.{AddsTokens, member_tokens}
 use Rattle.disco_documents.specs.Trees.{in_order, tree, instance_tree}
 
-pub then : {a b c : Written} {xs ys : List Token} → Adds a b xs → Adds b c ys → Adds a c (xs ++ ys)
+pub then : {a b c : Written} {xs ys : List Token} → AddsTokens a b xs → AddsTokens b c ys → AddsTokens a c (xs ++ ys)
 then {a = a} {xs = xs} {ys = ys} f g = record { tokens = g.tokens ∙ ap (λ ts. ts ++ ys) f.tokens ∙ append_assoc a.tokens xs ys; before = g.before ∙ f.before }
 
 -- the last step may be refused
-pub at_last : {E : Type 0} (r : Result (Unit {0}) E) {a b : Written} (c : Written) {xs : List Token} (ys : List Token) → Adds a b xs → OnOk r (Adds b c ys) → OnOk r (Adds a c (xs ++ ys))
+pub at_last : {E : Type 0} (r : Result (Unit {0}) E) {a b : Written} (c : Written) {xs : List Token} (ys : List Token) → AddsTokens a b xs → OnOk r (AddsTokens b c ys) → OnOk r (AddsTokens a c (xs ++ ys))
 at_last (Ok u) c ys f g = then f g
 at_last (Err e) c ys f g = tt
 
@@ -89,7 +89,7 @@ compact_tokens r None = three_groups (done_fields None) (to_hosts r) (from_momen
 compact_tokens r (Some a) = three_groups (done_fields (Some a)) (to_hosts r) (from_moments r)
 
 -- the text of what a new writer wrote
-pub text_written : (items start : List ℕ) (old new : Written) (d : Data) → start ≡ [] → old.before ≡ start → old.tokens ≡ [] → Adds old new (json_tokens (outline d)) → items ≡ new.before ++ print new.tokens
+pub text_written : (items start : List ℕ) (old new : Written) (d : Data) → start ≡ [] → old.before ≡ start → old.tokens ≡ [] → AddsTokens old new (json_tokens (outline d)) → items ≡ new.before ++ print new.tokens
     → (items ≡ print new.tokens) × (items ≡ compact_text d)
 text_written items start old new d empty before tokens adds is =
     let nothing : new.before ≡ [] = adds.before ∙ before ∙ empty in

@@ -13,7 +13,7 @@ use Rattle.disco_values.specs.declared.form.Form.{Form}
 use Rattle.disco_history.specs.Change.{Entry}
 use Rattle.disco_history.specs.Mentions.{mention_of}
 use Rattle.disco_writer.specs.Kept.{IsTextOf}
-use Rattle.disco_writer.specs.Joined.{text_in, shown, Shown, AreTextsOf, in_apps, in_commas, before_next, app_open, app_close, many_open, many_close, many_joined, app_joined, one_joined}
+use Rattle.disco_writer.specs.Joined.{text_of_entry, shown, Shown, AreTextsOf, in_apps, in_commas, before_next, app_open, app_close, many_open, many_close, many_joined, app_joined, one_joined}
 use Rattle.disco_wire.specs.Documents.{document_of}
 use Rattle.disco_wire.specs.Meaning.{meant}
 use Rattle.disco_wire.specs.declared.wire.Shape.TheVariants.{Many, App, One}
@@ -29,18 +29,18 @@ Groups = List (List ℕ × List Entry)
 -- the texts that follow an instance of an app, with the application's end; its bracket is app_close's
 abbrev more : (form : Form) → List Entry → List ℕ
 more form [] = []
-more form (e ∷ es) = 44 ∷ (text_in form e ++ more form es)
+more form (e ∷ es) = 44 ∷ (text_of_entry form e ++ more form es)
 
 more_items : (form : Form) (es : List Entry) → items_text true (items_of (map (instance_tree form) es)) ≡ more form es ++ 93 ∷ []
 more_items form [] = refl
-more_items form (e ∷ es) = ap (λ r. 44 ∷ (text_in form e ++ r)) (more_items form es) ∙ ap (λ r. 44 ∷ r) (sym (append_assoc (text_in form e) (more form es) (93 ∷ [])))
+more_items form (e ∷ es) = ap (λ r. 44 ∷ (text_of_entry form e ++ r)) (more_items form es) ∙ ap (λ r. 44 ∷ r) (sym (append_assoc (text_of_entry form e) (more form es) (93 ∷ [])))
 
 -- the text of an application of a first instance and more
-app_text : (form : Form) (name : List ℕ) (e : Entry) (es : List Entry) → compact_text (app_tree form (name, e ∷ es)) ≡ app_open ++ (text_in form e ++ (more form es ++ app_close name))
+app_text : (form : Form) (name : List ℕ) (e : Entry) (es : List Entry) → compact_text (app_tree form (name, e ∷ es)) ≡ app_open ++ (text_of_entry form e ++ (more form es ++ app_close name))
 unfolding app_open app_close escape_byte
 app_text form name e es =
-    ap (λ r. codes "{\"instance\":[" ++ r) (append_assoc (text_in form e) (items_text true (items_of (map (instance_tree form) es))) (codes ",\"name\":" ++ (quoted name ++ codes "}")))
-    ∙ ap (λ r. codes "{\"instance\":[" ++ (text_in form e ++ (r ++ (codes ",\"name\":" ++ (quoted name ++ codes "}"))))) (more_items form es) ∙ ap (λ r. codes "{\"instance\":[" ++ (text_in form e ++ r)) (append_assoc (more form es) (93 ∷ []) _)
+    ap (λ r. codes "{\"instance\":[" ++ r) (append_assoc (text_of_entry form e) (items_text true (items_of (map (instance_tree form) es))) (codes ",\"name\":" ++ (quoted name ++ codes "}")))
+    ∙ ap (λ r. codes "{\"instance\":[" ++ (text_of_entry form e ++ (r ++ (codes ",\"name\":" ++ (quoted name ++ codes "}"))))) (more_items form es) ∙ ap (λ r. codes "{\"instance\":[" ++ (text_of_entry form e ++ r)) (append_assoc (more form es) (93 ∷ []) _)
 
 -- ---- the applications of some instances
 
@@ -58,31 +58,31 @@ record Falls (form : Form) (e : Entry) (es : List Entry) : Type 0 where
 regroup : (a b c d : List ℕ) → (a ++ (b ++ c)) ++ d ≡ a ++ (b ++ (c ++ d))
 regroup a b c d = append_assoc a (b ++ c) d ∙ ap (λ r. a ++ r) (append_assoc b c d)
 
-app_after : (form : Form) (f : Entry) (group : List Entry) (groups : Groups) (name : List ℕ) → apps_after form ((name, f ∷ group) ∷ groups) ≡ 44 ∷ (app_open ++ (text_in form f ++ (more form group ++ (app_close name ++ apps_after form groups))))
+app_after : (form : Form) (f : Entry) (group : List Entry) (groups : Groups) (name : List ℕ) → apps_after form ((name, f ∷ group) ∷ groups) ≡ 44 ∷ (app_open ++ (text_of_entry form f ++ (more form group ++ (app_close name ++ apps_after form groups))))
 app_after form f group groups name =
     ap (λ r. 44 ∷ (r ++ apps_after form groups)) (app_text form name f group)
-    ∙ ap (λ r. 44 ∷ r) (append_assoc app_open (text_in form f ++ (more form group ++ app_close name)) (apps_after form groups)
-    ∙ ap (λ r. app_open ++ r) (regroup (text_in form f) (more form group) (app_close name) (apps_after form groups)))
+    ∙ ap (λ r. 44 ∷ r) (append_assoc app_open (text_of_entry form f ++ (more form group ++ app_close name)) (apps_after form groups)
+    ∙ ap (λ r. app_open ++ r) (regroup (text_of_entry form f) (more form group) (app_close name) (apps_after form groups)))
 
 same_app : (form : Form) (e f : Entry) (fs : List Entry) (b : Bool) → bytes_eq f.0.key.app e.0.key.app ≡ b → (group : List Entry) (groups : Groups)
     → more form group ++ (app_close f.0.key.app ++ apps_after form groups) ≡ in_apps (Some f.0.key.app) (shown form fs) ++ 93 ∷ []
     → (g : List Entry) × (gs : Groups) × (cond b ((f.0.key.app, e ∷ f ∷ group) ∷ groups) ((e.0.key.app, e ∷ []) ∷ (f.0.key.app, f ∷ group) ∷ groups) ≡ (e.0.key.app, e ∷ g) ∷ gs)
-    × (more form g ++ (app_close e.0.key.app ++ apps_after form gs) ≡ (cond b (codes ",") (app_close e.0.key.app ++ (codes "," ++ app_open)) ++ (text_in form f ++ in_apps (Some f.0.key.app) (shown form fs))) ++ 93 ∷ [])
+    × (more form g ++ (app_close e.0.key.app ++ apps_after form gs) ≡ (cond b (codes ",") (app_close e.0.key.app ++ (codes "," ++ app_open)) ++ (text_of_entry form f ++ in_apps (Some f.0.key.app) (shown form fs))) ++ 93 ∷ [])
 same_app form e f fs true is group groups text =
     let same : f.0.key.app ≡ e.0.key.app = (bytes_eq-Decides f.0.key.app e.0.key.app).0 is in (
       f ∷ group,
       groups,
       ap (λ (n : List ℕ). (n, e ∷ f ∷ group) ∷ groups) same,
-      ap (λ r. 44 ∷ r) (append_assoc (text_in form f) (more form group) _
-          ∙ ap (λ r. text_in form f ++ r) (ap (λ (n : List ℕ). more form group ++ (app_close n ++ apps_after form groups)) (sym same) ∙ text)
-          ∙ sym (append_assoc (text_in form f) (in_apps (Some f.0.key.app) (shown form fs)) (93 ∷ []))),
+      ap (λ r. 44 ∷ r) (append_assoc (text_of_entry form f) (more form group) _
+          ∙ ap (λ r. text_of_entry form f ++ r) (ap (λ (n : List ℕ). more form group ++ (app_close n ++ apps_after form groups)) (sym same) ∙ text)
+          ∙ sym (append_assoc (text_of_entry form f) (in_apps (Some f.0.key.app) (shown form fs)) (93 ∷ []))),
     )
 same_app form e f fs false is group groups text = (
   [],
   (f.0.key.app, f ∷ group) ∷ groups,
   refl,
-  ap (λ r. app_close e.0.key.app ++ r) (app_after form f group groups f.0.key.app ∙ ap (λ r. 44 ∷ (app_open ++ (text_in form f ++ r))) text)
-      ∙ sym (regroup_all (app_close e.0.key.app) app_open (text_in form f) (in_apps (Some f.0.key.app) (shown form fs))),
+  ap (λ r. app_close e.0.key.app ++ r) (app_after form f group groups f.0.key.app ∙ ap (λ r. 44 ∷ (app_open ++ (text_of_entry form f ++ r))) text)
+      ∙ sym (regroup_all (app_close e.0.key.app) app_open (text_of_entry form f) (in_apps (Some f.0.key.app) (shown form fs))),
 )
   where
     regroup_all : (a b c d : List ℕ) → ((a ++ (44 ∷ b)) ++ (c ++ d)) ++ 93 ∷ [] ≡ a ++ (44 ∷ (b ++ (c ++ (d ++ 93 ∷ []))))
@@ -103,12 +103,12 @@ apps_joined form (e ∷ es) =
     ap (λ (gs : Groups). items_text false (items_of (map (app_tree form) gs))) how.are ∙ first_of e how.group how.groups (in_apps (Some e.0.key.app) (shown form es)) how.text
   where
     first_of : (e : Entry) (group : List Entry) (groups : Groups) (rest : List ℕ) → more form group ++ (app_close e.0.key.app ++ apps_after form groups) ≡ rest ++ 93 ∷ []
-        → items_text false (items_of (map (app_tree form) ((e.0.key.app, e ∷ group) ∷ groups))) ≡ (app_open ++ (text_in form e ++ rest)) ++ 93 ∷ []
+        → items_text false (items_of (map (app_tree form) ((e.0.key.app, e ∷ group) ∷ groups))) ≡ (app_open ++ (text_of_entry form e ++ rest)) ++ 93 ∷ []
     first_of e group groups rest text =
         ap (λ r. r ++ apps_after form groups) (app_text form e.0.key.app e group)
-        ∙ append_assoc app_open (text_in form e ++ (more form group ++ app_close e.0.key.app)) (apps_after form groups)
-        ∙ ap (λ r. app_open ++ r) (regroup (text_in form e) (more form group) (app_close e.0.key.app) (apps_after form groups) ∙ ap (λ r. text_in form e ++ r) text)
-        ∙ sym (regroup app_open (text_in form e) rest (93 ∷ []))
+        ∙ append_assoc app_open (text_of_entry form e ++ (more form group ++ app_close e.0.key.app)) (apps_after form groups)
+        ∙ ap (λ r. app_open ++ r) (regroup (text_of_entry form e) (more form group) (app_close e.0.key.app) (apps_after form groups) ∙ ap (λ r. text_of_entry form e ++ r) text)
+        ∙ sym (regroup app_open (text_of_entry form e) rest (93 ∷ []))
 
 -- ---- the documents
 
@@ -129,11 +129,11 @@ many_is form es hash version =
 
 commas_more : (form : Form) (es : List Entry) → in_commas true (shown form es) ≡ more form es
 commas_more form [] = refl
-commas_more form (e ∷ es) = ap (λ r. 44 ∷ (text_in form e ++ r)) (commas_more form es)
+commas_more form (e ∷ es) = ap (λ r. 44 ∷ (text_of_entry form e ++ r)) (commas_more form es)
 
 commas_joined : (form : Form) (es : List Entry) → items_text false (items_of (map (instance_tree form) es)) ≡ in_commas false (shown form es) ++ 93 ∷ []
 commas_joined form [] = refl
-commas_joined form (e ∷ es) = ap (λ r. text_in form e ++ r) (more_items form es) ∙ sym (append_assoc (text_in form e) (more form es) (93 ∷ [])) ∙ ap (λ r. r ++ 93 ∷ []) (ap (λ r. text_in form e ++ r) (sym (commas_more form es)))
+commas_joined form (e ∷ es) = ap (λ r. text_of_entry form e ++ r) (more_items form es) ∙ sym (append_assoc (text_of_entry form e) (more form es) (93 ∷ [])) ∙ ap (λ r. r ++ 93 ∷ []) (ap (λ r. text_of_entry form e ++ r) (sym (commas_more form es)))
 
 ends_app : (x a n c d : List ℕ) → (x ++ (a ++ (n ++ c))) ++ d ≡ x ++ (a ++ (n ++ (c ++ d)))
 ends_app x a n c d = simp append_assoc
@@ -150,7 +150,7 @@ app_is form name es =
     ∙ ap (λ (r : List ℕ). start ++ r) (append_assoc (in_commas false (shown form es)) (93 ∷ []) tail)
     ∙ ap (λ (r : List ℕ). start ++ (in_commas false (shown form es) ++ (93 ∷ (a ++ r)))) (sym (append_assoc n (codes "}") (codes "}"))))
 
-pub one_is : (form : Form) (e : Entry) → one_joined (text_in form e) ≡ compact_text (instance_document form (e ∷ []))
+pub one_is : (form : Form) (e : Entry) → one_joined (text_of_entry form e) ≡ compact_text (instance_document form (e ∷ []))
 unfolding one_joined instance_document escape_byte
 one_is form e = refl
 

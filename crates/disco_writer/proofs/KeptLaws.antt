@@ -8,8 +8,8 @@ use Rattle.disco_history.proofs.Keys.{keys_total}
 use Rattle.disco_history.proofs.Lasts.{last_by_parts}
 use Rattle.disco_history.proofs.Sets.{get-delta, get-said}
 use Rattle.disco_history.specs.Change.{Entry, key_of, last}
-use Rattle.disco_history.specs.Registry.{put_of, reg, said}
-use Rattle.disco_writer.specs.Kept.{AreTied, none_kept, text_at}
+use Rattle.disco_history.specs.Registry.{put_of, registry_of, mentions_of}
+use Rattle.disco_writer.specs.Kept.{AreTied, none_kept, kept_text_at}
 use Rattle.disco_writer.specs.Laws.{NoneKeptLaw, SameKeptLaw, PutKeptLaw, GoneKeptLaw, DeltaKeptLaw}
 
 -- what is tied stays tied where both sides are equal to others
@@ -21,23 +21,23 @@ either f true s t x y first second = first
 either f false s t x y first second = second
 
 pub none_kept_law : NoneKeptLaw
-none_kept_law f k = moved f (text_at none_kept k) None (get empty k) None (ap option_flatten (get-empty key_cmp k)) (get-empty key_cmp k) tt
+none_kept_law f k = moved f (kept_text_at none_kept k) None (get empty k) None (ap option_flatten (get-empty key_cmp k)) (get-empty key_cmp k) tt
 
 pub same_kept_law : SameKeptLaw
-same_kept_law f old new held same kept k = moved f (text_at new k) (text_at old k) (get held k) (get held k) (same k) refl (kept k)
+same_kept_law f old new held same kept k = moved f (kept_text_at new k) (kept_text_at old k) (get held k) (get held k) (same k) refl (kept k)
 
 pub put_kept_law : PutKeptLaw
 put_kept_law f old new held e text is sets kept k =
-    moved f (text_at new k) (cond (same_key k (key_of e)) (Some text) (text_at old k)) (get (insert held (key_of e) e) k) (cond (same_key k (key_of e)) (Some e) (get held k)) (sets k) (get-insert keys_total held (key_of e) e k)
-    (either f (same_key k (key_of e)) (Some text) (text_at old k) (Some e) (get held k) is (kept k))
+    moved f (kept_text_at new k) (cond (same_key k (key_of e)) (Some text) (kept_text_at old k)) (get (insert held (key_of e) e) k) (cond (same_key k (key_of e)) (Some e) (get held k)) (sets k) (get-insert keys_total held (key_of e) e k)
+    (either f (same_key k (key_of e)) (Some text) (kept_text_at old k) (Some e) (get held k) is (kept k))
 
 pub gone_kept_law : GoneKeptLaw
 gone_kept_law f old new held q sets kept k =
-    moved f (text_at new k) (cond (same_key k q) None (text_at old k)) (get (remove held q) k) (cond (same_key k q) None (get held k)) (sets k) (get-remove keys_total held q k)
-    (either f (same_key k q) None (text_at old k) None (get held k) tt (kept k))
+    moved f (kept_text_at new k) (cond (same_key k q) None (kept_text_at old k)) (get (remove held q) k) (cond (same_key k q) None (get held k)) (sets k) (get-remove keys_total held q k)
+    (either f (same_key k q) None (kept_text_at old k) None (get held k) tt (kept k))
 
 pub delta_kept_law : DeltaKeptLaw
 delta_kept_law f v h base q e kept there =
     let late : last h q ≡ Some e = last_by_parts h base q ∙ ap (λ (o : Option Entry). option_or o (last (take base h) q)) (sym (get-delta h base q) ∙ there) in
-    let held : get (said h (reg h)) q ≡ put_of e = get-said h q ∙ ap (λ (o : Option Entry). option_and_then put_of o) late in
-    subst (λ (o : Option Entry). AreTied f (text_at v q) o) held (kept q)
+    let held : get (mentions_of h (registry_of h)) q ≡ put_of e = get-said h q ∙ ap (λ (o : Option Entry). option_and_then put_of o) late in
+    subst (λ (o : Option Entry). AreTied f (kept_text_at v q) o) held (kept q)

@@ -7,21 +7,21 @@ use Rattle.disco_values.specs.declared.form.Form.{Form}
 use Rattle.disco_values.specs.declared.key.Key.{Key}
 use Rattle.disco_history.specs.Change.{Entry, key_of}
 use Rattle.disco_history.specs.Mentions.{delta, mention_of}
-use Rattle.disco_history.specs.Registry.{put_of, reg, said}
+use Rattle.disco_history.specs.Registry.{put_of, registry_of, mentions_of}
 use Rattle.disco_history.proofs.Restrictions.{held_key, last_key}
 use Rattle.disco_history.proofs.Keys.{same_is}
 use Rattle.disco_history.proofs.Sets.{get-delta}
 use Rattle.disco_history.proofs.Sorted.{Own, own}
 use Rattle.disco_values.specs.declared.action.Action.TheVariants.{Added, Modified, Deleted}
-use Rattle.disco_writer.specs.Joined.{Agrees, AllAgree, AreTextsOf, AreTold, told_by}
-use Rattle.disco_writer.specs.Kept.{AreKept, AreTied, IsTextOf, Kept, text_at}
+use Rattle.disco_writer.specs.Joined.{Agrees, AllAgree, AreTextsOf, AreJoinedTexts, texts_by}
+use Rattle.disco_writer.specs.Kept.{AreKept, AreTied, IsTextOf, Kept, kept_text_at}
 use Rattle.disco_writer.proofs.KeptLaws.{delta_kept_law}
 
 -- where the texts that are to come are told, all are
 abbrev pub AreSoFar : Form → Kept → List Entry → List Entry → Type 0
-AreSoFar f v rest all = AreTold f v rest → AreTold f v all
+AreSoFar f v rest all = AreJoinedTexts f v rest → AreJoinedTexts f v all
 
-pub told_are : (f : Form) (v : Kept) (es : List Entry) → AreTold f v es → AllAgree f v es → AreTextsOf f (told_by f v es) es
+pub told_are : (f : Form) (v : Kept) (es : List Entry) → AreJoinedTexts f v es → AllAgree f v es → AreTextsOf f (texts_by f v es) es
 told_are f v [] told agree = tt
 told_are f v (e ∷ es) told agree = (refl, told.0 agree.0, told_are f v es told.1 agree.1)
 
@@ -36,7 +36,7 @@ abbrev pub AreHeld : FinMap key_cmp Entry → List Entry → Type 0
 AreHeld m es = AllByRecursion (λ e. get m (key_of e) ≡ Some e) es
 
 pub one_agrees : (f : Form) (v : Kept) (m : FinMap key_cmp Entry) (e : Entry) → AreKept f v m → get m (key_of e) ≡ Some e → Agrees f v e
-one_agrees f v m e kept there = tied_agrees f (text_at v (key_of e)) e (subst (λ (o : Option Entry). AreTied f (text_at v (key_of e)) o) there (kept (key_of e)))
+one_agrees f v m e kept there = tied_agrees f (kept_text_at v (key_of e)) e (subst (λ (o : Option Entry). AreTied f (kept_text_at v (key_of e)) o) there (kept (key_of e)))
 
 pub held_agree : (f : Form) (v : Kept) (m : FinMap key_cmp Entry) (es : List Entry) → AreKept f v m → AreHeld m es → AllAgree f v es
 held_agree f v m [] kept held = tt
@@ -46,14 +46,14 @@ pub owned : (m : FinMap key_cmp Entry) (es : List (Key × Entry)) → Own (λ q.
 owned m [] all = tt
 owned m (p ∷ es) all = (get-entries m p.0 ∙ all.0, owned m es all.1)
 
-values_owned : (h : List Entry) (m : FinMap key_cmp Entry) → m ≡ said h (reg h) → (es : List (Key × Entry)) → Own (get m) es → AreHeld m (map (λ p. p.1) es)
+values_owned : (h : List Entry) (m : FinMap key_cmp Entry) → m ≡ mentions_of h (registry_of h) → (es : List (Key × Entry)) → Own (get m) es → AreHeld m (map (λ p. p.1) es)
 values_owned h m stands [] all = tt
 values_owned h m stands (p ∷ es) all =
     let key : p.0 ≡ key_of p.1 = held_key h p.0 p.1 (ap (λ (n : FinMap key_cmp Entry). get n p.0) (sym stands) ∙ all.0) in
     (subst (λ (k : Key). get m k ≡ Some p.1) key all.0, values_owned h m stands es all.1)
 
 -- all that it holds
-pub values_held : (h : List Entry) (m : FinMap key_cmp Entry) → m ≡ said h (reg h) → AreHeld m (values m)
+pub values_held : (h : List Entry) (m : FinMap key_cmp Entry) → m ≡ mentions_of h (registry_of h) → AreHeld m (values m)
 values_held h m stands = values_owned h m stands (entries m) (owned m (entries m) (own (entries m) (entries_sorted m)))
 
 -- those of them that pass a test
@@ -66,7 +66,7 @@ passing_held P m (e ∷ es) all = one (P e) (passing_held P m es all.1)
     one false rest = rest
 
 -- what it has at some keys
-pub found_held : (h : List Entry) (m : FinMap key_cmp Entry) → m ≡ said h (reg h) → (ks : List Key) → AreHeld m (filter_map (get m) ks)
+pub found_held : (h : List Entry) (m : FinMap key_cmp Entry) → m ≡ mentions_of h (registry_of h) → (ks : List Key) → AreHeld m (filter_map (get m) ks)
 found_held h m stands [] = tt
 found_held h m stands (k ∷ ks) = one (get m k) refl (found_held h m stands ks)
   where
@@ -84,15 +84,15 @@ went_or_put f (Some t) (r, Added) tied = tied
 went_or_put f (Some t) (r, Modified) tied = tied
 went_or_put f (Some t) (r, Deleted) tied = absurd tied
 
-delta_agrees : (f : Form) (v : Kept) (h : List Entry) (base : ℕ) → AreKept f v (said h (reg h)) → (es : List (Key × Entry)) → Own (get (delta h base)) es → AllAgree f v (map (λ p. p.1) es)
+delta_agrees : (f : Form) (v : Kept) (h : List Entry) (base : ℕ) → AreKept f v (mentions_of h (registry_of h)) → (es : List (Key × Entry)) → Own (get (delta h base)) es → AllAgree f v (map (λ p. p.1) es)
 delta_agrees f v h base kept [] all = tt
 delta_agrees f v h base kept (p ∷ es) all =
     let key : p.0 ≡ key_of p.1 = same_is p.0 (key_of p.1) (last_key (drop base h) p.0 p.1 (sym (get-delta h base p.0) ∙ all.0)) in (
-      went_or_put f (text_at v (key_of p.1)) p.1 (subst (λ (k : Key). AreTied f (text_at v k) (put_of p.1)) key (delta_kept_law f v h base p.0 p.1 kept all.0)),
+      went_or_put f (kept_text_at v (key_of p.1)) p.1 (subst (λ (k : Key). AreTied f (kept_text_at v k) (put_of p.1)) key (delta_kept_law f v h base p.0 p.1 kept all.0)),
       delta_agrees f v h base kept es all.1,
     )
 
-pub delta_agree : (f : Form) (v : Kept) (h : List Entry) (base : ℕ) → AreKept f v (said h (reg h)) → AllAgree f v (values (delta h base))
+pub delta_agree : (f : Form) (v : Kept) (h : List Entry) (base : ℕ) → AreKept f v (mentions_of h (registry_of h)) → AllAgree f v (values (delta h base))
 delta_agree f v h base kept =
     let m = delta h base in
     delta_agrees f v h base kept (entries m) (owned m (entries m) (own (entries m) (entries_sorted m)))

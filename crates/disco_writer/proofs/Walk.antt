@@ -10,14 +10,14 @@ use Rattle.disco_values.specs.declared.form.Form.{Form}
 use Rattle.disco_values.specs.declared.key.Key.{Key}
 use Rattle.disco_history.specs.Change.{Entry, key_of}
 use Rattle.disco_history.specs.Mentions.{mention_of}
-use Rattle.disco_history.specs.Registry.{reg, said}
+use Rattle.disco_history.specs.Registry.{registry_of, mentions_of}
 use Rattle.disco_history.proofs.Keys.{keys_total, exact_keys}
 use Rattle.disco_history.proofs.Restrictions.{held_key}
 use Rattle.disco_history.proofs.PlaceLemmas.{find_filled, sorted_filled}
 use Rattle.disco_history.proofs.Sorted.{Own, own}
 use Rattle.disco_history.specs.Places.{filled}
-use Rattle.disco_writer.specs.Joined.{AreTextsOf, Shown, text_in, walked}
-use Rattle.disco_writer.specs.Kept.{AreKept, AreTied, IsTextOf, Kept, text_at}
+use Rattle.disco_writer.specs.Joined.{AreTextsOf, Shown, text_of_entry, walked}
+use Rattle.disco_writer.specs.Kept.{AreKept, AreTied, IsTextOf, Kept, kept_text_at}
 use Rattle.disco_writer.proofs.Told.{owned}
 
 abbrev Text : Type 0
@@ -42,7 +42,7 @@ walked_present (e ∷ es) = one e.1 (walked_present es)
 -- ---- the texts of what is held
 
 abbrev texts_of : Form → List (Key × Entry) → List (Key × Text)
-texts_of f es = map (λ p. (p.0, text_in f p.1)) es
+texts_of f es = map (λ p. (p.0, text_of_entry f p.1)) es
 
 below_texts : (f : Form) (k : Key) (es : List (Key × Entry)) → below_all key_cmp k (texts_of f es) ≡ below_all key_cmp k es
 below_texts f k [] = refl
@@ -52,21 +52,21 @@ sorted_texts : (f : Form) (es : List (Key × Entry)) → is_sorted key_cmp (text
 sorted_texts f [] = refl
 sorted_texts f (e ∷ es) = λ i. below_texts f e.0 es i && sorted_texts f es i
 
-find_texts : (f : Form) (q : Key) (es : List (Key × Entry)) → find key_cmp q (texts_of f es) ≡ option_map (text_in f) (find key_cmp q es)
+find_texts : (f : Form) (q : Key) (es : List (Key × Entry)) → find key_cmp q (texts_of f es) ≡ option_map (text_of_entry f) (find key_cmp q es)
 find_texts f q [] = refl
 find_texts f q (e ∷ es) = one (same_key q e.0) (find_texts f q es)
   where
-    one : (b : Bool) → find key_cmp q (texts_of f es) ≡ option_map (text_in f) (find key_cmp q es) → cond b (Some (text_in f e.1)) (find key_cmp q (texts_of f es)) ≡ option_map (text_in f) (cond b (Some e.1) (find key_cmp q es))
+    one : (b : Bool) → find key_cmp q (texts_of f es) ≡ option_map (text_of_entry f) (find key_cmp q es) → cond b (Some (text_of_entry f e.1)) (find key_cmp q (texts_of f es)) ≡ option_map (text_of_entry f) (cond b (Some e.1) (find key_cmp q es))
     one true ih = refl
     one false ih = ih
 
-tied_text : (f : Form) (o : Option Text) (p : Option Entry) → AreTied f o p → o ≡ option_map (text_in f) p
+tied_text : (f : Form) (o : Option Text) (p : Option Entry) → AreTied f o p → o ≡ option_map (text_of_entry f) p
 tied_text f None None tied = refl
 tied_text f None (Some e) tied = absurd tied
 tied_text f (Some t) None tied = absurd tied
 tied_text f (Some t) (Some e) tied = ap (λ (s : Text). Some s) tied.all
 
-tied_is : (f : Form) (o : Option Text) (e : Entry) → AreTied f o (Some e) → IsTextOf f (text_in f e) (mention_of e)
+tied_is : (f : Form) (o : Option Text) (e : Entry) → AreTied f o (Some e) → IsTextOf f (text_of_entry f e) (mention_of e)
 tied_is f None e tied = absurd tied
 tied_is f (Some t) e tied = subst (λ (s : Text). IsTextOf f s (mention_of e)) tied.all tied
 
@@ -83,20 +83,20 @@ same_texts f v held kept =
     let sorted_ts : T (is_sorted key_cmp ts) = subst T (sym (sorted_texts f (entries held))) (entries_sorted held) in
     sym (entries-from_sorted key_cmp ps sorted_ps)
     ∙ ap entries (same_map keys_total exact_keys (from_sorted ps) (from_sorted ts) (λ q.
-    get-from_sorted key_cmp ps q sorted_ps ∙ find_filled (λ t. t) q (entries v.places) (entries_sorted v.places) ∙ same_text _ ∙ ap option_flatten (sym (get-entries v.places q)) ∙ tied_text f (text_at v q) (get held q) (kept q)
-    ∙ ap (option_map (text_in f)) (get-entries held q) ∙ sym (find_texts f q (entries held)) ∙ sym (get-from_sorted key_cmp ts q sorted_ts)))
+    get-from_sorted key_cmp ps q sorted_ps ∙ find_filled (λ t. t) q (entries v.places) (entries_sorted v.places) ∙ same_text _ ∙ ap option_flatten (sym (get-entries v.places q)) ∙ tied_text f (kept_text_at v q) (get held q) (kept q)
+    ∙ ap (option_map (text_of_entry f)) (get-entries held q) ∙ sym (find_texts f q (entries held)) ∙ sym (get-from_sorted key_cmp ts q sorted_ts)))
     ∙ entries-from_sorted key_cmp ts sorted_ts
 
-each_is : (f : Form) (v : Kept) (h : List Entry) (held : FinMap key_cmp Entry) → held ≡ said h (reg h) → AreKept f v held → (es : List (Key × Entry)) → Own (get held) es → AreTextsOf f (map with_app (texts_of f es)) (map (λ p. p.1) es)
+each_is : (f : Form) (v : Kept) (h : List Entry) (held : FinMap key_cmp Entry) → held ≡ mentions_of h (registry_of h) → AreKept f v held → (es : List (Key × Entry)) → Own (get held) es → AreTextsOf f (map with_app (texts_of f es)) (map (λ p. p.1) es)
 each_is f v h held stands kept [] all = tt
 each_is f v h held stands kept (p ∷ es) all =
     let key : p.0 ≡ key_of p.1 = held_key h p.0 p.1 (ap (λ (n : FinMap key_cmp Entry). get n p.0) (sym stands) ∙ all.0) in (
       ap (λ (k : Key). k.app) key,
-      tied_is f (text_at v p.0) p.1 (subst (λ (o : Option Entry). AreTied f (text_at v p.0) o) all.0 (kept p.0)),
+      tied_is f (kept_text_at v p.0) p.1 (subst (λ (o : Option Entry). AreTied f (kept_text_at v p.0) o) all.0 (kept p.0)),
       each_is f v h held stands kept es all.1,
     )
 
-pub walked_are : (f : Form) (v : Kept) (h : List Entry) (held : FinMap key_cmp Entry) → held ≡ said h (reg h) → AreKept f v held → AreTextsOf f (walked (entries v.places)) (values held)
+pub walked_are : (f : Form) (v : Kept) (h : List Entry) (held : FinMap key_cmp Entry) → held ≡ mentions_of h (registry_of h) → AreKept f v held → AreTextsOf f (walked (entries v.places)) (values held)
 walked_are f v h held stands kept =
     subst (λ (ps : List Shown). AreTextsOf f ps (values held)) (sym (walked_present (entries v.places) ∙ ap (map with_app) (same_texts f v held kept)))
     (each_is f v h held stands kept (entries held) (owned held (entries held) (own (entries held) (entries_sorted held))))

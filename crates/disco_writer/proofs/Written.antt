@@ -7,8 +7,8 @@ use Rattle.disco_values.specs.declared.form.Form.{Form}
 use Rattle.disco_history.specs.Change.{Entry}
 use Rattle.disco_history.specs.Hash.{hash}
 use Rattle.disco_history.specs.Mentions.{delta}
-use Rattle.disco_history.specs.Query.{Asked, all, is_absent, may_be_empty, restrict}
-use Rattle.disco_history.specs.Registry.{reg}
+use Rattle.disco_history.specs.Query.{Selector, all, is_absent, may_be_empty, restrict}
+use Rattle.disco_history.specs.Registry.{registry_of}
 use Rattle.disco_history.proofs.Restrictions.{len-restrict, values-restrict, values-said_all}
 use Rattle.disco_history.proofs.Sets.{values-reg}
 use Rattle.disco_wire.specs.Documents.{document_of}
@@ -28,28 +28,28 @@ never true = refl
 never false = refl
 
 -- a document of all apps is never absent
-pub all_there : (h : List Entry) → is_absent (reg h) all ≡ false
-all_there h = never (len (restrict (reg h) all) == 0)
+pub all_there : (h : List Entry) → is_absent (registry_of h) all ≡ false
+all_there h = never (len (restrict (registry_of h) all) == 0)
 
 -- all records are asked for
-pub all_asked : (h : List Entry) → values (restrict (reg h) all) ≡ values (reg h)
+pub all_asked : (h : List Entry) → values (restrict (registry_of h) all) ≡ values (registry_of h)
 all_asked h = values-restrict h all ∙ ap rows_in (values-said_all h) ∙ sym (values-reg h)
 
-module _ (a : Asked) (h : List Entry) (es : List Entry) (same : es ≡ mentioned a h) where
+module _ (a : Selector) (h : List Entry) (es : List Entry) (same : es ≡ mentioned a h) where
   -- none is asked for
-  pub none_written : length es ≡ 0 → may_be_empty a ≡ false → is_absent (reg h) a ≡ true
+  pub none_written : length es ≡ 0 → may_be_empty a ≡ false → is_absent (registry_of h) a ≡ true
   none_written none must = let all : _ = len-restrict h a ∙ ap length (sym same) ∙ none in (λ i. (all i == 0) && not (must i))
 
   -- some are
-  pub some_there : 0 < length es → is_absent (reg h) a ≡ false
+  pub some_there : 0 < length es → is_absent (registry_of h) a ≡ false
   some_there some = ap (λ n. (n == 0) && not (may_be_empty a)) (len-restrict h a ∙ ap length (sym same)) ∙ ap (λ b. b && not (may_be_empty a)) (is_some_number (length es) some)
 
   -- their hash code
-  pub code_is : hash (rows_in es) ≡ hash (values (restrict (reg h) a))
+  pub code_is : hash (rows_in es) ≡ hash (values (restrict (registry_of h) a))
   code_is = ap hash (ap rows_in same ∙ sym (values-restrict h a))
 
 -- what was written of some records, with a hash code
-pub some_written : (f : Form) (q : Query) (h : List Entry) (base : ℕ) (es : List Entry) (code : List ℕ) (v : ℕ) (text : List ℕ) → es ≡ told q h base → code ≡ hash_of q h → v ≡ length h → is_absent (reg h) (asked_by q) ≡ false
+pub some_written : (f : Form) (q : Query) (h : List Entry) (base : ℕ) (es : List Entry) (code : List ℕ) (v : ℕ) (text : List ℕ) → es ≡ told q h base → code ≡ hash_of q h → v ≡ length h → is_absent (registry_of h) (asked_by q) ≡ false
     → text ≡ compact_text (tree_of f (asked_by q) es code v) → document_of text ≡ Ok (meant (kind q).shape (if_many (kind q).shape code) (if_many (kind q).shape v) (mentions_in f es)) → IsWritten f q h base (Some text)
 some_written f q h base es code v text same code_is version there is means = (
   there,

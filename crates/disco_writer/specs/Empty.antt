@@ -6,13 +6,13 @@ use Rattle.disco_values.specs.Key.{same_key}
 use Rattle.disco_values.specs.declared.key.Key.{Key}
 use Rattle.disco_writer.specs.Kept.{Places}
 
-abbrev pub IsNext : Option (Key × List ℕ) → Key → Type 0
-IsNext None q = ⊥
-IsNext (Some p) q = q ≡ p.0
+abbrev pub IsNextKey : Option (Key × List ℕ) → Key → Type 0
+IsNextKey None q = ⊥
+IsNextKey (Some p) q = q ≡ p.0
 
 -- no place is empty but that of what is put next
 abbrev pub OnlyNextIsEmpty : Option (Key × List ℕ) → Places → Type 0
-OnlyNextIsEmpty next places = (q : Key) → get places q ≡ Some None → IsNext next q
+OnlyNextIsEmpty next places = (q : Key) → get places q ≡ Some None → IsNextKey next q
 
 -- ---- what the private steps do
 

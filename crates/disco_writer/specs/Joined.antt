@@ -10,14 +10,14 @@ use Rattle.disco_values.specs.declared.key.Key.{Key}
 use Rattle.disco_history.specs.Change.{Entry, key_of}
 use Rattle.disco_history.specs.Mentions.{mention_of}
 use Rattle.disco_documents.specs.Trees.{instance_tree}
-use Rattle.disco_writer.specs.Kept.{IsTextOf, Kept, text_at}
+use Rattle.disco_writer.specs.Kept.{IsTextOf, Kept, kept_text_at}
 use Rattle.disco_writer.specs.declared.piece.Piece.{Piece}
 use Rattle.disco_writer.specs.declared.piece.Source.{Source}
 use Rattle.disco_writer.specs.declared.piece.Source.TheVariants as source
 
 -- the text of an instance in a form
-abbrev pub text_in : Form → Entry → List ℕ
-text_in f e = compact_text (instance_tree f e)
+abbrev pub text_of_entry : Form → Entry → List ℕ
+text_of_entry f e = compact_text (instance_tree f e)
 
 -- an instance's app and its text
 abbrev pub Shown : Type 0
@@ -25,7 +25,7 @@ Shown = List ℕ × List ℕ
 
 -- what is shown of instances
 abbrev pub shown : Form → List Entry → List Shown
-shown f es = map (λ e. (e.0.key.app, text_in f e)) es
+shown f es = map (λ e. (e.0.key.app, text_of_entry f e)) es
 
 abbrev pub bytes_of : Source → List ℕ
 bytes_of (source.Kept text) = text.now
@@ -52,24 +52,24 @@ walked es = filter_map (λ e. option_map (λ t. (e.0.app, t)) e.1) es
 
 -- an instance's app, and its kept text or, where none is, the one that is made
 abbrev pub told_one : Form → Kept → Entry → Shown
-told_one f v e = (e.0.key.app, unwrap_or (text_at v (key_of e)) (text_in f e))
+told_one f v e = (e.0.key.app, unwrap_or (kept_text_at v (key_of e)) (text_of_entry f e))
 
-abbrev pub told_by : Form → Kept → List Entry → List Shown
-told_by f v es = map (told_one f v) es
+abbrev pub texts_by : Form → Kept → List Entry → List Shown
+texts_by f v es = map (told_one f v) es
 
 -- a text that is kept of the instance is its text
 abbrev pub Agrees : Form → Kept → Entry → Type 0
-Agrees f v e = IfSome (text_at v (key_of e)) (λ t. IsTextOf f t (mention_of e))
+Agrees f v e = IfSome (kept_text_at v (key_of e)) (λ t. IsTextOf f t (mention_of e))
 
 abbrev pub AllAgree : Form → Kept → List Entry → Type 0
 AllAgree f v es = AllByRecursion (Agrees f v) es
 
 -- where the kept one is its text, what is told is
-abbrev pub IsTold : Form → Kept → Entry → Type 0
-IsTold f v e = Agrees f v e → IsTextOf f (told_one f v e).1 (mention_of e)
+abbrev pub IsJoinedText : Form → Kept → Entry → Type 0
+IsJoinedText f v e = Agrees f v e → IsTextOf f (told_one f v e).1 (mention_of e)
 
-abbrev pub AreTold : Form → Kept → List Entry → Type 0
-AreTold f v es = AllByRecursion (IsTold f v) es
+abbrev pub AreJoinedTexts : Form → Kept → List Entry → Type 0
+AreJoinedTexts f v es = AllByRecursion (IsJoinedText f v) es
 
 -- ---- what stands round the texts
 

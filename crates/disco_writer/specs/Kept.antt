@@ -47,12 +47,12 @@ abbrev pub none_kept : Kept
 none_kept = record { places = empty; next = None }
 
 -- the text of a key
-abbrev pub text_at : Kept → Key → Option (List ℕ)
-text_at v k = option_flatten (get v.places k)
+abbrev pub kept_text_at : Kept → Key → Option (List ℕ)
+kept_text_at v k = option_flatten (get v.places k)
 
 -- the same but for empty places and for what is put next, which no answer shows
 abbrev pub IsSameTexts : Kept → Kept → Type 0
-IsSameTexts old new = (q : Key) → text_at new q ≡ text_at old q
+IsSameTexts old new = (q : Key) → kept_text_at new q ≡ kept_text_at old q
 
 -- no place stands empty
 abbrev pub HasNoEmpty : Places → Type 0
@@ -64,8 +64,8 @@ pub record IsReadyFor (v : Kept) (k : Key) (text : List ℕ) : Type 0 where
   pub place : IsSome (get v.places k)
 
 -- the key has that text, or none, and each other key what it had
-abbrev pub Sets : Key → Option (List ℕ) → Kept → Kept → Type 0
-Sets k t old new = (q : Key) → text_at new q ≡ (if same_key q k then t else text_at old q)
+abbrev pub SetsText : Key → Option (List ℕ) → Kept → Kept → Type 0
+SetsText k t old new = (q : Key) → kept_text_at new q ≡ (if same_key q k then t else kept_text_at old q)
 
 -- what is kept under a key, where something is, is the text of the mention that is held
 abbrev pub AreTied : Form → Option (List ℕ) → Option Entry → Type 0
@@ -76,4 +76,4 @@ AreTied f (Some t) (Some e) = IsTextOf f t (mention_of e)
 
 -- exactly the texts in a form of the mentions that are held are kept
 abbrev pub AreKept : Form → Kept → FinMap key_cmp Entry → Type 0
-AreKept f v held = (k : Key) → AreTied f (text_at v k) (get held k)
+AreKept f v held = (k : Key) → AreTied f (kept_text_at v k) (get held k)

@@ -12,10 +12,10 @@ member_tokens [] = []
 member_tokens (f ∷ fs) = key f.0 ∷ (json_tokens (outline f.1) ++ member_tokens fs)
 
 -- these tokens come after those that were written
-pub record Adds (old new : Written) (ts : List Token) : Type 0 where
+pub record AddsTokens (old new : Written) (ts : List Token) : Type 0 where
   pub tokens : new.tokens ≡ old.tokens ++ ts
   pub before : new.before ≡ old.before
 
 -- unless memory is refused, these members are written
-abbrev pub Writes : {E : Type 0} → Result (Unit {0}) E → Written → Written → List (List ℕ × Data) → Type 0
-Writes r old new fs = OnOk r (Adds old new (member_tokens fs))
+abbrev pub WritesMembers : {E : Type 0} → Result (Unit {0}) E → Written → Written → List (List ℕ × Data) → Type 0
+WritesMembers r old new fs = OnOk r (AddsTokens old new (member_tokens fs))

@@ -1,9 +1,9 @@
 //! The document of recent changes.
 ghost use Rattle.std.specs.Prelude.{◌≡◌, List, IfOk, IfErr, Some, map};
 ghost use Rattle.disco_values.specs.declared.fault.Fault.TheVariants.{OutOfMemory};
-ghost use Rattle.disco_history.specs.Change.{seen};
+ghost use Rattle.disco_history.specs.Change.{change_view};
 ghost use Rattle.disco_index.specs.Tally.{tally_in};
-ghost use Rattle.disco_queue.specs.Queue.{Keeps};
+ghost use Rattle.disco_queue.specs.Queue.{KeepsHistory};
 ghost use Rattle.disco_queue.specs.Timed.{Timed, changes};
 ghost use Rattle.disco_registry.specs.State.{StandsFor};
 ghost use Rattle.disco_documents.specs.Documents.{IsWritten};
@@ -22,7 +22,7 @@ use std::alloc::{AllocError, Global};
 
 /// What each of these changes did, and to which record. The records are shared.
 fn held_by(alloc: Global, changes: &[&Change]) -> Result<Vec<Held>, AllocError>
-    ensures { IfOk result (λ v. held_entries v.items ≡ map (λ c. seen c.now) changes.now) }
+    ensures { IfOk result (λ v. held_entries v.items ≡ map (λ c. change_view c.now) changes.now) }
 {
     let mut list = Vec::new(alloc);
     for change in changes {
@@ -44,7 +44,7 @@ pub(crate) fn write_delta(
 ) -> Result<Vec<u8>, Fault>
     requires counts { counts.now ≡ tally_in registry.now.held }
     requires kept { AreKept form texts.now registry.now.held }
-    ensures written { IfOk result (λ v. (h : List Timed) → StandsFor registry.now (changes h) → Keeps queue.now h → IsWritten form query.Delta (changes h) queue.now.base (Some v.items)) }
+    ensures written { IfOk result (λ v. (h : List Timed) → StandsFor registry.now (changes h) → KeepsHistory queue.now h → IsWritten form query.Delta (changes h) queue.now.base (Some v.items)) }
     ensures memory { IfErr result (λ e. e ≡ OutOfMemory) }
 {
     let last = queue.last_changes(alloc)?;

@@ -7,7 +7,7 @@ ghost use Rattle.disco_history.specs.Change.{Entry};
 ghost use Rattle.disco_history.specs.Hash.{hash};
 ghost use Rattle.disco_index.specs.Tally.{tally_in};
 ghost use Rattle.disco_index.specs.Vips.{IsIndexOf};
-ghost use Rattle.disco_queue.specs.Queue.{Keeps};
+ghost use Rattle.disco_queue.specs.Queue.{KeepsHistory};
 ghost use Rattle.disco_queue.specs.Timed.{Timed, changes};
 ghost use Rattle.disco_registry.specs.State.{StandsFor};
 ghost use Rattle.disco_wire.specs.Documents.{document_of};
@@ -54,7 +54,7 @@ pub fn write_document(
     ensures written { IfOk result (λ o. is_delta query.now ≡ false
         → (h : List Entry) → StandsFor registry.now h → IsWritten form query.now h (length h) (option_map (λ v. v.items) o)) }
     ensures delta { IfOk result (λ o. is_delta query.now ≡ true
-        → (h : List Timed) → StandsFor registry.now (changes h) → Keeps queue.now h → IsWritten form query.now (changes h) queue.now.base (option_map (λ v. v.items) o)) }
+        → (h : List Timed) → StandsFor registry.now (changes h) → KeepsHistory queue.now h → IsWritten form query.now (changes h) queue.now.base (option_map (λ v. v.items) o)) }
     ensures memory { IfErr result (λ e. e ≡ OutOfMemory) }
 {
     match query {
@@ -83,7 +83,7 @@ pub fn write_full(
     ensures written { IfOk result (λ o. is_delta query.now ≡ false
         → (h : List Entry) → StandsFor registry.now h → IsWritten Full query.now h (length h) (option_map (λ v. v.items) o)) }
     ensures delta { IfOk result (λ o. is_delta query.now ≡ true
-        → (h : List Timed) → StandsFor registry.now (changes h) → Keeps queue.now h → IsWritten Full query.now (changes h) queue.now.base (option_map (λ v. v.items) o)) }
+        → (h : List Timed) → StandsFor registry.now (changes h) → KeepsHistory queue.now h → IsWritten Full query.now (changes h) queue.now.base (option_map (λ v. v.items) o)) }
     ensures memory { IfErr result (λ e. e ≡ OutOfMemory) }
 {
     write_document(

@@ -8,7 +8,7 @@ ghost use Rattle.disco_values.specs.declared.form.Form.TheVariants.{Full, Compac
 ghost use Rattle.disco_wire.specs.Wire.{tell};
 ghost use Rattle.disco_writer.specs.Fields.{done_fields, from_moments, host_fields, moment_fields, state_fields, to_hosts, to_metadata, to_moments, to_urls, to_vips};
 ghost use Rattle.disco_writer.specs.Kept.{IsTextOf, mention_tree};
-ghost use Rattle.disco_writer.specs.Tokens.{Adds, Writes};
+ghost use Rattle.disco_writer.specs.Tokens.{AddsTokens, WritesMembers};
 
 use crate::members::{
     end, put_action, put_data_center, put_digits, put_lease, put_metadata, put_port, put_small,
@@ -32,7 +32,7 @@ fn usual(form: Form) -> usize {
 
 /// What was done, where it is said.
 fn put_done(out: &mut Writer, action: Option<Action>) -> Result<(), AllocError>
-    ensures { Writes result out.old out.new (done_fields action) }
+    ensures { WritesMembers result out.old out.new (done_fields action) }
 {
     match action {
         Some(action) => put_action(out, "actionType", action),
@@ -41,7 +41,7 @@ fn put_done(out: &mut Writer, action: Option<Action>) -> Result<(), AllocError>
 }
 
 fn put_host(out: &mut Writer, rec: &Record) -> Result<(), AllocError>
-    ensures { Writes result out.old out.new (host_fields (row rec.now)) }
+    ensures { WritesMembers result out.old out.new (host_fields (row rec.now)) }
 {
     put_text(out, "hostName", &rec.host_name)?;
     put_text(out, "instanceId", &rec.key.id)?;
@@ -49,14 +49,14 @@ fn put_host(out: &mut Writer, rec: &Record) -> Result<(), AllocError>
 }
 
 fn put_moments(out: &mut Writer, rec: &Record) -> Result<(), AllocError>
-    ensures { Writes result out.old out.new (moment_fields (row rec.now)) }
+    ensures { WritesMembers result out.old out.new (moment_fields (row rec.now)) }
 {
     put_digits(out, "lastDirtyTimestamp", rec.last_dirty)?;
     put_digits(out, "lastUpdatedTimestamp", rec.last_updated)
 }
 
 fn put_state(out: &mut Writer, rec: &Record) -> Result<(), AllocError>
-    ensures { Writes result out.old out.new (state_fields (row rec.now)) }
+    ensures { WritesMembers result out.old out.new (state_fields (row rec.now)) }
 {
     put_status(out, "overriddenStatus", rec.overridden_status)?;
     put_port(out, "port", rec.port)?;
@@ -68,7 +68,7 @@ fn put_state(out: &mut Writer, rec: &Record) -> Result<(), AllocError>
 // The full form.
 
 fn put_to_urls(out: &mut Writer, rec: &Record) -> Result<(), AllocError>
-    ensures { Writes result out.old out.new (to_urls (row rec.now)) }
+    ensures { WritesMembers result out.old out.new (to_urls (row rec.now)) }
 {
     put_text(out, "app", &rec.key.app)?;
     put_small(out, "countryId", rec.country_id)?;
@@ -78,7 +78,7 @@ fn put_to_urls(out: &mut Writer, rec: &Record) -> Result<(), AllocError>
 }
 
 fn put_to_moments(out: &mut Writer, rec: &Record) -> Result<(), AllocError>
-    ensures { Writes result out.old out.new (to_moments (row rec.now)) }
+    ensures { WritesMembers result out.old out.new (to_moments (row rec.now)) }
 {
     put_host(out, rec)?;
     put_truth(out, "isCoordinatingDiscoveryServer", rec.is_coordinating)?;
@@ -86,14 +86,14 @@ fn put_to_moments(out: &mut Writer, rec: &Record) -> Result<(), AllocError>
 }
 
 fn put_to_metadata(out: &mut Writer, rec: &Record) -> Result<(), AllocError>
-    ensures { Writes result out.old out.new (to_metadata (row rec.now)) }
+    ensures { WritesMembers result out.old out.new (to_metadata (row rec.now)) }
 {
     put_lease(out, rec.lease)?;
     put_metadata(out, &rec.metadata)
 }
 
 fn put_to_vips(out: &mut Writer, rec: &Record) -> Result<(), AllocError>
-    ensures { Writes result out.old out.new (to_vips (row rec.now)) }
+    ensures { WritesMembers result out.old out.new (to_vips (row rec.now)) }
 {
     put_state(out, rec)?;
     put_text(out, "statusPageUrl", &rec.status_page_url)?;
@@ -101,7 +101,7 @@ fn put_to_vips(out: &mut Writer, rec: &Record) -> Result<(), AllocError>
 }
 
 fn put_full(out: &mut Writer, rec: &Record, action: Option<Action>) -> Result<(), AllocError>
-    ensures { OnOk result (Adds out.old out.new (json_tokens (outline (mention_tree Full (row rec.now, action))))) }
+    ensures { OnOk result (AddsTokens out.old out.new (json_tokens (outline (mention_tree Full (row rec.now, action))))) }
 {
     start(out)?;
     put_done(out, action)?;
@@ -115,7 +115,7 @@ fn put_full(out: &mut Writer, rec: &Record, action: Option<Action>) -> Result<()
 // The compact form.
 
 fn put_to_hosts(out: &mut Writer, rec: &Record) -> Result<(), AllocError>
-    ensures { Writes result out.old out.new (to_hosts (row rec.now)) }
+    ensures { WritesMembers result out.old out.new (to_hosts (row rec.now)) }
 {
     put_text(out, "app", &rec.key.app)?;
     put_data_center(out, &rec.data_center)?;
@@ -123,7 +123,7 @@ fn put_to_hosts(out: &mut Writer, rec: &Record) -> Result<(), AllocError>
 }
 
 fn put_from_moments(out: &mut Writer, rec: &Record) -> Result<(), AllocError>
-    ensures { Writes result out.old out.new (from_moments (row rec.now)) }
+    ensures { WritesMembers result out.old out.new (from_moments (row rec.now)) }
 {
     put_moments(out, rec)?;
     put_state(out, rec)?;
@@ -131,7 +131,7 @@ fn put_from_moments(out: &mut Writer, rec: &Record) -> Result<(), AllocError>
 }
 
 fn put_compact(out: &mut Writer, rec: &Record, action: Option<Action>) -> Result<(), AllocError>
-    ensures { OnOk result (Adds out.old out.new (json_tokens (outline (mention_tree Compact (row rec.now, action))))) }
+    ensures { OnOk result (AddsTokens out.old out.new (json_tokens (outline (mention_tree Compact (row rec.now, action))))) }
 {
     start(out)?;
     put_done(out, action)?;
@@ -146,7 +146,7 @@ fn put_instance(
     rec: &Record,
     action: Option<Action>,
 ) -> Result<(), AllocError>
-    ensures { OnOk result (Adds out.old out.new (json_tokens (outline (mention_tree form (row rec.now, action))))) }
+    ensures { OnOk result (AddsTokens out.old out.new (json_tokens (outline (mention_tree form (row rec.now, action))))) }
 {
     match form {
         Form::Full => put_full(out, rec, action),

@@ -3,7 +3,7 @@ ghost use Rattle.std.specs.Prelude.{◌≡◌, IfErr, IfOk};
 ghost use Rattle.disco_values.specs.declared.fault.Fault.TheVariants.{OutOfMemory};
 ghost use Rattle.disco_history.specs.Held.{entry_of};
 ghost use Rattle.disco_documents.specs.Rows.{held_entries};
-ghost use Rattle.disco_writer.specs.Joined.{AreTold, IsTold, bytes_of, shown_by, shown_one, told_by, told_one};
+ghost use Rattle.disco_writer.specs.Joined.{AreJoinedTexts, IsJoinedText, bytes_of, shown_by, shown_one, texts_by, told_one};
 
 use crate::instance::write_text;
 use crate::texts::Texts;
@@ -43,7 +43,7 @@ fn source_of<'t>(
     held: &'t Held,
 ) -> Result<Source<'t>, Fault>
     ensures source { IfOk result (λ s. bytes_of s ≡ (told_one form texts.now (entry_of held.now)).1) }
-    ensures told { IfOk result (λ s. IsTold form texts.now (entry_of held.now)) }
+    ensures told { IfOk result (λ s. IsJoinedText form texts.now (entry_of held.now)) }
     ensures memory { IfErr result (λ e. e ≡ OutOfMemory) }
 {
     match texts.get(&held.rec.key) {
@@ -60,7 +60,7 @@ pub(crate) fn piece_of<'t>(
     held: &'t Held,
 ) -> Result<Piece<'t>, Fault>
     ensures piece { IfOk result (λ p. shown_one p ≡ told_one form texts.now (entry_of held.now)) }
-    ensures told { IfOk result (λ p. IsTold form texts.now (entry_of held.now)) }
+    ensures told { IfOk result (λ p. IsJoinedText form texts.now (entry_of held.now)) }
     ensures memory { IfErr result (λ e. e ≡ OutOfMemory) }
 {
     Ok(Piece {
@@ -76,8 +76,8 @@ pub(crate) fn pieces_of<'t>(
     texts: &'t Texts,
     held: &'t [Held],
 ) -> Result<Vec<Piece<'t>>, Fault>
-    ensures pieces { IfOk result (λ v. shown_by v.items ≡ told_by form texts.now (held_entries held.now)) }
-    ensures told { IfOk result (λ v. AreTold form texts.now (held_entries held.now)) }
+    ensures pieces { IfOk result (λ v. shown_by v.items ≡ texts_by form texts.now (held_entries held.now)) }
+    ensures told { IfOk result (λ v. AreJoinedTexts form texts.now (held_entries held.now)) }
     ensures memory { IfErr result (λ e. e ≡ OutOfMemory) }
 {
     let mut list = Vec::with_capacity(alloc, held.len())?;

@@ -4,7 +4,7 @@ ghost use Rattle.disco_values.specs.declared.fault.Fault.TheVariants.{OutOfMemor
 ghost use Rattle.disco_values.specs.declared.key.Key.{Key};
 ghost use Rattle.std.specs.FinMap.{entries};
 ghost use Rattle.disco_writer.specs.Joined.{shown_by, walked};
-ghost use Rattle.disco_writer.specs.Kept.{HasNoEmpty, IsReadyFor, IsSameTexts, Sets, none_kept, text_at};
+ghost use Rattle.disco_writer.specs.Kept.{HasNoEmpty, IsReadyFor, IsSameTexts, SetsText, none_kept, kept_text_at};
 
 use crate::piece::Piece;
 use crate::places::{make, pieces_in, sweep, text_at};
@@ -48,7 +48,7 @@ impl Texts {
 
     /// The text under a key.
     pub fn get(&self, key: &Key) -> Option<&[u8]>
-        ensures { option_map (λ t. t.now) result ≡ text_at self.now key.now }
+        ensures { option_map (λ t. t.now) result ≡ kept_text_at self.now key.now }
     {
         text_at(&self.places, key)
     }
@@ -89,7 +89,7 @@ impl Texts {
 
     /// Puts the text that `ready` was given. Takes no memory.
     pub fn put(&mut self)
-        ensures put { (k : Key) (t : List ℕ) → IsReadyFor self.old k t → Sets k (Some t) self.old self.new }
+        ensures put { (k : Key) (t : List ℕ) → IsReadyFor self.old k t → SetsText k (Some t) self.old self.new }
         ensures none_empty { HasNoEmpty self.new.places }
     {
         if let Some((key, text)) = self.next.take() {
@@ -99,7 +99,7 @@ impl Texts {
 
     /// Takes the text of a key out, with its place. Takes no memory.
     pub fn take(&mut self, key: &Key)
-        ensures { Sets key.now None self.old self.new }
+        ensures { SetsText key.now None self.old self.new }
     {
         self.places.close(key);
     }

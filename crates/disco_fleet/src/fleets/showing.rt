@@ -1,6 +1,6 @@
 //! What a fleet came to.
 ghost use Rattle.std.specs.Prelude.{◌≡◌, ◌↔◌, IsTrue, codes, if◌then◌else◌};
-ghost use Rattle.disco_fleet.specs.Fleets.{IsExact};
+ghost use Rattle.disco_fleet.specs.Fleets.{IsRegistryCopy};
 ghost use Rattle.disco_reconcile.specs.State.{copy_of};
 
 use disco_client::Copy;
@@ -35,7 +35,7 @@ fn copy_of<J: Naming, R: Wait>(
 
 /// Whether a client's copy has exactly the records of the registry. No copy hasn't.
 fn is_exact<F: Fetch>(client: &Client<F>, registry: &Copy) -> bool
-    ensures { IsTrue result ↔ IsExact (copy_of client.now.kept) registry.now }
+    ensures { IsTrue result ↔ IsRegistryCopy (copy_of client.now.kept) registry.now }
 {
     match client.copy() {
         Some(copy) => are_same(copy.records(), registry.records()),

@@ -2,16 +2,16 @@ use Rattle.std.proofs.Common.{◌≡◌, MatchResult, subst}
 use Rattle.disco_message.specs.ReplyText.{answer_of}
 use Rattle.disco_message.specs.declared.status_line.StatusLine.{StatusLine}
 use Rattle.disco_registry.specs.Op.{ask_of}
-use Rattle.disco_answers.specs.Replies.{plain, refused, text_in}
+use Rattle.disco_answers.specs.Replies.{plain, refusal_answer, shared_text}
 use Rattle.disco_answers.proofs.Answering.{changes_by, written}
 use Rattle.disco_answers.proofs.Noting.{counts, counts_too, notes}
 use Rattle.disco_answers.proofs.desk.write.Goals as goal
 
 pub returns-clause-answered : goal.returns-clause-answered
 returns-clause-answered g c =
-    let y = answer_of text_in c.wrote.result in
+    let y = answer_of shared_text c.wrote.result in
     let w = c.write_as.ensures in
-    let shown = subst (λ (success : StatusLine). MatchResult c.write_as.result (λ a. y ≡ plain success) (λ e. y ≡ refused e)) c.success_of-success.ensures c.wrote.ensures in
+    let shown = subst (λ (success : StatusLine). MatchResult c.write_as.result (λ a. y ≡ plain success) (λ e. y ≡ refusal_answer e)) c.success_of-success.ensures c.wrote.ensures in
     record {
       changes = changes_by c.write_as.result;
       noted = notes c.args.desk.now c.write_as.new.self c.write_as.result w.noted w.not_noted;

@@ -4,15 +4,15 @@ use Rattle.std.specs.declared.alloc.Global.{Global}
 use Rattle.std.specs.declared.sync.Arc.{Arc}
 use Rattle.disco_history.proofs.SortedBy.{found, absent}
 use Rattle.disco_query.specs.Keys.{doc_cmp}
-use Rattle.disco_cache.specs.Kept.{key_in, shown}
+use Rattle.disco_cache.specs.Kept.{doc_key, payload_in}
 use Rattle.disco_cache.specs.declared.payload.Payload.{Payload}
 use Rattle.disco_query.proofs.Orders.{docs_total, exact_docs}
 use Rattle.disco_cache.proofs.cache.place.Goals as goal
 
 pub returns-clause-found : goal.returns-clause-found
-returns-clause-found c = found docs_total exact_docs key_in shown c.args.docs.now c.args.key.now c.binary_search_by.result c.requires c.binary_search_by.ensures.bound
+returns-clause-found c = found docs_total exact_docs doc_key payload_in c.args.docs.now c.args.key.now c.binary_search_by.result c.requires c.binary_search_by.ensures.bound
     (c.binary_search_by.ensures.position (λ (d : Arc Payload Global). doc_cmp d.value.key c.args.key.now) (always_returns_same _ _ _ (λ a r f k. search (rules, of_calls))))
 
 pub returns-clause-absent : goal.returns-clause-absent
-returns-clause-absent c = absent docs_total exact_docs key_in shown c.args.docs.now c.args.key.now c.binary_search_by.result c.requires c.binary_search_by.ensures.bound
+returns-clause-absent c = absent docs_total exact_docs doc_key payload_in c.args.docs.now c.args.key.now c.binary_search_by.result c.requires c.binary_search_by.ensures.bound
     (c.binary_search_by.ensures.position (λ (d : Arc Payload Global). doc_cmp d.value.key c.args.key.now) (always_returns_same _ _ _ (λ a r f k. search (rules, of_calls))))

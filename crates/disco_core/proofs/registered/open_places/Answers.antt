@@ -1,4 +1,4 @@
-use Rattle.disco_history.specs.Change.{key_of, seen}
+use Rattle.disco_history.specs.Change.{key_of, change_view}
 use Rattle.disco_history.specs.Registry.{put_of}
 use Rattle.std.proofs.lemmas.Result.{on_err_weaker}
 use Rattle.disco_core.proofs.Following.{opens_none}
@@ -7,7 +7,7 @@ use Rattle.disco_core.proofs.registered.open_places.Goals as goal
 
 pub returns-then-is_err-clause-given_back : goal.returns-then-is_err-clause-given_back
 returns-then-is_err-clause-given_back c =
-    let e = seen c.in-Some.change.now in
+    let e = change_view c.in-Some.change.now in
     let made = c.open_all-opened in
     let swept = c.sweep_all in
     on_err_weaker made.result (λ same. (

@@ -2,15 +2,15 @@ use Rattle.std.proofs.Common.{List, ◌∙◌, sym, ap, subst}
 use Rattle.scroll.specs.declared.Leaf.{Leaf}
 use Rattle.disco_rounds.specs.Press.{Note}
 use Rattle.disco_editions.specs.Editions.{IsEditionOf}
-use Rattle.disco_editions.specs.Rolls.{publications}
-use Rattle.disco_editions.specs.declared.mark.Mark.{Mark}
-use Rattle.disco_editions.specs.declared.shown.Shown.{Shown}
+use Rattle.disco_editions.specs.Logs.{publications}
+use Rattle.disco_editions.specs.declared.entry.LogEntry.{LogEntry}
+use Rattle.disco_editions.specs.declared.snapshot.Snapshot.{Snapshot}
 use Rattle.disco_editions.proofs.Shows.{shows}
 use Rattle.disco_editions.proofs.looking.look_in.Goals as goal
 
 pub returns-in-Ok : goal.returns-in-Ok
 returns-in-Ok g c =
     let shown = c.get-shown.result.now in
-    let is = subst (λ (x : Shown). IsEditionOf (publications x.page.leaf.items) x.docs) (sym c.get-shown.ensures) c.in-Ok.ensures.1.1 in
-    let front = c.of-front.ensures ∙ ap (λ (l : Leaf Mark). publications l.items) c.again.ensures in
-    shows c.args.key.now c.of-front.result shown.docs c.find-looked.result (subst (λ (ps : List (List Note)). IsEditionOf ps shown.docs) (sym front) is) c.find-looked.ensures
+    let is = subst (λ (x : Snapshot). IsEditionOf (publications x.prefix.leaf.items) x.docs) (sym c.get-shown.ensures) c.in-Ok.ensures.1.1 in
+    let published = c.of-published.ensures ∙ ap (λ (l : Leaf LogEntry). publications l.items) c.again.ensures in
+    shows c.args.key.now c.of-published.result shown.docs c.find-looked.result (subst (λ (ps : List (List Note)). IsEditionOf ps shown.docs) (sym published) is) c.find-looked.ensures

@@ -1,7 +1,7 @@
 use Rattle.std.proofs.Common.{map}
 use Rattle.std.specs.Prelude.{string_bytes}
 use Rattle.disco_options.specs.Options.{faults_of}
-use Rattle.disco_options.specs.declared.verb.Verb.TheVariants.{Fleet}
+use Rattle.disco_options.specs.declared.subcommand.Subcommand.TheVariants.{Fleet}
 use Rattle.disco_fleet.specs.Fleets.{ask_for_no_run, faults_of_restart}
 use Rattle.disco_fleet.proofs.Restarts.{carried_out, refused_words}
 use Rattle.disco_fleet.proofs.fleets.fleet.Goals as goal

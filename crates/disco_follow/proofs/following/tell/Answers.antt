@@ -1,5 +1,5 @@
 use Rattle.std.proofs.Common.{◌≡◌, ◌∙◌, ℕ, None, Result, Ok, Err, OnOk, ap, subst}
-use Rattle.disco_reconcile.specs.State.{State}
+use Rattle.disco_reconcile.specs.State.{ClientState}
 use Rattle.disco_reconcile.specs.declared.kept.Kept.TheVariants.{Certified}
 use Rattle.disco_telling.specs.Following.{Follows, turns_of}
 use Rattle.disco_values.specs.declared.form.Form.{Form}
@@ -11,7 +11,7 @@ ok_then (Ok a) P Q f p = f p
 ok_then (Err e) P Q f p = p
 
 -- a certified client without a copy, of whose fetcher the failures are known
-abbrev begun : ℕ → Form → State ℕ
+abbrev begun : ℕ → Form → ClientState ℕ
 begun failures form = record { fetcher = failures; form = form; kept = Certified None }
 
 pub returns : goal.returns
@@ -22,6 +22,6 @@ returns g c =
     ok_then c.follow_client.result _ _
     (λ turns. (
       c.follow_client.new.client,
-      subst (λ (s : State ℕ). Follows (λ _ _ _ _. Unit {0}) (λ l. l) c.args.vip.now (turns_of c.args.plan.now.times) s c.follow_client.new.client (out c.args.out.now) (out c.follow_client.new.out)) first turns,
+      subst (λ (s : ClientState ℕ). Follows (λ _ _ _ _. Unit {0}) (λ l. l) c.args.vip.now (turns_of c.args.plan.now.times) s c.follow_client.new.client (out c.args.out.now) (out c.follow_client.new.out)) first turns,
     ))
     c.follow_client.ensures.turns

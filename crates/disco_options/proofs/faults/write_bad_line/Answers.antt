@@ -1,15 +1,15 @@
 use Rattle.std.proofs.Common.{ℕ, List, ◌≡◌, ◌++◌, ◌∙◌, Option, Result, ap, append_assoc, codes, subst, sym}
 use Rattle.std.proofs.lemmas.Result.{err_from_is_err_and}
 use Rattle.std.specs.Fmt.{decimal}
-use Rattle.disco_streams.specs.Writes.{Writes}
+use Rattle.disco_streams.specs.Writes.{WritesBytes}
 use Rattle.disco_streams.proofs.Written.{not_written, then_written}
 use Rattle.disco_options.proofs.faults.write_bad_line.Goals as goal
 
 apart : (x l n f : List ℕ) → x ++ (l ++ n ++ f) ≡ x ++ l ++ n ++ f
 apart x l n f = sym (append_assoc (x ++ l) n f ∙ append_assoc x l (n ++ f) ∙ ap (λ z. x ++ z) (sym (append_assoc l n f)))
 
-whole : {A E : Type 0} (r : Result A E) (a b : Option (List ℕ)) (i j : ℕ) (x l n f : List ℕ) → Writes a b i j r (x ++ (l ++ n ++ f)) → Writes a b i j r (x ++ l ++ n ++ f)
-whole r a b i j x l n f h = subst (Writes a b i j r) (apart x l n f) h
+whole : {A E : Type 0} (r : Result A E) (a b : Option (List ℕ)) (i j : ℕ) (x l n f : List ℕ) → WritesBytes a b i j r (x ++ (l ++ n ++ f)) → WritesBytes a b i j r (x ++ l ++ n ++ f)
+whole r a b i j x l n f h = subst (WritesBytes a b i j r) (apart x l n f) h
 
 pub returns-in_err-write_number : goal.returns-in_err-write_number
 returns-in_err-write_number g c =

@@ -9,7 +9,7 @@ one P s is (suc k) d lt = absurd (omega (arith, lt))
 
 pub loop-preserved : goal.loop-preserved
 loop-preserved g c =
-    let P : SeatState → Type 0 = λ s. IsNew c.args.roll.now.published s in (
+    let P : SeatState → Type 0 = λ s. IsNew c.args.log.now.published s in (
       omega (arith, c.in_ok-seat.ensures.rest.0, c.loop.invariant.0),
       c.in_ok-seat.ensures.rest.1,
       c.in_ok-push.ensures.len ∙ ap (λ n. n + 1) c.loop.invariant.2,

@@ -7,4 +7,4 @@ invariant-loop g l =
     (l.rest.parts + l.counter ≡ l.fn.rest.parts)
     × (l.rest.amount ≡ 0)
     × (vec_len l.seats ≡ l.counter)
-    × All (λ s. IsNew l.fn.roll.published s) l.seats.items
+    × All (λ s. IsNew l.fn.log.published s) l.seats.items

@@ -1,5 +1,5 @@
 use Rattle.std.proofs.Common.{Ok, Some, ap}
-use Rattle.disco_reconcile.specs.Courses.{outcome, plain_full}
+use Rattle.disco_reconcile.specs.Courses.{outcome_of, plain_full}
 use Rattle.disco_reconcile.proofs.Steps.{asked_many, full_refused, full_taken, full_unfound}
 use Rattle.disco_reconcile.proofs.plain.take_full.Goals as goal
 
@@ -13,4 +13,4 @@ returns-in_err-full-in-Some g c =
 
 pub returns-in_ok-full-in-Some : goal.returns-in_ok-full-in-Some
 returns-in_ok-full-in-Some g c =
-    full_taken _ _ _ _ plain_full _ _ _ (rw c.in-Some.is at c.in_ok-document.ensures) _ _ (ap (λ s. outcome (Ok c.args.done) (Some s)) c.in_ok-full-in-Some.ensures.copied)
+    full_taken _ _ _ _ plain_full _ _ _ (rw c.in-Some.is at c.in_ok-document.ensures) _ _ (ap (λ s. outcome_of (Ok c.args.done) (Some s)) c.in_ok-full-in-Some.ensures.copied)

@@ -4,7 +4,7 @@ use Rattle.std.specs.FinMap.{insert, len}
 use Rattle.disco_history.proofs.SortedBy.{len_of}
 use Rattle.disco_query.proofs.Orders.{docs_total, exact_docs}
 use Rattle.disco_rounds.specs.Rounds.{KeySet}
-use Rattle.disco_rounds.specs.Stored.{key_in, mark, seen_keys}
+use Rattle.disco_rounds.specs.Stored.{stored_key, mark, seen_keys}
 use Rattle.disco_rounds.proofs.keys.add.Goals as goal
 
 added : (b : Bool) (ks js : KeySet) → b ≡ true → cond b js ks ≡ js
@@ -25,12 +25,12 @@ not_less m n le = decided (nat_lt m n) (λ e. omega (arith, ltb-true m n e, le))
 pub returns-in_ok-put-clause-keys : goal.returns-in_ok-put-clause-keys
 returns-in_ok-put-clause-keys c =
     let ks = seen_keys c.args.keys.now.items in
-    let many = len_of docs_total exact_docs key_in mark c.args.keys.now.items c.requires in
+    let many = len_of docs_total exact_docs stored_key mark c.args.keys.now.items c.requires in
     c.in_ok-put.ensures.keys
     ∙ sym (added (nat_lt (len ks) c.args.most) ks (insert ks c.args.key.now tt) (ap (λ n. nat_lt n c.args.most) (many ∙ sym (c.len.ensures ∙ c.args.keys.now.ok.0)) ∙ lt-ltb c.len.result c.args.most c.if-len-most.true))
 
 pub returns-else-len-most-clause-keys : goal.returns-else-len-most-clause-keys
 returns-else-len-most-clause-keys c =
     let ks = seen_keys c.args.keys.now.items in
-    let many = len_of docs_total exact_docs key_in mark c.args.keys.now.items c.requires in
+    let many = len_of docs_total exact_docs stored_key mark c.args.keys.now.items c.requires in
     sym (not_added (nat_lt (len ks) c.args.most) ks (insert ks c.args.key.now tt) (ap (λ n. nat_lt n c.args.most) (many ∙ sym (c.len.ensures ∙ c.args.keys.now.ok.0)) ∙ not_less c.len.result c.args.most c.if-len-most.false))

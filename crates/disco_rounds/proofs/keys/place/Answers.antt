@@ -4,13 +4,13 @@ use Rattle.disco_history.proofs.SortedBy.{found, absent}
 use Rattle.disco_query.specs.Keys.{doc_cmp}
 use Rattle.disco_query.specs.declared.key.DocKey.{DocKey}
 use Rattle.disco_query.proofs.Orders.{docs_total, exact_docs}
-use Rattle.disco_rounds.specs.Stored.{key_in, mark}
+use Rattle.disco_rounds.specs.Stored.{stored_key, mark}
 use Rattle.disco_rounds.proofs.keys.place.Goals as goal
 
 pub returns-clause-found : goal.returns-clause-found
-returns-clause-found c = found docs_total exact_docs key_in mark c.args.keys.now c.args.key.now c.binary_search_by.result c.requires c.binary_search_by.ensures.bound
+returns-clause-found c = found docs_total exact_docs stored_key mark c.args.keys.now c.args.key.now c.binary_search_by.result c.requires c.binary_search_by.ensures.bound
     (c.binary_search_by.ensures.position (λ (k : Bor DocKey). doc_cmp k.now c.args.key.now) (always_returns_same _ _ _ (λ a r f k. search (rules, of_calls))))
 
 pub returns-clause-absent : goal.returns-clause-absent
-returns-clause-absent c = absent docs_total exact_docs key_in mark c.args.keys.now c.args.key.now c.binary_search_by.result c.requires c.binary_search_by.ensures.bound
+returns-clause-absent c = absent docs_total exact_docs stored_key mark c.args.keys.now c.args.key.now c.binary_search_by.result c.requires c.binary_search_by.ensures.bound
     (c.binary_search_by.ensures.position (λ (k : Bor DocKey). doc_cmp k.now c.args.key.now) (always_returns_same _ _ _ (λ a r f k. search (rules, of_calls))))

@@ -2,5 +2,5 @@ use Rattle.std.proofs.Common.{◌∙◌}
 use Rattle.disco_world.proofs.Shown.{shown_of}
 use Rattle.disco_world.proofs.clients.held_in.Goals as goal
 
-pub returns-clause-holdings : goal.returns-clause-holdings
-returns-clause-holdings c = c.from_vec.ensures ∙ c.in_ok-holdings.ensures.holdings ∙ shown_of c.records.result.now c.args.copy.now c.records.ensures
+pub returns-clause-listed : goal.returns-clause-listed
+returns-clause-listed c = c.from_vec.ensures ∙ c.in_ok-listed.ensures.listed ∙ shown_of c.records.result.now c.args.copy.now c.records.ensures

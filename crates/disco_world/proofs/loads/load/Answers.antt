@@ -4,7 +4,7 @@ use Rattle.disco_query.specs.declared.key.DocKey.{DocKey}
 use Rattle.disco_query.specs.declared.query.Query.{Query}
 use Rattle.disco_hub.specs.State.{rules_of}
 use Rattle.disco_world.specs.Events.{loaded, loads, query_asked}
-use Rattle.disco_world.specs.Steps.{Does, reply_of}
+use Rattle.disco_world.specs.Steps.{Performs, reply_of}
 use Rattle.disco_world.specs.declared.event.Reply.{Reply}
 use Rattle.disco_world.proofs.Writes.{loads_so}
 use Rattle.disco_world.proofs.loads.load.Goals as goal
@@ -14,5 +14,5 @@ returns-in-Ok-clause-does c =
     let old = c.args.hub.now in
     let k : DocKey = record { query = c.in-Ok.query; form = c.args.key.now.form } in
     let so = loads_so old c.load.new.self k c.load.result c.load.ensures.served c.load.ensures.refused c.load.ensures.loads c.load.ensures.as_before in
-    let of_key = subst (λ (q : Query). Does old c.load.new.self (λ w. loads (loaded (rules_of old).delta (record { query = q; form = c.args.key.now.form }) (history w.past))) (reply_of c.load.result)) c.in-Ok.ensures.query so in
-    subst (λ (r : Reply). Does old c.load.new.self (λ w. loads (loaded (rules_of old).delta (record { query = query_asked c.args.key.now.query; form = c.args.key.now.form }) (history w.past))) r) (sym c.served.ensures) of_key
+    let of_key = subst (λ (q : Query). Performs old c.load.new.self (λ w. loads (loaded (rules_of old).delta (record { query = q; form = c.args.key.now.form }) (history w.past))) (reply_of c.load.result)) c.in-Ok.ensures.query so in
+    subst (λ (r : Reply). Performs old c.load.new.self (λ w. loads (loaded (rules_of old).delta (record { query = query_asked c.args.key.now.query; form = c.args.key.now.form }) (history w.past))) r) (sym c.served.ensures) of_key

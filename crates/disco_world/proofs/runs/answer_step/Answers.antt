@@ -54,14 +54,14 @@ returns-in-Show-clause-does c = λ w held levels.
     let s = c.args.levels.now in
     let what = shows c.in-Show.client in
     rw (c.in-Show.is, c.showed.ensures) (with_turn s s (holders c.args.clients.now) w what (reply_to_show c.show.result) refl refl held
-    (showed (rules_of s.hub) w (holders c.args.clients.now) held c.in-Show.client c.show.result c.show.ensures.holdings c.show.ensures.memory, quiet_turns s s w levels refl what (reply_to_show c.show.result) refl refl, refl))
+    (showed (rules_of s.hub) w (holders c.args.clients.now) held c.in-Show.client c.show.result c.show.ensures.listed c.show.ensures.memory, quiet_turns s s w levels refl what (reply_to_show c.show.result) refl refl, refl))
 
 pub returns-in-ShowCertified-clause-does : goal.returns-in-ShowCertified-clause-does
 returns-in-ShowCertified-clause-does c = λ w held levels.
     let s = c.args.levels.now in
     let what = shows_certified c.in-ShowCertified.client in
     rw (c.in-ShowCertified.is, c.showed-in-ShowCertified.ensures) (with_turn s s (holders c.args.clients.now) w what (reply_to_show c.show_certified.result) refl refl held
-    (showed_certified (rules_of s.hub) w (holders c.args.clients.now) held c.in-ShowCertified.client c.show_certified.result c.show_certified.ensures.holdings c.show_certified.ensures.memory, quiet_turns s s w levels refl what (reply_to_show c.show_certified.result) refl refl, refl))
+    (showed_certified (rules_of s.hub) w (holders c.args.clients.now) held c.in-ShowCertified.client c.show_certified.result c.show_certified.ensures.listed c.show_certified.ensures.memory, quiet_turns s s w levels refl what (reply_to_show c.show_certified.result) refl refl, refl))
 
 pub returns-in-Restart-clause-does : goal.returns-in-Restart-clause-does
 returns-in-Restart-clause-does c = λ w held levels.

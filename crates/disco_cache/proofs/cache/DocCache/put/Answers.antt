@@ -2,7 +2,7 @@ use Rattle.std.proofs.Common.{ap, ◌∙◌}
 use Rattle.std.specs.FinMap as map
 use Rattle.disco_history.proofs.SortedBy.{inserted_at}
 use Rattle.disco_cache.specs.Docs.{Docs}
-use Rattle.disco_cache.specs.Kept.{key_in, shown}
+use Rattle.disco_cache.specs.Kept.{doc_key, payload_in}
 use Rattle.disco_query.proofs.Orders.{docs_total, exact_docs}
 use Rattle.disco_cache.proofs.Puts.{has_place, has_room, is_put, stays_sorted}
 use Rattle.disco_cache.proofs.cache.DocCache.put.Goals as goal
@@ -10,7 +10,7 @@ use Rattle.disco_cache.proofs.cache.DocCache.put.Goals as goal
 pub invariant_of-self : goal.invariant_of-self
 invariant_of-self c =
     let at = rw (c.deref.ensures.value, c.deref-2.ensures) at c.in-Ok.ensures.found in
-    (inserted_at docs_total exact_docs key_in shown c.self.inside.docs.items c.in-Ok.i c.args.doc c.self.invariant at).0
+    (inserted_at docs_total exact_docs doc_key payload_in c.self.inside.docs.items c.in-Ok.i c.args.doc c.self.invariant at).0
 
 pub returns-in-Ok-clause-room : goal.returns-in-Ok-clause-room
 returns-in-Ok-clause-room c =
@@ -20,7 +20,7 @@ returns-in-Ok-clause-room c =
 pub returns-in-Ok-clause-docs : goal.returns-in-Ok-clause-docs
 returns-in-Ok-clause-docs c =
     let at = rw (c.deref.ensures.value, c.deref-2.ensures) at c.in-Ok.ensures.found in
-    (inserted_at docs_total exact_docs key_in shown c.self.inside.docs.items c.in-Ok.i c.args.doc c.self.invariant at).1
+    (inserted_at docs_total exact_docs doc_key payload_in c.self.inside.docs.items c.in-Ok.i c.args.doc c.self.invariant at).1
     ∙ ap (λ (d : Docs). map.insert d.docs c.args.doc.value.key c.args.doc.value) c.self.view_is
 
 pub invariant_of-self-in-Err : goal.invariant_of-self-in-Err

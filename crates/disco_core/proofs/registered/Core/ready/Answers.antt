@@ -1,7 +1,7 @@
 use Rattle.std.proofs.Common.{◌≡◌, refl, subst}
 use Rattle.disco_index.specs.Vips as vips
 use Rattle.disco_lease.specs.Leases as leases
-use Rattle.disco_core.specs.State.{State}
+use Rattle.disco_core.specs.State.{CoreState}
 use Rattle.disco_core.specs.Written.{OpensNoText}
 use Rattle.disco_core.proofs.Marks.{on_err}
 use Rattle.disco_core.proofs.Ties.{same_from, tied_same}
@@ -45,4 +45,4 @@ pub returns-in_err-open_places-clause-given_back :
     goal.returns-in_err-open_places-clause-given_back
 returns-in_err-open_places-clause-given_back c =
     on_err c.from_residual-in_err-open_places.result _
-    (subst (λ (s : State). vips.KeepsPlaces c.open_places.new.index s.vips × leases.KeepsPlaces c.open_places.new.book s.leases × OpensNoText s.texts c.open_places.new.texts × (c.open_places.new.queue.places ≡ s.queue.places)) c.self.view_is c.in_err-open_places.ensures.given_back)
+    (subst (λ (s : CoreState). vips.KeepsVipPlaces c.open_places.new.index s.vips × leases.KeepsPlaces c.open_places.new.book s.leases × OpensNoText s.texts c.open_places.new.texts × (c.open_places.new.queue.places ≡ s.queue.places)) c.self.view_is c.in_err-open_places.ensures.given_back)

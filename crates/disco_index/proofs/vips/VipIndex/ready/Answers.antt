@@ -1,6 +1,6 @@
 use Rattle.std.proofs.Common.{[], ◌∷◌, rules, ◌∙◌}
 use Rattle.disco_history.specs.Query.{vips}
-use Rattle.disco_index.specs.Places.{opened}
+use Rattle.disco_index.specs.Places.{opened_vip}
 use Rattle.disco_index.proofs.Alterings.{among-rest, left-step, others-step, opened-twice, opens_keeps, opens_same}
 use Rattle.disco_index.proofs.vips.VipIndex.ready.Goals as goal
 
@@ -12,7 +12,7 @@ loop-vip-preserved c =
     let next = c.open.new.self in
     let all = vips c.args.rec.now.vip_address in (
       search rules,
-      left-step opened opened-twice (vips c.args.rec.now.vip_address) k c.args.self.now c.in-Some.vip.now (vips c.loop-vip.rest.now) (vips c.in-Some.after.now) here next
+      left-step opened_vip opened-twice (vips c.args.rec.now.vip_address) k c.args.self.now c.in-Some.vip.now (vips c.loop-vip.rest.now) (vips c.in-Some.after.now) here next
           c.in-Some.ensures c.in_ok-open.ensures.ok c.loop-vip.invariant.1,
       λ q p. opens_same one k here next c.in_ok-open.ensures.ok q p ∙ c.loop-vip.invariant.2 q p,
       λ q p some. opens_keeps one k here next c.in_ok-open.ensures.ok q p (c.loop-vip.invariant.3 q p some),

@@ -7,4 +7,4 @@ pub invariant_of-self : goal.invariant_of-self
 invariant_of-self g c =
     let i = c.self.inside in
     let k = c.self.invariant in
-    quiet_kept i.printer i.roll i.hub c.clean.new.self i.next i.next _ k (cleaned _ k.past c.args.now) refl refl (c.clean.ensures.history k.past k.levels.stands) c.clean.ensures.rest.rounds refl
+    quiet_kept i.snapshots i.log i.hub c.clean.new.self i.next i.next _ k (cleaned _ k.past c.args.now) refl refl (c.clean.ensures.history k.past k.levels.stands) c.clean.ensures.rest.rounds refl

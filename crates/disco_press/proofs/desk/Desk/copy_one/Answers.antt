@@ -6,4 +6,4 @@ invariant_of-self-2 g c =
     let i = c.self.inside in
     let one = rw c.in-Some.is at c.in_ok-copied.ensures.copied in
     let put = rw c.in-Some.is at c.in_ok-copied.ensures.put in
-    copied_kept i.printer i.roll i.hub c.copy_into.new.self i.next c.copy_into.new.next _ c.self.invariant c.copy.new.self c.in-Some.copied one put c.copy.ensures.noted
+    copied_kept i.snapshots i.log i.hub c.copy_into.new.self i.next c.copy_into.new.next _ c.self.invariant c.copy.new.self c.in-Some.copied one put c.copy.ensures.noted

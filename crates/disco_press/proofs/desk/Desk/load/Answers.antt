@@ -7,5 +7,5 @@ pub invariant_of-self : goal.invariant_of-self
 invariant_of-self g c =
     let i = c.self.inside in
     let k = c.self.invariant in
-    quiet_kept i.printer i.roll i.hub c.load.new.self i.next i.next _ k (k.past) refl refl (loaded_stands i.hub c.load.new.self c.args.key.now c.load.result c.load.ensures.loads c.load.ensures.as_before k.past k.levels.stands)
+    quiet_kept i.snapshots i.log i.hub c.load.new.self i.next i.next _ k (k.past) refl refl (loaded_stands i.hub c.load.new.self c.args.key.now c.load.result c.load.ensures.loads c.load.ensures.as_before k.past k.levels.stands)
     (loaded_rest i.hub c.load.new.self c.args.key.now c.load.result c.load.ensures.loads c.load.ensures.as_before).rounds refl

@@ -5,4 +5,4 @@ use Rattle.disco_press.proofs.desk.Desk.new.Goals as goal
 pub invariant_of-result : goal.invariant_of-result
 invariant_of-result g c =
     let a = c.args in
-    new_kept a.settings.now.run a.printer a.roll c.new.result c.new-2.result (a.book.total + 0) c.requires.printer c.requires.roll.0 c.requires.roll.1 c.new.ensures.stands c.new.ensures.rounds (omega (arith, c.requires.book))
+    new_kept a.settings.now.run a.snapshots a.log c.new.result c.new-2.result (a.book.total + 0) c.requires.snapshots c.requires.log.0 c.requires.log.1 c.new.ensures.stands c.new.ensures.rounds (omega (arith, c.requires.book))

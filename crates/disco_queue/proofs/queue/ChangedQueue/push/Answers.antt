@@ -4,10 +4,10 @@ use Rattle.std.specs.VecDeque.{deque_len}
 use borrow.Author.Tests.{leb-true, leb-false}
 use Rattle.std.proofs.lemmas.List.{drop-map, length-map, map-append}
 use Rattle.disco_values.specs.declared.key.Key.{Key}
-use Rattle.disco_history.specs.Change.{Entry, key_of, seen}
+use Rattle.disco_history.specs.Change.{Entry, key_of, change_view}
 use Rattle.disco_history.specs.Slots.{AltersAt, written}
 use Rattle.disco_queue.specs.Numbers.{AreNumbered}
-use Rattle.disco_queue.specs.Queue.{Keeps, Queue, version}
+use Rattle.disco_queue.specs.Queue.{KeepsHistory, Queue, version}
 use Rattle.disco_queue.specs.Seen.{change_of, timed}
 use Rattle.disco_queue.specs.contracts.queue.ChangedQueue.{the_view}
 use Rattle.disco_queue.proofs.Histories.{keeps_dropped, keeps_pushed}
@@ -19,7 +19,7 @@ pub invariant_of-self : goal.invariant_of-self
 invariant_of-self c =
     let i = c.self.inside in
     let j = c.if-is_full.self-inside in
-    let x = seen c.args.change in
+    let x = change_view c.args.change in
     let here = map change_of i.kept.items in
     let number : c.version-number.result + 1 ≡ i.base + length here + 1 =
     omega (arith, c.version-number.ensures.sum, ap version c.self.view_is, length-map i.kept.items change_of, length-map i.kept.items timed) in
@@ -44,15 +44,15 @@ pub returns-clause-history : goal.returns-clause-history
 returns-clause-history c h keeps =
     let i = c.self.inside in
     let j = c.if-is_full.self-inside in
-    let before : Keeps (the_view i) h = subst (λ (q : Queue). Keeps q h) (sym c.self.view_is) keeps in
-    let between : Keeps (the_view j) h = elim c.if-is_full.branch [
+    let before : KeepsHistory (the_view i) h = subst (λ (q : Queue). KeepsHistory q h) (sym c.self.view_is) keeps in
+    let between : KeepsHistory (the_view j) h = elim c.if-is_full.branch [
       | then-is_full w ↦
           let full : c.args.self.now.max ≤ length c.args.self.now.kept = leb-true c.args.self.now.max (length c.args.self.now.kept) (sym w.if-is_full.ensures) in
           let some : 1 ≤ length (map timed i.kept.items) = omega (arith, full, c.self.invariant.0.some, ap (λ (q : Queue). q.max) c.self.view_is, ap (λ (q : Queue). length q.kept) c.self.view_is) in
           rw (w.self-inside-is) (keeps_dropped (the_view i) _ h 1 some w.drop_front.ensures.base (ap (map timed) w.drop_front.ensures.kept ∙ sym (drop-map timed 1 i.kept.items)) before)
       | else-is_full w ↦ rw (w.self-inside-is) (record { contents = before.contents; version = before.version })
     ] in
-    keeps_pushed (the_view j) _ h (seen c.args.change, c.args.now) refl (ap (map timed) c.push_back_reserved.ensures.items ∙ map-append timed j.kept.items _) between
+    keeps_pushed (the_view j) _ h (change_view c.args.change, c.args.now) refl (ap (map timed) c.push_back_reserved.ensures.items ∙ map-append timed j.kept.items _) between
 
 pub returns-clause-empty : goal.returns-clause-empty
 returns-clause-empty c =

@@ -1,6 +1,6 @@
 use Rattle.std.proofs.Common.{rules}
 use Rattle.disco_message.specs.Heading.{heading}
-use Rattle.disco_reader.specs.Requests.{Begins}
+use Rattle.disco_reader.specs.Requests.{BeginsWithHead}
 use Rattle.disco_reader.specs.declared.looking.Part.TheVariants as part
 use Rattle.disco_reader.specs.Parts.{PartRefused}
 use Rattle.disco_reader.specs.Streams.{unread}
@@ -14,7 +14,7 @@ returns-clause-head g c =
     let line = c.args.line.now in
     let found = c.requires.found in
     let here = request_here self.limits (unread self) self.spans.items line found.0 (unread_fits self) (search rules) c.requires.within.section.len_fits found.1 in
-    head_read (λ h. heading h) (Begins self.limits) (unread self) line.len found.0 here (g.R.Source.remaining self.source) _ (c.new.ensures.says found.0 (search rules))
+    head_read (λ h. heading h) (BeginsWithHead self.limits) (unread self) line.len found.0 here (g.R.Source.remaining self.source) _ (c.new.ensures.says found.0 (search rules))
 
 pub returns-clause-refused : goal.returns-clause-refused
 returns-clause-refused g c =
@@ -22,4 +22,4 @@ returns-clause-refused g c =
     let line = c.args.line.now in
     let found = c.requires.found in
     let here = request_here self.limits (unread self) self.spans.items line found.0 (unread_fits self) (search rules) c.requires.within.section.len_fits found.1 in
-    head_refused (λ h. heading h) (Begins self.limits) (unread self) line.len found.0 here (PartRefused self.limits part.RequestHead) (g.R.Source.remaining self.source) _ (c.new.ensures.says found.0 (search rules))
+    head_refused (λ h. heading h) (BeginsWithHead self.limits) (unread self) line.len found.0 here (PartRefused self.limits part.RequestHead) (g.R.Source.remaining self.source) _ (c.new.ensures.says found.0 (search rules))

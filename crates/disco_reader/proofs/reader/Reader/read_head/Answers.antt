@@ -1,7 +1,7 @@
 use Rattle.std.proofs.Common.{◌≡◌, rules, drop, sym}
 use Rattle.std.proofs.lemmas.Result.{err_from_is_err_and}
 use Rattle.disco_message.specs.Heading.{heading}
-use Rattle.disco_reader.specs.Requests.{Begins}
+use Rattle.disco_reader.specs.Requests.{BeginsWithHead}
 use Rattle.disco_reader.specs.Found.{HeadRefused}
 use Rattle.disco_reader.specs.Parts.{HasNo}
 use Rattle.disco_reader.specs.Streams.{unread, ahead}
@@ -17,7 +17,7 @@ returns-in_ok-head-in-Some-RequestHead-clause-head g c =
     let first = c.args.self.now in
     let limits : self.limits ≡ first.limits = search rules in
     let source : c.take.new.self.source ≡ self.source = search rules in
-    rw (sym limits, source) (read_on (λ h. heading h) (Begins self.limits) (ahead g.R.Source.remaining first) (ahead g.R.Source.remaining self) (drop c.in-Some-RequestHead.line.len (unread self)) (unread c.take.new.self) (g.R.Source.remaining self.source) c.in_ok-head-in-Some-RequestHead.head
+    rw (sym limits, source) (read_on (λ h. heading h) (BeginsWithHead self.limits) (ahead g.R.Source.remaining first) (ahead g.R.Source.remaining self) (drop c.in-Some-RequestHead.line.len (unread self)) (unread c.take.new.self) (g.R.Source.remaining self.source) c.in_ok-head-in-Some-RequestHead.head
     (search rules) (search rules) c.in_ok-head-in-Some-RequestHead.ensures.head)
 
 pub returns-in_err-head-in-Some-RequestHead-clause-refused : goal.returns-in_err-head-in-Some-RequestHead-clause-refused

@@ -4,7 +4,7 @@ use Rattle.disco_message.specs.Heading.{heading}
 use Rattle.disco_reader.specs.declared.looking.Part.TheVariants as part
 use Rattle.disco_reader.specs.Found.{HasNoBody, HeadRead, HeadRefused}
 use Rattle.disco_reader.specs.Bodies.{BodyRefused}
-use Rattle.disco_reader.specs.Requests.{Begins}
+use Rattle.disco_reader.specs.Requests.{BeginsWithHead}
 use Rattle.disco_reader.specs.Parts.{PartRefused}
 use Rattle.disco_reader.specs.Streams.{ahead, Came}
 use Rattle.disco_reader.proofs.Coming.{no_body_came}
@@ -17,7 +17,7 @@ returns-in_err-head-clause-refused g c =
     let limits = c.args.self.now.limits in
     let fault = c.in_err-head.field-0.0 in
     let refused : IfSome (ahead g.R.Source.remaining c.args.self.now) (HeadRefused limits fault) = search rules in
-    rw (p.1, p.2) (refused_head (λ h. heading h) (Begins limits) (PartRefused limits part.RequestHead) (λ says. BodyRefused limits says.framing) (λ says. no_memory limits says.framing) fault (ahead g.R.Source.remaining c.args.self.now) refused)
+    rw (p.1, p.2) (refused_head (λ h. heading h) (BeginsWithHead limits) (PartRefused limits part.RequestHead) (λ says. BodyRefused limits says.framing) (λ says. no_memory limits says.framing) fault (ahead g.R.Source.remaining c.args.self.now) refused)
 
 pub returns-in_err-body-clause-refused : goal.returns-in_err-body-clause-refused
 returns-in_err-body-clause-refused g c =
@@ -29,7 +29,7 @@ returns-in_err-body-clause-refused g c =
     let fault = c.in_err-body.field-0.0 in
     let found : IfSome first (λ stream. HeadRead limits stream says mid) = search rules in
     let refused : IfSome mid (BodyRefused limits says.framing fault) = search rules in
-    rw (p.1, p.2) (refused_body (λ h. heading h) (Begins limits) (PartRefused limits part.RequestHead) (λ says. BodyRefused limits says.framing) fault first mid says found refused)
+    rw (p.1, p.2) (refused_body (λ h. heading h) (BeginsWithHead limits) (PartRefused limits part.RequestHead) (λ says. BodyRefused limits says.framing) fault first mid says found refused)
 
 pub returns-in_err-body-clause-broken : goal.returns-in_err-body-clause-broken
 returns-in_err-body-clause-broken g c failed =

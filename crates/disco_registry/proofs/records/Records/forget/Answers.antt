@@ -2,7 +2,7 @@ use Rattle.std.proofs.Common.{◌≡◌, Some, Option, option_map, sym, ap, subs
 use Rattle.std.specs.FinMap.{remove}
 use Rattle.disco_history.specs.declared.held.Held.{Held}
 use Rattle.disco_instance.specs.declared.record.Record.{Record}
-use Rattle.disco_registry.specs.Records.{AreInPlace, Contents, key_in}
+use Rattle.disco_registry.specs.Records.{AreInPlace, Contents, key_of_held}
 use Rattle.disco_registry.proofs.Placing.{forgotten_shown, placed-forgotten}
 use Rattle.disco_registry.proofs.records.Records.forget.Goals as goal
 
@@ -19,4 +19,4 @@ returns-in-Some c =
     let next : c.self.inside.next ≡ Some c.in-Some.next = sym c.take.ensures.value ∙ c.in-Some.is in
     let placed = subst (λ (o : Option Held). AreInPlace p o c.self.inside.sought) next c.self.invariant in
     let shown = forgotten_shown p c.close.new.self c.in-Some.next c.self.inside.sought placed (c.close.ensures ∙ ap (λ (r : Record). remove p r.key) c.deref.ensures) ∙ ap (λ (s : Contents). s.held) c.self.view_is in
-    λ i. record { held = shown i; next = option_map key_in (c.take.ensures.after i) }
+    λ i. record { held = shown i; next = option_map key_of_held (c.take.ensures.after i) }

@@ -1,5 +1,5 @@
 use Rattle.std.proofs.Common.{None, ap, ◌∙◌}
-use Rattle.disco_registry.specs.Records.{mentions_in}
+use Rattle.disco_registry.specs.Records.{mentions_held}
 use Rattle.disco_registry.proofs.Placing.{none_shown, placed-new}
 use Rattle.disco_registry.proofs.records.Records.new.Goals as goal
 
@@ -7,4 +7,4 @@ pub invariant_of-result : goal.invariant_of-result
 invariant_of-result c = rw c.new.ensures placed-new
 
 pub returns : goal.returns
-returns c = ap (λ m. record { held = m; next = None }) (ap mentions_in c.new.ensures ∙ none_shown)
+returns c = ap (λ m. record { held = m; next = None }) (ap mentions_held c.new.ensures ∙ none_shown)

@@ -3,12 +3,12 @@ use Rattle.std.specs.FinMap.{empty, len, len-empty}
 use Rattle.disco_query.specs.Keys.{doc_cmp}
 use Rattle.disco_query.specs.declared.key.DocKey.{DocKey}
 use Rattle.disco_rounds.specs.Rounds.{KeySet, kept_keys}
-use Rattle.disco_rounds.specs.Stored.{AreNew, pairs}
+use Rattle.disco_rounds.specs.Stored.{AreNew, key_pairs}
 use Rattle.disco_rounds.proofs.round.Round.of.Goals as goal
 
 pub invariant_of-result : goal.invariant_of-result
 invariant_of-result c =
-    let none : kept_keys (pairs c.in_ok-with_capacity.field-0.items) ≡ empty = ap (λ cs. kept_keys (pairs cs)) c.in_ok-with_capacity.ensures.items in (
+    let none : kept_keys (key_pairs c.in_ok-with_capacity.field-0.items) ≡ empty = ap (λ cs. kept_keys (key_pairs cs)) c.in_ok-with_capacity.ensures.items in (
       omega (arith, c.in_ok-with_capacity.ensures.len, c.in_ok-with_capacity.ensures.capacity, c.len.ensures),
       omega arith,
       sym (ap len none ∙ len-empty doc_cmp (Unit {0})),

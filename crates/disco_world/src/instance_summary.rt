@@ -1,0 +1,41 @@
+//! What is shown of a client's copy.
+ghost use Rattle.std.specs.Prelude.{◌≡◌};
+
+use disco_values::{Key, Status};
+use std::marker::Model;
+
+/// An instance of a client's copy.
+#[derive(Debug, Drop)]
+pub struct InstanceSummary {
+    pub key: Key,
+    pub status: Status,
+}
+
+/// Instances of a client's copy, by key.
+#[derive(Debug, Drop)]
+pub struct InstanceSummaries {
+    listed: Vec<InstanceSummary>,
+}
+
+impl Model for InstanceSummaries {
+    ghost use Rattle.std.specs.Prelude.{List};
+    ghost use Rattle.disco_world.specs.declared.instance_summary.InstanceSummary.{InstanceSummary};
+
+    ghost Value = { List InstanceSummary };
+
+    ghost view = { λ h. h.listed.items };
+}
+
+impl InstanceSummaries {
+    pub fn from_vec(listed: Vec<InstanceSummary>) -> InstanceSummaries
+        ensures { result ≡ listed.items }
+    {
+        InstanceSummaries { listed }
+    }
+
+    pub fn as_slice(&self) -> &[InstanceSummary]
+        ensures { result.now ≡ self.now }
+    {
+        &self.listed
+    }
+}
