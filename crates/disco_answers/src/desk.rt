@@ -99,6 +99,7 @@ pub(crate) fn answer_read<J: Naming>(
     ensures answered { (asked : Result Asks Fault) → Gives call_view called asked → IsAnsweredBy desk.old desk.new seat.old seat.new asked now (answer_of shared_text result) }
     ensures rest { KeepsRest desk.old.hub desk.new.hub }
 {
+    // For the proof alone: what holds of every desk.
     desk.check();
     seat.learn(desk);
     let reply = answer_called(desk, seat, called, now);

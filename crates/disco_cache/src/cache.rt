@@ -139,7 +139,11 @@ impl DocCache {
     }
 
     /// Keeps a document, in the place of that of its key where there is one. Answers whether it is
-    /// kept: not where there is no room for one more. Refused only as `OutOfMemory`.
+    /// kept: not where there is no room for one more.
+    ///
+    /// # Errors
+    ///
+    /// `OutOfMemory` alone. The cache is then as it was.
     pub fn put(&mut self, doc: Arc<Payload, Global>) -> Result<bool, Fault>
         ensures room { IfOk result (λ kept. kept ≡ (finmap.contains_key self.old.docs doc.value.key || nat_lt (finmap.len self.old.docs) self.old.max)) }
         ensures docs { IfOk result (λ kept. self.new.docs ≡ (if kept then finmap.insert self.old.docs doc.value.key doc.value else self.old.docs)) }
@@ -156,7 +160,11 @@ impl DocCache {
         }
     }
 
-    /// The keys of the kept documents, in their order. Refused only as `OutOfMemory`.
+    /// The keys of the kept documents, in their order.
+    ///
+    /// # Errors
+    ///
+    /// `OutOfMemory` alone.
     pub fn keys(&self, alloc: Global) -> Result<Vec<&DocKey>, Fault>
         ensures keys { IfOk result (λ found. map (λ k. k.now) found.items ≡ finmap.keys self.now.docs) }
         ensures memory { IfErr result (λ e. e ≡ OutOfMemory) }

@@ -71,8 +71,11 @@ impl Edition {
         }
     }
 
-    /// Puts a document in, in the place of that of its key where there is one. Refused only as
-    /// `OutOfMemory`.
+    /// Puts a document in, in the place of that of its key where there is one.
+    ///
+    /// # Errors
+    ///
+    /// `OutOfMemory` alone. The edition is then as it was.
     pub fn put(&mut self, doc: Arc<Payload, Global>) -> Result<(), Fault>
         ensures docs { OnOk result (self.new ≡ finmap.insert self.old doc.value.key doc.value) }
         ensures err { OnErr result (self.new ≡ self.old) }

@@ -127,11 +127,15 @@ fn call_at(
     }
 }
 
-/// What a request asks for, at the path of its target and with its method. Refused, by the first
-/// cause that fits, as `NotFound` where the path is none of the table, as `BadRequest` where a name
-/// in it isn't UTF-8, as `NotAcceptable` where the reader of a document takes XML alone, and as
-/// `BadJson`, `MissingField`, `MismatchedApp` or `BadStatus` where an operation is asked for that is
-/// wrong by itself; and as `OutOfMemory`. A path that lacks the method is answered by what it has.
+/// What a request asks for, at the path of its target and with its method. A path that lacks the
+/// method is answered by what it has.
+///
+/// # Errors
+///
+/// By the first cause that fits, `NotFound` where the path is none of the table, `BadRequest` where
+/// a name in it isn't UTF-8, `NotAcceptable` where the reader of a document takes XML alone, and
+/// `BadJson`, `MissingField`, `MismatchedApp` or `BadStatus` where an operation is asked for that
+/// is wrong by itself. Besides these, `OutOfMemory`.
 pub fn call_of(alloc: Global, routes: &Routes, request: &Request) -> Result<Call, Fault>
     ensures { Gives call_view result (call request.now) }
 {

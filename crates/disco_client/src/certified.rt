@@ -21,7 +21,11 @@ pub struct CertifiedCopy {
 }
 
 impl CertifiedCopy {
-    /// The copy that a document of all apps makes. Refused only as `OutOfMemory`.
+    /// The copy that a document of all apps makes.
+    ///
+    /// # Errors
+    ///
+    /// `OutOfMemory` alone.
     pub fn of(alloc: Global, wire: Wire, form: Form, cert: Cert) -> Result<CertifiedCopy, Fault>
         requires { wire.shape ≡ Many }
         ensures made { IfOk result (λ k. k ≡ record { copy = copied (tell_all wire.mentions); known = known_at form cert }) }
@@ -36,7 +40,11 @@ impl CertifiedCopy {
     }
 
     /// Takes a document of all apps, unless it is of the copy's run and older. Says whether it was
-    /// taken. Refused only as `OutOfMemory`, and then unchanged.
+    /// taken.
+    ///
+    /// # Errors
+    ///
+    /// `OutOfMemory` alone. The copy is then unchanged.
     pub fn renew(
         &mut self,
         alloc: Global,
@@ -58,7 +66,11 @@ impl CertifiedCopy {
     }
 
     /// Overlays a delta that reaches the copy, and no other, whatever its hash code. Says whether it
-    /// was overlaid. Refused only as `OutOfMemory`, and then unchanged.
+    /// was overlaid.
+    ///
+    /// # Errors
+    ///
+    /// `OutOfMemory` alone. The copy is then unchanged.
     pub fn follow(&mut self, wire: Wire, form: Form, cert: Cert) -> Result<bool, Fault>
         requires { wire.shape ≡ Many }
         ensures took { IfOk result (λ took. took ≡ reaches cert self.old.known) }

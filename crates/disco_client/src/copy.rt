@@ -67,8 +67,12 @@ impl Copy {
     }
 
     /// The copy becomes the records of a full document: of each key its last mention, whatever was
-    /// done to it. Refused as `BadDocument` exactly where the document isn't of many apps, and as
-    /// `OutOfMemory`; the copy is then unchanged.
+    /// done to it.
+    ///
+    /// # Errors
+    ///
+    /// `BadDocument` exactly where the document isn't of many apps, and `OutOfMemory`. The copy is
+    /// then unchanged.
     pub fn full(&mut self, wire: Wire) -> Result<(), Fault>
         ensures copied { OnOk result (self.new ≡ copied (tell_all wire.mentions)) }
         ensures shape { (result ≡ Err BadDocument) ↔ (wire.shape ≢ Many) }
@@ -87,9 +91,12 @@ impl Copy {
     }
 
     /// A delta is overlaid on the copy: of each key its last mention with a known action counts,
-    /// which puts the instance or, where it was deleted, takes it out. Refused as `BadDocument`
-    /// exactly where the document isn't of many apps, and as `OutOfMemory`; the copy is then
-    /// unchanged.
+    /// which puts the instance or, where it was deleted, takes it out.
+    ///
+    /// # Errors
+    ///
+    /// `BadDocument` exactly where the document isn't of many apps, and `OutOfMemory`. The copy is
+    /// then unchanged.
     pub fn overlay(&mut self, wire: Wire) -> Result<Overlaid, Fault>
         ensures overlaid { OnOk result (self.new ≡ overlay self.old (tell_all wire.mentions)) }
         ensures hash_equal { IfOk result (λ o. o.hash_equal ≡ hash_equal wire.hash self.new) }
@@ -119,7 +126,11 @@ impl Copy {
     }
 
     /// The instances of status UP with a vip, in the order of their keys. Vips are compared without
-    /// regard to the case of ASCII letters. Refused only as `OutOfMemory`.
+    /// regard to the case of ASCII letters.
+    ///
+    /// # Errors
+    ///
+    /// `OutOfMemory` alone.
     pub fn up(&self, alloc: Global, vip: &str) -> Result<Vec<&Record>, Fault>
         ensures records { IfOk result (λ v. map (λ r. row r.now) v.items ≡ filter (is_up_under vip.now) (values self.now)) }
         ensures memory { IfErr result (λ e. e ≡ OutOfMemory) }
@@ -133,7 +144,11 @@ impl Copy {
         Ok(up)
     }
 
-    /// The hash code: Eureka's `apps__hashcode`. Refused only as `OutOfMemory`.
+    /// The hash code: Eureka's `apps__hashcode`.
+    ///
+    /// # Errors
+    ///
+    /// `OutOfMemory` alone.
     pub fn hash(&self, alloc: Global) -> Result<Text, Fault>
         ensures hash { IfOk result (λ t. t ≡ hash (values self.now)) }
         ensures memory { IfErr result (λ e. e ≡ OutOfMemory) }
@@ -156,7 +171,11 @@ impl Copy {
     }
 
     /// The same copy once more, which stays as it is while this one goes on. The records are shared,
-    /// not copied. Refused only as `OutOfMemory`.
+    /// not copied.
+    ///
+    /// # Errors
+    ///
+    /// `OutOfMemory` alone.
     pub fn share(&self, alloc: Global) -> Result<Copy, Fault>
         ensures same { IfOk result (λ c. c ≡ self.now) }
         ensures memory { IfErr result (λ e. e ≡ OutOfMemory) }

@@ -77,6 +77,7 @@ impl Counted {
         uncount(&mut self.counts, &self.records, &added.rec.key);
         let status = added.rec.status;
         self.records.put(added);
+        // For the proof alone: the number of records fits a usize.
         let _held = self.records.len();
         self.counts.add(status);
     }

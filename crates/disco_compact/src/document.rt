@@ -21,6 +21,10 @@ use disco_writer::{Texts, write_document};
 use std::alloc::Global;
 
 /// The document that a query asks for in the compact form, as [`write_document`] gives it.
+///
+/// # Errors
+///
+/// `OutOfMemory` alone.
 pub fn write_compact(
     alloc: Global,
     query: &Query,

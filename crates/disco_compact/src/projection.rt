@@ -24,7 +24,10 @@ fn default_lease() -> Lease
 }
 
 /// The record as a reader of its compact form has it: what the form leaves out has its default.
-/// Refused only as `OutOfMemory`.
+///
+/// # Errors
+///
+/// `OutOfMemory` alone.
 pub fn project(alloc: Global, rec: &Record) -> Result<Record, Fault>
     ensures record_is { IfOk result (λ r. row r ≡ formed Compact (row rec.now)) }
     ensures memory { IfErr result (λ e. e ≡ OutOfMemory) }

@@ -11,6 +11,10 @@ use disco_writer::write_text;
 use std::alloc::Global;
 
 /// The text of a mention in the compact form, as [`write_text`] gives it.
+///
+/// # Errors
+///
+/// `OutOfMemory` alone.
 pub fn text_compact(alloc: Global, mention: &Mention) -> Result<Vec<u8>, Fault>
     ensures text { IfOk result (λ v. IsTextOf Compact v.items (tell mention.now)) }
     ensures memory { IfErr result (λ e. e ≡ OutOfMemory) }

@@ -63,7 +63,11 @@ impl Acceptor {
         self.refused = Some(refusal);
     }
 
-    /// Why connections were refused, if they were: `OutOfMemory` or `ReadFailed`.
+    /// Why connections were refused, if they were.
+    ///
+    /// # Errors
+    ///
+    /// `OutOfMemory` or `ReadFailed`, where connections were refused.
     pub fn outcome(&self) -> Result<(), Fault>
         ensures refused { MatchResult result (λ _. self.now.refused ≡ None) (λ e. option_map fault_of self.now.refused ≡ Some e) }
         ensures fault { IfErr result (λ fault. (fault ≡ OutOfMemory) ⊎ (fault ≡ ReadFailed)) }

@@ -29,6 +29,10 @@ pub struct Buffers {
 
 impl Buffers {
     /// Buffers for connections within these limits.
+    ///
+    /// # Errors
+    ///
+    /// `AllocError` where memory is refused.
     pub fn new(alloc: Global, limits: Limits) -> Result<Buffers, AllocError> {
         Ok(Buffers {
             reader: Reader::new(alloc, Counted::new(io::empty()), limits)?,

@@ -20,6 +20,10 @@ pub struct Post<'a> {
 
 impl<'a> Post<'a> {
     /// The worker of a number, from 0, which is free. Takes memory, and a descriptor of the host.
+    ///
+    /// # Errors
+    ///
+    /// What the host says where it refuses a descriptor, and want of memory.
     pub fn new<N: Net>(
         rt: &N,
         alloc: Global,

@@ -15,6 +15,10 @@ pub struct Workers {
 
 impl Workers {
     /// So many workers, all free.
+    ///
+    /// # Errors
+    ///
+    /// `AllocError` where memory is refused.
     pub fn new(alloc: Global, count: usize) -> Result<Workers, AllocError> {
         let mut silent = Vec::new(alloc);
         for _ in 0..count {

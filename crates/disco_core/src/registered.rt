@@ -112,7 +112,11 @@ impl Ready {
         self.ready.change()
     }
 
-    /// The change to come once more, where there is one. Refused only as `OutOfMemory`.
+    /// The change to come once more, where there is one.
+    ///
+    /// # Errors
+    ///
+    /// `OutOfMemory` alone.
     pub fn change(&self) -> Result<Option<Change>, Fault>
         ensures change { IfOk result (λ o. option_map change_view o ≡ self.now.change) }
         ensures proper { IfOk result (λ o. IfSome o (λ c. is_proper c ≡ true)) }
@@ -249,6 +253,7 @@ fn follow(
     ensures written { AreWritten texts.old registry.now.held → AreWritten texts.new (held_after registry.now.held ready.now.change) }
     ensures leases { Moves ready.now.change ready.now.key ready.now.renewal ready.now.moment book.old book.new }
 {
+    // For the proof alone: a version fits a u64.
     let _version = registry.version();
     match ready.ready.change() {
         Some(change) => {
@@ -311,8 +316,12 @@ impl Core {
     }
 
     /// Makes every growth that an operation at a moment in milliseconds needs, and the texts of what
-    /// it puts, and changes no answer. Refused as the operation is, and as `OutOfMemory`, and then no
-    /// place of a vip, a lease, a text or a recent change stays that was not there.
+    /// it puts, and changes no answer.
+    ///
+    /// # Errors
+    ///
+    /// What the operation is refused as, and `OutOfMemory`. Then no place of a vip, a lease, a text
+    /// or a recent change stays that was not there.
     pub fn ready(&mut self, op: Op, now: u64) -> Result<Ready, Fault>
         ensures same { IsSameCore self.old self.new }
         ensures ready { IfOk result (λ r. accepts self.old.registry (ask_of op) now ≡ Ok r.change × IsCoreReady self.new r) }
@@ -344,6 +353,7 @@ impl Core {
         ensures history { (p : Past) (ask : Ask) → IsFor self.old ready ask → CoreStandsFor self.old p → CoreStandsFor self.new (with_done self.old.queue.max p ready.moment ask (done_by result)) }
         ensures rules { core_rules self.new ≡ core_rules self.old }
     {
+        // For the proof alone: a version fits a u64.
         let _version = self.registry.version();
         follow(
             &mut self.counts,
@@ -403,8 +413,11 @@ impl Core {
 
     /// The keys that one run takes at a moment in milliseconds: those whose leases have run out, the
     /// earliest first, then by key, as far as 85 of 100 instances stay; none where too few renewals
-    /// came in the minute that was closed last. Refused only as `OutOfMemory`, and only where there
-    /// is one.
+    /// came in the minute that was closed last.
+    ///
+    /// # Errors
+    ///
+    /// `OutOfMemory` alone, and only where there is such a key.
     pub fn due(&self, now: u64) -> Result<Vec<&Key>, Fault>
         ensures keys { IfOk result (λ found. (p : Past) → CoreStandsFor self.now p → map (λ k. k.now) found.items ≡ taken_in p now) }
         ensures memory { IfErr result (λ e. e ≡ OutOfMemory) }
@@ -446,9 +459,13 @@ impl Core {
         )
     }
 
-    /// The document that is asked for, joined from the texts that are kept: none exactly where an app, a vip, a secure vip
-    /// or an instance is asked for and there is none. An app's name has to be in upper case. A delta
-    /// is written also where deltas are off. Refused only as `OutOfMemory`.
+    /// The document that is asked for, joined from the texts that are kept: none exactly where an
+    /// app, a vip, a secure vip or an instance is asked for and there is none. An app's name has to
+    /// be in upper case. A delta is written also where deltas are off.
+    ///
+    /// # Errors
+    ///
+    /// `OutOfMemory` alone.
     pub fn document(&self, key: &DocKey) -> Result<Option<Arc<Payload, Global>>, Fault>
         ensures key { IfOk result (λ o. IfSome o (λ d. d.value.key ≡ key.now)) }
         ensures version { IfOk result (λ o. IfSome o (λ d. d.value.version ≡ self.now.registry.version)) }
@@ -493,8 +510,11 @@ impl Core {
         }
     }
 
-    /// The document of an instance, joined from its text. Refused as `NotFound` exactly where there is none,
-    /// and as `OutOfMemory`.
+    /// The document of an instance, joined from its text.
+    ///
+    /// # Errors
+    ///
+    /// `NotFound` exactly where there is no such instance, and `OutOfMemory`.
     pub fn instance(&self, key: &Key, form: Form) -> Result<Arc<Payload, Global>, Fault>
         ensures key { IfOk result (λ p. p.value.key ≡ doc_of_key key.now form) }
         ensures version { IfOk result (λ p. p.value.version ≡ self.now.registry.version) }
@@ -512,8 +532,12 @@ impl Core {
         }
     }
 
-    /// The document of the instance of an id, joined from its text: of several apps' the one with the least
-    /// app. Refused as `NotFound` exactly where there is none, and as `OutOfMemory`.
+    /// The document of the instance of an id, joined from its text: of several apps' the one with
+    /// the least app.
+    ///
+    /// # Errors
+    ///
+    /// `NotFound` exactly where there is no such instance, and `OutOfMemory`.
     pub fn by_id(&self, id: &str, form: Form) -> Result<Arc<Payload, Global>, Fault>
         ensures key { IfOk result (λ p. (h : List Entry) → registry.StandsFor self.now.registry h → doc_of_id id.now form h ≡ Some p.value.key) }
         ensures version { IfOk result (λ p. p.value.version ≡ self.now.registry.version) }

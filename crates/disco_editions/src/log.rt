@@ -58,6 +58,7 @@ impl<J: Naming> PublicationLog<J> {
     pub fn begin(&mut self)
         ensures { self.new ≡ record self.old { pending = self.old.pending ++ press.begin ∷ [] } }
     {
+        // For the proof alone: the list has this entry too.
         self.entries.grow(&LogEntry::Begun);
         self.len = self.len.saturating_add(1);
     }
@@ -69,6 +70,7 @@ impl<J: Naming> PublicationLog<J> {
         ensures same { result ≡ change }
     {
         let entry = LogEntry::Changed(change);
+        // For the proof alone: the list has this entry too.
         self.entries.grow(&entry);
         self.len = self.len.saturating_add(1);
         match entry {
@@ -85,6 +87,7 @@ impl<J: Naming> PublicationLog<J> {
         ensures same { result ≡ copied }
     {
         let copy = LogEntry::Copied(copied);
+        // For the proof alone: the list has this entry too.
         self.entries.grow(&copy);
         self.len = self.len.saturating_add(1);
         match copy {
@@ -99,6 +102,7 @@ impl<J: Naming> PublicationLog<J> {
     pub fn publish(&mut self)
         ensures { self.new ≡ record { published = self.old.published ++ self.old.pending ∷ []; pending = [] } }
     {
+        // For the proof alone: the list has this entry too.
         self.entries.grow(&LogEntry::Published);
         self.len = self.len.saturating_add(1);
         self.shown = LogPrefix {

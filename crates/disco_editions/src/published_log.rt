@@ -51,6 +51,7 @@ impl LogPrefix {
         if self.len > other.len || other.len == u64::MAX {
             return false;
         }
+        // For the proof alone: the shorter of two leaves begins the longer one.
         self.leaf.begins(&other.leaf);
         true
     }

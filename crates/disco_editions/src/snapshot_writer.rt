@@ -35,6 +35,10 @@ impl<J: Naming> Model for SnapshotWriter<J> {
 
 impl<J: Naming> SnapshotWriter<J> {
     /// An edition without documents, for so many readers.
+    ///
+    /// # Errors
+    ///
+    /// `AllocError` where memory is refused.
     pub fn new(
         alloc: Global,
         prefix: LogPrefix,
@@ -57,7 +61,11 @@ impl<J: Naming> SnapshotWriter<J> {
         })
     }
 
-    /// A snapshot_reader more, which knows these publications.
+    /// A reader more, which knows these publications.
+    ///
+    /// # Errors
+    ///
+    /// `AllocError` where memory is refused.
     pub fn snapshot_reader(&self, known: PublishedLog<J>) -> Result<SnapshotReader<J>, AllocError>
         ensures { IfOk result (λ w. w ≡ known) }
     {

@@ -35,7 +35,7 @@ pub fn connect<N: Net<Stream = TcpStream>>(
 ///
 /// # Errors
 ///
-/// Want of memory.
+/// `AllocError` where memory is refused.
 pub fn fetcher(alloc: Global, source: TcpStream, sink: TcpStream) -> Result<Connected, AllocError> {
     let reader = Reader::new(alloc, Counted::new(source), Limits::of_client())?;
     let writer = Writer::new(alloc, Counted::new(sink))?;

@@ -33,6 +33,10 @@ impl Change {
     }
 
     /// The same once more. The record is shared, not copied.
+    ///
+    /// # Errors
+    ///
+    /// `AllocError` where memory is refused.
     pub fn share(&self) -> Result<Change, AllocError>
         ensures same { IfOk result (λ c. change_view c ≡ change_view self.now) }
         ensures proper { IfOk result (λ c. is_proper c ≡ is_proper self.now) }

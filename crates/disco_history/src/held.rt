@@ -18,6 +18,10 @@ pub struct Held {
 
 impl Held {
     /// What a change did, and to which record. The record is shared, not copied.
+    ///
+    /// # Errors
+    ///
+    /// `AllocError` where memory is refused.
     pub fn of(change: &Change) -> Result<Held, AllocError>
         ensures { IfOk result (λ h. entry_of h ≡ change_view change.now) }
     {
@@ -34,6 +38,10 @@ impl Held {
     }
 
     /// The same once more. The record is shared, not copied.
+    ///
+    /// # Errors
+    ///
+    /// `AllocError` where memory is refused.
     pub fn share(&self) -> Result<Held, AllocError>
         ensures { IfOk result (λ h. entry_of h ≡ entry_of self.now) }
     {

@@ -79,6 +79,10 @@ impl RecordList {
     }
 
     /// The same records once more. They are shared, not copied.
+    ///
+    /// # Errors
+    ///
+    /// `AllocError` where memory is refused.
     pub fn share(&self, alloc: Global) -> Result<RecordList, AllocError>
         ensures { IfOk result (λ r. r.held ≡ self.now.held) }
     {
@@ -90,6 +94,10 @@ impl RecordList {
     }
 
     /// Makes room for so many more records.
+    ///
+    /// # Errors
+    ///
+    /// `AllocError` where memory is refused. The records are then as they were.
     pub fn reserve_for(&mut self, records: usize) -> Result<(), AllocError>
         ensures same { self.new.held ≡ self.old.held }
         ensures ok { OnOk result (records ≤ self.new.room) }

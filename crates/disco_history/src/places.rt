@@ -85,11 +85,16 @@ impl<V: Drop> Places<V> {
     pub fn as_map(&self) -> &BTreeMap<Key, Option<V>>
         ensures { result.now.entries ≡ finmap.entries self.now }
     {
+        // For the proof alone: the keys of a map stand in order, each once.
         let _len = self.places.len();
         &self.places
     }
 
     /// Makes an empty place for a key that has none.
+    ///
+    /// # Errors
+    ///
+    /// `AllocError` where memory is refused. The places are then as they were.
     pub fn open(&mut self, key: Key) -> Result<(), AllocError>
         requires { finmap.get self.old key ≡ None }
         ensures ok { OnOk result (self.new ≡ finmap.insert self.old key None) }

@@ -74,8 +74,11 @@ fn send_reply<W: Sink, D: Document>(
     Ok(())
 }
 
-/// Writes a reply; `last` says that the connection ends behind it. Takes no memory. Refused only as
-/// `WriteFailed`; then a front of the reply was written, and the writer is spent.
+/// Writes a reply; `last` says that the connection ends behind it. Takes no memory.
+///
+/// # Errors
+///
+/// `WriteFailed` alone. Then a front of the reply was written, and the writer is spent.
 pub fn write_reply<W: Sink, D: Document>(
     writer: &mut Writer<W>,
     reply: &Reply<D>,

@@ -27,6 +27,10 @@ impl<W: Drop> Writer<W> {
     ghost use Rattle.disco_http.specs.Sinks.{is_writer_spent, sink_of};
 
     /// Room in front of a sink, with nothing written.
+    ///
+    /// # Errors
+    ///
+    /// `AllocError` where memory is refused.
     pub fn new(alloc: Global, sink: W) -> Result<Writer<W>, AllocError>
         ensures sink { IfOk result (λ writer. sink_of writer ≡ sink) }
         ensures spent { IfOk result (λ writer. IsFalse (is_writer_spent writer)) }
@@ -119,8 +123,11 @@ impl<W: Sink> Writer<W> {
         write_all(&mut self.sink, &self.room)
     }
 
-    /// Writes these bytes as they are, as the head of a request. Takes no memory. Refused only as
-    /// `WriteFailed`; then a front of them was written, and the writer is spent.
+    /// Writes these bytes as they are, as the head of a request. Takes no memory.
+    ///
+    /// # Errors
+    ///
+    /// `WriteFailed` alone. Then a front of the bytes was written, and the writer is spent.
     pub fn write_bytes(&mut self, bytes: &[u8]) -> Result<(), Fault>
         requires { IsFalse (is_writer_spent self.old) }
         ensures written { OnOk result (Appends (W.contents (sink_of self.old)) (W.contents (sink_of self.new)) bytes.now) }

@@ -20,8 +20,11 @@ pub trait Cancel {
     // happened to what has happened then.
     ghost noted: { Self → Self → (Past → Past) → Type 0 };
 
-    /// Cancels one instance at a moment in milliseconds. Refused as the registry refuses it, and as
-    /// `OutOfMemory`.
+    /// Cancels one instance at a moment in milliseconds.
+    ///
+    /// # Errors
+    ///
+    /// What the registry refuses it as, and `OutOfMemory`.
     fn cancel(&mut self, key: &Key, now: u64) -> Result<(), Fault>
         ensures done { OnOk result (Cancels (hub self.old) (hub self.new) now key.now) }
         ensures noted { OnOk result (NotesOneMore hub noted now key.now self.old self.new) }

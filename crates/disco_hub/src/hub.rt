@@ -85,8 +85,12 @@ impl Hub {
     }
 
     /// Makes every growth that an operation at a moment in milliseconds needs, and changes no
-    /// answer. Refused as the operation is, and as `OutOfMemory`, and then no place of a vip or a
-    /// lease stays that was not there.
+    /// answer.
+    ///
+    /// # Errors
+    ///
+    /// What the operation is refused as, and `OutOfMemory`. Then no place of a vip or a lease stays
+    /// that was not there.
     pub fn ready(&mut self, op: Op, now: u64) -> Result<Ready, Fault>
         ensures same { IsSameHub self.old self.new }
         ensures ready { IfOk result (λ r. accepts self.old.core.registry (ask_of op) now ≡ Ok r.change × IsCoreReady self.new.core r) }
@@ -117,7 +121,12 @@ impl Hub {
     }
 
     /// Does one operation at a moment in milliseconds, as the registry does it. Places of vips and
-    /// leases that it leaves empty are given back, also where it is refused.
+    /// leases that it leaves empty are given back.
+    ///
+    /// # Errors
+    ///
+    /// What the registry refuses the operation as, and `OutOfMemory`. Places of vips and leases
+    /// that it leaves empty are given back then too.
     pub fn write(&mut self, op: Op, now: u64) -> Result<Applied, Fault>
         ensures done { IfOk result (λ a. Writes self.old self.new (ask_of op) now (done_by a)) }
         ensures proper { IfOk result (λ a. changes_properly a ≡ true) }
@@ -147,8 +156,11 @@ impl Hub {
 
     /// The keys that one run takes at a moment in milliseconds: those whose leases have run out, the
     /// earliest first, then by key, as far as 85 of 100 instances stay; none where too few renewals
-    /// came in the minute that was closed last. Refused only as `OutOfMemory`, and only where there
-    /// is one.
+    /// came in the minute that was closed last.
+    ///
+    /// # Errors
+    ///
+    /// `OutOfMemory` alone, and only where there is such a key.
     pub fn due(&self, now: u64) -> Result<Vec<&Key>, Fault>
         ensures keys { IfOk result (λ found. (p : Past) → HubStandsFor self.now p → map (λ k. k.now) found.items ≡ taken_in p now) }
         ensures memory { IfErr result (λ e. e ≡ OutOfMemory) }
@@ -158,6 +170,10 @@ impl Hub {
     }
 
     /// The keys that [`Hub::due`] gives, as keys of their own.
+    ///
+    /// # Errors
+    ///
+    /// `OutOfMemory` alone, and only where there is such a key.
     pub fn taken(&self, now: u64) -> Result<Vec<Key>, Fault>
         ensures keys { IfOk result (λ found. (p : Past) → HubStandsFor self.now p → found.items ≡ taken_in p now) }
         ensures memory { IfErr result (λ e. e ≡ OutOfMemory) }
@@ -180,9 +196,11 @@ impl Hub {
     /// written now, which is kept at most. That it is kept where there is memory and room is shown by
     /// rows, and said by no clause. An app's name has to be in upper case.
     ///
-    /// Refused as `NotFound` exactly where an app, a vip, a secure vip or an instance is asked for and
-    /// there is none, as `DeltaDisabled` exactly for a delta where deltas are off, and as
-    /// `OutOfMemory`; then all is as before.
+    /// # Errors
+    ///
+    /// `NotFound` exactly where an app, a vip, a secure vip or an instance is asked for and there
+    /// is none, `DeltaDisabled` exactly for a delta where deltas are off, and `OutOfMemory`. Then
+    /// all is as before.
     pub fn load(&mut self, key: &DocKey) -> Result<Arc<Payload, Global>, Fault>
         ensures served { IfOk result (λ d. IsDocOf self.old (rules_of self.old).delta key.now d.value) }
         ensures refused { IfErr result (Withholds self.old (rules_of self.old).delta key.now) }
@@ -203,6 +221,10 @@ impl Hub {
     }
 
     /// The document of an instance, as [`Hub::load`] gives it. It is not kept.
+    ///
+    /// # Errors
+    ///
+    /// As of [`Hub::load`]: `NotFound` where there is no such instance, and `OutOfMemory`.
     pub fn instance(&self, key: &Key, form: Form) -> Result<Arc<Payload, Global>, Fault>
         ensures served { IfOk result (λ d. IsDocOf self.now true (doc_of_key key.now form) d.value) }
         ensures refused { IfErr result (Withholds self.now true (doc_of_key key.now form)) }
@@ -211,8 +233,11 @@ impl Hub {
     }
 
     /// The document of the instance of an id, as [`Hub::load`] gives it: of several apps' the one
-    /// with the least app. It is not kept. Refused as `NotFound` exactly where there is none, and as
-    /// `OutOfMemory`.
+    /// with the least app. It is not kept.
+    ///
+    /// # Errors
+    ///
+    /// `NotFound` exactly where there is no such instance, and `OutOfMemory`.
     pub fn by_id(&self, id: &str, form: Form) -> Result<Arc<Payload, Global>, Fault>
         ensures served { IfOk result (λ d. IsDocOfId self.now id.now form d.value) }
         ensures refused { IfErr result (WithholdsId self.now id.now) }
@@ -222,7 +247,11 @@ impl Hub {
 
     /// Begins a round: a publisher copies one after another the keys of the edition, then those of
     /// kept documents in their order until there are as many as may be kept. Answers how many keys
-    /// it has. Refused as `RoundOpen` in an open round, and as `OutOfMemory`.
+    /// it has.
+    ///
+    /// # Errors
+    ///
+    /// `RoundOpen` in an open round, and `OutOfMemory`. The hub is then as it was.
     pub fn begin(&mut self) -> Result<usize, Fault>
         ensures begun { IfOk result (BeginsRound self.old self.new) }
         ensures refused { IfErr result (RefusesRound self.old) }
@@ -233,7 +262,11 @@ impl Hub {
 
     /// What a copy of the first key that is left of the open round gives: its document, the kept one
     /// where it is kept, or that there is none; nothing where no key is left. Nothing is kept, and the
-    /// round stays as it was. Refused as `NoRound` where none is open, and as `OutOfMemory`.
+    /// round stays as it was.
+    ///
+    /// # Errors
+    ///
+    /// `NoRound` where no round is open, and `OutOfMemory`.
     pub fn next_copy(&self) -> Result<Option<Copied>, Fault>
         ensures copied { IfOk result (λ o. IfSome o (IsNextCopy self.now)) }
         ensures next { IfOk result (λ o. IfSome (open_round self.now) (λ r. is_some (slice_get r.left 0) ≡ is_some o)) }
@@ -262,8 +295,11 @@ impl Hub {
     }
 
     /// Takes out the first key that is left of the open round; when the round is finished it is a
-    /// key of the edition exactly where it was kept. Takes no memory. Refused as `NoRound` where no
-    /// round is open or no key is left.
+    /// key of the edition exactly where it was kept. Takes no memory.
+    ///
+    /// # Errors
+    ///
+    /// `NoRound` where no round is open or no key is left. The hub is then as it was.
     pub fn mark(&mut self, kept: bool) -> Result<(), Fault>
         ensures marked { OnOk result (Advances kept self.old.rounds self.new.rounds) }
         ensures refused { IfErr result (λ e. (e ≡ NoRound) × IfSome (open_round self.old) (λ r. r.left ≡ [])) }
@@ -274,7 +310,12 @@ impl Hub {
     }
 
     /// Copies the first key that is left of the open round, as [`Hub::next_copy`] gives it, and takes
-    /// it out, kept where it has a document. Refused as that, and then all is as before.
+    /// it out, kept where it has a document.
+    ///
+    /// # Errors
+    ///
+    /// As of [`Hub::next_copy`]: `NoRound` where no round is open, and `OutOfMemory`. Then all is
+    /// as before.
     pub fn copy_one(&mut self) -> Result<Option<Copied>, Fault>
         ensures copied { IfOk result (λ o. IfSome o (CopiesOne self.old self.new)) }
         ensures none { IfOk result (λ o. IfNone o (HasNoneLeft self.old × (self.new ≡ self.old))) }
@@ -289,8 +330,12 @@ impl Hub {
         Ok(Some(copied))
     }
 
-    /// Copies as [`Hub::copy_one`] does, and puts what was copied into an edition too. Refused as that,
-    /// and then hub and edition are as before.
+    /// Copies as [`Hub::copy_one`] does, and puts what was copied into an edition too.
+    ///
+    /// # Errors
+    ///
+    /// As of [`Hub::copy_one`]: `NoRound` where no round is open, and `OutOfMemory`. Then hub and
+    /// edition are as before.
     pub fn copy_into(&mut self, next: &mut Edition) -> Result<Option<Copied>, Fault>
         ensures copied { IfOk result (λ o. IfSome o (CopiesOne self.old self.new)) }
         ensures put { IfOk result (λ o. IfSome o (λ c. next.new ≡ put_copy next.old c)) }
@@ -306,8 +351,11 @@ impl Hub {
         Ok(Some(copied))
     }
 
-    /// Ends an open round of which no key was copied. Takes no memory. Refused as `NoRound` where
-    /// there is no such round.
+    /// Ends an open round of which no key was copied. Takes no memory.
+    ///
+    /// # Errors
+    ///
+    /// `NoRound` where there is no such round. The hub is then as it was.
     pub fn abandon(&mut self) -> Result<(), Fault>
         ensures abandoned { OnOk result (IfSome (open_round self.old) (λ r. r.done ≡ []) × (open_round self.old ≢ None) × (self.new.rounds ≡ record self.old.rounds { round = None })) }
         ensures refused { IfErr result (λ e. (e ≡ NoRound) × IfSome (open_round self.old) (λ r. r.done ≢ [])) }
@@ -325,8 +373,12 @@ impl Hub {
     }
 
     /// Ends the open round: the edition's keys are those that had a document. Answers how many these
-    /// are. Takes no memory. Refused as `NoRound` where no round is open, and as `KeysLeft` where not
-    /// all of its keys were copied.
+    /// are. Takes no memory.
+    ///
+    /// # Errors
+    ///
+    /// `NoRound` where no round is open, and `KeysLeft` where not all of its keys were copied. The
+    /// hub is then as it was.
     pub fn finish(&mut self) -> Result<usize, Fault>
         ensures finished { IfOk result (EndsRound self.old self.new) }
         ensures refused { IfErr result (λ e. StaysOpen e (open_round self.old)) }

@@ -108,7 +108,11 @@ impl Counts {
         }
     }
 
-    /// The hash code: Eureka's `apps__hashcode`. Refused only as `OutOfMemory`.
+    /// The hash code: Eureka's `apps__hashcode`.
+    ///
+    /// # Errors
+    ///
+    /// `OutOfMemory` alone.
     pub fn text(&self, alloc: Global) -> Result<Text, Fault>
         ensures text { IfOk result (λ t. (rows : List Row) → self.now ≡ tally_of rows → t ≡ hash rows) }
         ensures memory { IfErr result (λ e. e ≡ OutOfMemory) }

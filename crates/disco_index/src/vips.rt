@@ -61,8 +61,11 @@ impl VipIndex {
     }
 
     /// Makes a place for the record under each of its vips, so that it can be added. No answer
-    /// shows a place that stands empty. Refused only as `OutOfMemory`, and then `sweep` gives back
-    /// what was made.
+    /// shows a place that stands empty.
+    ///
+    /// # Errors
+    ///
+    /// `OutOfMemory` alone. Then `sweep` gives back what was made.
     pub fn ready(&mut self, rec: &Record) -> Result<(), Fault>
         ensures same { IsSameVips self.old self.new }
         ensures ready { OnOk result (HasPlaces self.new (row rec.now)) }
@@ -111,7 +114,11 @@ impl VipIndex {
         }
     }
 
-    /// The keys of the instances that have a vip, in their order. Refused only as `OutOfMemory`.
+    /// The keys of the instances that have a vip, in their order.
+    ///
+    /// # Errors
+    ///
+    /// `OutOfMemory` alone.
     pub fn under(&self, alloc: Global, vip: &str) -> Result<Vec<&Key>, Fault>
         ensures keys { IfOk result (λ found. map (λ k. k.now) found.items ≡ under self.now vip.now) }
         ensures restriction { (m : FinMap key_cmp Entry) (rows : FinMap key_cmp Row) → IsIndexOf self.now m → ((k : Key) → get rows k ≡ option_map (λ e. e.0) (get m k))

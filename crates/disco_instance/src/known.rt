@@ -7,12 +7,14 @@ use crate::record::Record;
 fn is_moment(moment: u64)
     ensures { moment < 2 ^ 64 }
 {
+    // For the proof alone: a moment fits a u64.
     let _ = moment;
 }
 
 fn is_port(number: u16)
     ensures { number < 2 ^ 16 }
 {
+    // For the proof alone: a number of a port fits a u16.
     let _ = number;
 }
 
@@ -20,6 +22,7 @@ fn is_port(number: u16)
 pub fn well_formed(rec: &Record)
     ensures { IsWellFormed (row rec.now) }
 {
+    // For the proof alone: what holds of each part.
     rec.metadata.ordered();
     is_moment(rec.last_dirty);
     is_moment(rec.last_updated);

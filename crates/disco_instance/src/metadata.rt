@@ -47,6 +47,7 @@ pub(crate) fn entries_member(
 {
     match value.get(name).and_then(Value::as_object) {
         Some(map) => {
+            // For the proof alone: the names of a map stand in order, each once.
             let _ordered = map.len();
             Ok(Entries::from_sorted(kept_pairs(alloc, map)?))
         }

@@ -168,8 +168,11 @@ fn with_texts(rec: Record, pages: Pages, addresses: Addresses) -> Record
 }
 
 impl Record {
-    /// The record that a JSON value says, within an application of that name. Refused as
-    /// `MissingField` for no id and else for no app, and as `OutOfMemory`.
+    /// The record that a JSON value says, within an application of that name.
+    ///
+    /// # Errors
+    ///
+    /// `MissingField` for no id and else for no app, and `OutOfMemory`.
     #[tactic(auto, using(crate::proofs::Rows::told))]
     pub fn from_value(alloc: Global, value: &Value, within: Option<&str>) -> Result<Record, Fault>
         ensures { Gives row result (told_by (option_copied within.entry) (view value.now)) }
@@ -181,6 +184,11 @@ impl Record {
 
     /// The record that a JSON value says, outside of an application, as [`Record::from_value`] gives
     /// it. The texts of its pages and addresses are moved out of the value, and not copied.
+    ///
+    /// # Errors
+    ///
+    /// As of [`Record::from_value`]: `MissingField` for no id and else for no app, and
+    /// `OutOfMemory`.
     pub fn from_owned(alloc: Global, value: Value) -> Result<Record, Fault>
         ensures { Gives row result (told_by None (view value)) }
     {

@@ -53,7 +53,11 @@ impl Record {
     ghost use Rattle.disco_instance.specs.Row.{row};
     ghost use Rattle.disco_instance.specs.Moments.{registered_at, modified_at, cancelled_at};
 
-    /// The same record once more. Refused only as `OutOfMemory`.
+    /// The same record once more.
+    ///
+    /// # Errors
+    ///
+    /// `OutOfMemory` alone.
     pub fn copy(&self) -> Result<Record, Fault>
         ensures same { IfOk result (λ r. r ≡ self.now) }
         ensures memory { IfErr result (λ e. e ≡ OutOfMemory) }
@@ -117,7 +121,11 @@ impl Record {
         new
     }
 
-    /// The record with these entries put into its metadata. Refused only as `OutOfMemory`.
+    /// The record with these entries put into its metadata.
+    ///
+    /// # Errors
+    ///
+    /// `OutOfMemory` alone.
     pub fn with_entries(self, entries: &Entries) -> Result<Record, Fault>
         ensures record_is { IfOk result (λ r. row r ≡ record (row self) { metadata = with_entries (row self).metadata entries.now }) }
         ensures memory { IfErr result (λ e. e ≡ OutOfMemory) }

@@ -48,7 +48,11 @@ impl LeaseBook {
     }
 
     /// Makes a place for a key, so that its lease can be registered. No answer shows a place
-    /// without a lease, and `sweep` gives it back. Refused only as `OutOfMemory`.
+    /// without a lease, and `sweep` gives it back.
+    ///
+    /// # Errors
+    ///
+    /// `OutOfMemory` alone.
     pub fn ready(&mut self, key: &Key) -> Result<(), Fault>
         ensures same { IsSameLeases self.old self.new }
         ensures place { OnOk result (HasPlace self.new key.now) }
@@ -88,7 +92,11 @@ impl LeaseBook {
     }
 
     /// The mark of the key's lease is one duration after `now`, in milliseconds, and a renewal is
-    /// counted. Refused as `NotFound` exactly where the key has no lease. Takes no memory.
+    /// counted. Takes no memory.
+    ///
+    /// # Errors
+    ///
+    /// `NotFound` alone, exactly where the key has no lease. The leases are then as they were.
     pub fn renew(&mut self, key: &Key, now: u64) -> Result<(), Fault>
         ensures missing { (result ≡ Err NotFound) ↔ (lease_at self.old key.now ≡ None) }
         ensures error { IfErr result (λ e. e ≡ NotFound) }
@@ -105,7 +113,11 @@ impl LeaseBook {
     }
 
     /// The mark of the key's lease is one duration after `now`, in milliseconds, and no renewal is
-    /// counted. Refused as `NotFound` exactly where the key has no lease. Takes no memory.
+    /// counted. Takes no memory.
+    ///
+    /// # Errors
+    ///
+    /// `NotFound` alone, exactly where the key has no lease. The leases are then as they were.
     pub fn touch(&mut self, key: &Key, now: u64) -> Result<(), Fault>
         ensures missing { (result ≡ Err NotFound) ↔ (lease_at self.old key.now ≡ None) }
         ensures error { IfErr result (λ e. e ≡ NotFound) }
@@ -123,8 +135,11 @@ impl LeaseBook {
         }
     }
 
-    /// The key has no lease any more, and no place for one. Refused as `NotFound` exactly where it
-    /// has none. Takes no memory.
+    /// The key has no lease any more, and no place for one. Takes no memory.
+    ///
+    /// # Errors
+    ///
+    /// `NotFound` alone, exactly where the key has no lease. The leases are then as they were.
     pub fn cancel(&mut self, key: &Key) -> Result<(), Fault>
         ensures missing { (result ≡ Err NotFound) ↔ (lease_at self.old key.now ≡ None) }
         ensures error { IfErr result (λ e. e ≡ NotFound) }
@@ -176,8 +191,11 @@ impl LeaseBook {
     /// The keys of the leases that one run takes at a moment in milliseconds, where so many
     /// instances are held: those that have run out, the earliest first, then by key, and no more of
     /// them than leave 85 of 100 instances; none where too few renewals came in the minute that was
-    /// closed last. Refused only as `OutOfMemory`, and only where there is one. A run costs a pass
-    /// over all leases, and a second one where it takes any.
+    /// closed last. A run costs a pass over all leases, and a second one where it takes any.
+    ///
+    /// # Errors
+    ///
+    /// `OutOfMemory` alone, and only where there is such a key.
     pub fn due(&self, alloc: Global, now: u64, held: u64) -> Result<Vec<&Key>, Fault>
         ensures keys { IfOk result (λ found. map (λ k. k.now) found.items ≡ taken self.now.closed (due_at self.now) (keys self.now.places) held now) }
         ensures memory { IfErr result (λ e. e ≡ OutOfMemory) }

@@ -259,8 +259,11 @@ pub(crate) fn gather_answer<W: Sink>(
     write_buffered(buffered, out)
 }
 
-/// Writes one line for each reply, in order. Refused as `WriteFailed` where a write fails, with
-/// some of the lines perhaps written, and as `OutOfMemory`. Memory is asked for at the start.
+/// Writes one line for each reply, in order. Memory is asked for at the start.
+///
+/// # Errors
+///
+/// `WriteFailed` where a write fails, with some of the lines perhaps written, and `OutOfMemory`.
 pub fn write_answers<W: Sink>(alloc: Global, replies: &[Reply], out: &mut W) -> Result<(), Fault>
     ensures written { OnOk result (Appends (W.contents out.old) (W.contents out.new) (answer_lines replies.now)) }
     ensures fault { IfErr result (λ e. (e ≡ WriteFailed) ⊎ (e ≡ OutOfMemory)) }

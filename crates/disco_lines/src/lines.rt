@@ -49,8 +49,11 @@ pub(crate) fn events_of(alloc: Global, input: &[u8]) -> Result<Vec<Event>, Fault
     Ok(events)
 }
 
-/// The events of all that a source gives, up to its end. Refused as `ReadFailed` where a read
-/// fails, and as [`events_of`] is.
+/// The events of all that a source gives, up to its end.
+///
+/// # Errors
+///
+/// `ReadFailed` where a read fails, and what [`events_of`] is refused as.
 pub fn read_events<R: Source>(alloc: Global, reader: &mut R) -> Result<Vec<Event>, Fault>
     ensures events { IfOk result (λ events. AreRead (R.remaining reader.old) events.items) }
     ensures end { OnOk result (IsAtEnd (R.remaining reader.new)) }

@@ -56,8 +56,11 @@ fn run_and_write<W: Sink>(
 }
 
 /// Runs the events in order from an empty registry, and writes one line for each reply as it comes.
-/// No reply is held, so none of them is a take. Refused as `WriteFailed` where a write fails, and as
-/// `OutOfMemory`, with some of the lines perhaps written.
+/// No reply is held, so none of them is a take.
+///
+/// # Errors
+///
+/// `WriteFailed` where a write fails, and `OutOfMemory`, with some of the lines perhaps written.
 pub fn answer_events<W: Sink>(
     alloc: Global,
     settings: &Settings,

@@ -91,8 +91,11 @@ impl Head {
     ghost use Rattle.disco_message.specs.Fields.{values};
     ghost use Rattle.disco_message.specs.ValuesLeft.{values_left};
 
-    /// The head that was found at the front of a buffer, copied into room. Refused as `BadRequest`
-    /// or `UnsupportedCoding` for what it says, and else as `OutOfMemory`.
+    /// The head that was found at the front of a buffer, copied into room.
+    ///
+    /// # Errors
+    ///
+    /// `BadRequest` or `UnsupportedCoding` for what the head says, and else `OutOfMemory`.
     pub fn new(
         room: HeadRoom,
         buf: &[u8],

@@ -113,8 +113,11 @@ impl ReceivedHead {
     ghost use Rattle.disco_message.specs.ValuesLeft.{values_left};
     ghost use Rattle.disco_message.specs.Certificate.{certificate_of};
 
-    /// The head that was found at the front of a buffer. Refused as `BadRequest` for what it says,
-    /// and else as `OutOfMemory`.
+    /// The head that was found at the front of a buffer.
+    ///
+    /// # Errors
+    ///
+    /// `BadRequest` for what the head says, and else `OutOfMemory`.
     pub fn new(
         alloc: Global,
         buf: &[u8],

@@ -21,8 +21,11 @@ fn plain<'a>(bytes: &'a [u8]) -> Option<CowStr<'a>>
 }
 
 /// What an encoded name spells, where that is UTF-8: an escape as `%2F` stands for its byte, every
-/// other byte for itself (RFC 3986, section 2.1). A name with no escape is borrowed. Refused only as
-/// `OutOfMemory`.
+/// other byte for itself (RFC 3986, section 2.1). A name with no escape is borrowed.
+///
+/// # Errors
+///
+/// `OutOfMemory` alone.
 pub fn decoded<'a>(alloc: Global, encoded: &'a [u8]) -> Result<Option<CowStr<'a>>, Fault>
     ensures text { IfOk result (λ found. option_map cow_str_bytes found ≡ decoded_text encoded.entry.now) }
     ensures memory { IfErr result (λ e. e ≡ OutOfMemory) }
@@ -38,6 +41,10 @@ pub fn decoded<'a>(alloc: Global, encoded: &'a [u8]) -> Result<Option<CowStr<'a>
 }
 
 /// What an encoded name spells, in memory of its own, as [`decoded`] gives it.
+///
+/// # Errors
+///
+/// `OutOfMemory` alone.
 pub fn decoded_text(alloc: Global, encoded: &[u8]) -> Result<Option<Text>, Fault>
     ensures text { IfOk result (λ found. found ≡ decoded_text encoded.now) }
     ensures memory { IfErr result (λ e. e ≡ OutOfMemory) }

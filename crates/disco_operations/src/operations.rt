@@ -12,7 +12,11 @@ use disco_values::{Entries, Fault, Key, Text, upper};
 use disco_wire::read_registration;
 use std::alloc::Global;
 
-/// The key of an app and an id: the app's name counts in upper case. Refused only as `OutOfMemory`.
+/// The key of an app and an id: the app's name counts in upper case.
+///
+/// # Errors
+///
+/// `OutOfMemory` alone.
 pub fn key_named(alloc: Global, app: &Text, id: Text) -> Result<Key, Fault>
     ensures key { IfOk result (λ k. k ≡ key_named app.now id) }
     ensures memory { IfErr result (λ e. e ≡ OutOfMemory) }
@@ -21,9 +25,12 @@ pub fn key_named(alloc: Global, app: &Text, id: Text) -> Result<Key, Fault>
     Ok(Key { app, id })
 }
 
-/// A registration under an app's name, with the JSON of its body. Refused as `BadJson` and
-/// `MissingField` where the body is no registration, as `MismatchedApp` where it is one of another
-/// app, and as `OutOfMemory`.
+/// A registration under an app's name, with the JSON of its body.
+///
+/// # Errors
+///
+/// `BadJson` and `MissingField` where the body is no registration, `MismatchedApp` where it is one
+/// of another app, and `OutOfMemory`.
 pub fn register(alloc: Global, app: &Text, body: &[u8]) -> Result<Op, Fault>
     ensures { Gives ask_of result (registers app.now (registration_of body.now)) }
 {
@@ -34,22 +41,33 @@ pub fn register(alloc: Global, app: &Text, body: &[u8]) -> Result<Op, Fault>
     Ok(Op::Register(posted))
 }
 
-/// A cancel of the instance of an app and an id. Refused only as `OutOfMemory`.
+/// A cancel of the instance of an app and an id.
+///
+/// # Errors
+///
+/// `OutOfMemory` alone.
 pub fn cancel(alloc: Global, app: &Text, id: Text) -> Result<Op, Fault>
     ensures { Gives ask_of result (Ok (asking.cancel (key_named app.now id))) }
 {
     Ok(Op::Cancel(key_named(alloc, app, id)?))
 }
 
-/// A renewal of that instance's lease. Refused only as `OutOfMemory`.
+/// A renewal of that instance's lease.
+///
+/// # Errors
+///
+/// `OutOfMemory` alone.
 pub fn renew(alloc: Global, app: &Text, id: Text) -> Result<Op, Fault>
     ensures { Gives ask_of result (Ok (asking.renew (key_named app.now id))) }
 {
     Ok(Op::Renew(key_named(alloc, app, id)?))
 }
 
-/// A change of that instance's status. Refused only as `OutOfMemory`: the registry refuses a text
-/// that is no status.
+/// A change of that instance's status.
+///
+/// # Errors
+///
+/// `OutOfMemory` alone: the registry refuses a text that is no status.
 pub fn set_status(alloc: Global, app: &Text, id: Text, status: Text) -> Result<Op, Fault>
     ensures { Gives ask_of result (Ok (asking.set_status (key_named app.now id) status)) }
 {
@@ -57,14 +75,21 @@ pub fn set_status(alloc: Global, app: &Text, id: Text, status: Text) -> Result<O
 }
 
 /// The removal of that instance's override, with the status that it has then, if one is given.
-/// Refused only as `OutOfMemory`.
+///
+/// # Errors
+///
+/// `OutOfMemory` alone.
 pub fn drop_status(alloc: Global, app: &Text, id: Text, status: Option<Text>) -> Result<Op, Fault>
     ensures { Gives ask_of result (Ok (asking.drop_status (key_named app.now id) status)) }
 {
     Ok(Op::DropStatus(key_named(alloc, app, id)?, status))
 }
 
-/// A change of that instance's metadata. Refused only as `OutOfMemory`.
+/// A change of that instance's metadata.
+///
+/// # Errors
+///
+/// `OutOfMemory` alone.
 pub fn add_metadata(alloc: Global, app: &Text, id: Text, entries: Entries) -> Result<Op, Fault>
     ensures { Gives ask_of result (Ok (asking.add_metadata (key_named app.now id) entries)) }
 {

@@ -26,7 +26,11 @@ fn pairs(alloc: Global, query: &[u8]) -> Result<Vec<(Text, Text)>, AllocError>
 
 /// The entries that a query names, as an HTML form encodes them (the URL Standard's
 /// `application/x-www-form-urlencoded`): of equal names the first counts, and one named `@class` is
-/// dropped. Bytes that aren't UTF-8 become U+FFFD. Refused only as `OutOfMemory`.
+/// dropped. Bytes that aren't UTF-8 become U+FFFD.
+///
+/// # Errors
+///
+/// `OutOfMemory` alone.
 pub fn entries_of_query(alloc: Global, query: &[u8]) -> Result<Entries, Fault>
     ensures value { IfOk result (λ e. e ≡ entries_of_query query.now) }
     ensures memory { IfErr result (λ e. e ≡ OutOfMemory) }
@@ -34,7 +38,11 @@ pub fn entries_of_query(alloc: Global, query: &[u8]) -> Result<Entries, Fault>
     Entries::from_pairs(alloc, pairs(alloc, query)?)
 }
 
-/// What a query gives for `value`, first of all, where it does. Refused only as `OutOfMemory`.
+/// What a query gives for `value`, first of all, where it does.
+///
+/// # Errors
+///
+/// `OutOfMemory` alone.
 pub fn value_of(alloc: Global, query: &[u8]) -> Result<Option<Text>, Fault>
     ensures value { IfOk result (λ found. found ≡ value_of query.now) }
     ensures memory { IfErr result (λ e. e ≡ OutOfMemory) }

@@ -147,8 +147,12 @@ fn refusal<'a>(alloc: Global, words: &'a [String]) -> Result<Error, AllocError>
     }
 }
 
-/// What the words behind the program's name give a command, whose word has to stand first. Other
-/// words are refused, or ask for help.
+/// What the words behind the program's name give a command, whose word has to stand first.
+///
+/// # Errors
+///
+/// Other words are refused, or ask for help. The error has the kind of a fault of the words, or the
+/// kind `OutOfMemory`.
 pub fn read_words<'a>(
     alloc: Global,
     subcommand: Subcommand,

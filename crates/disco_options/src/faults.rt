@@ -88,7 +88,7 @@ pub fn report_address<E: Sink>(
 {
     explain(alloc, what, port, error, errors);
     let status = report(&Fault::ReadFailed, errors);
-    // No effect at run time: the proof reads from it how far failures are counted.
+    // For the proof alone: how far failures are counted.
     let _failures = errors.failures();
     status
 }

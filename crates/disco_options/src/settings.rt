@@ -31,6 +31,10 @@ pub fn settings_from(matches: &ArgMatches<'_>, run: u64) -> Settings
 
 /// The settings that words which begin with a command's word are for; the run is `run` where they
 /// name none.
+///
+/// # Errors
+///
+/// An error that has the kind of a fault of the words, or the kind `OutOfMemory`.
 pub fn read_settings<'a>(
     alloc: Global,
     subcommand: Subcommand,
@@ -49,8 +53,10 @@ pub fn read_settings<'a>(
 /// `--run N`, or `fleet` and its `--instances N` and `--run N`. An option that isn't given has its
 /// default, and that of the run is `run`.
 ///
-/// An error is the program's exit status: 0 where help was asked for, 1 for want of memory, 2 for
-/// words that are refused.
+/// # Errors
+///
+/// The program's exit status: 0 where help was asked for, 1 for want of memory, 2 for words that
+/// are refused.
 pub fn settings_of<'a>(alloc: Global, words: &'a [String], run: u64) -> Result<Settings, u8>
     ensures settings { IfOk result (NamedBy (verb_of (map string_bytes words.entry.now)) (map string_bytes words.entry.now) run) }
     ensures ok_only_without_fault { OnOk result (faults_of (verb_of (map string_bytes words.entry.now))

@@ -90,10 +90,16 @@ impl<J: Naming> Desk<J> {
     pub fn check(&self)
         ensures { IsValid self.now }
     {
+        // For the proof alone: the invariant of a desk.
         let _loose = self.by_none;
     }
 
     /// The document that is asked for, as [`Hub::load`] gives it.
+    ///
+    /// # Errors
+    ///
+    /// As of [`Hub::load`]: `NotFound`, `DeltaDisabled` or `OutOfMemory`. The desk is then as it
+    /// was.
     pub fn load(&mut self, key: &DocKey) -> Result<Arc<Payload, Global>, Fault>
         ensures served { IfOk result (λ d. IsDocOf self.old.hub (rules_of self.old.hub).delta key.now d.value) }
         ensures refused { IfErr result (Withholds self.old.hub (rules_of self.old.hub).delta key.now) }
@@ -105,6 +111,10 @@ impl<J: Naming> Desk<J> {
     }
 
     /// The document of an instance, as [`Hub::instance`] gives it.
+    ///
+    /// # Errors
+    ///
+    /// As of [`Hub::instance`]: `NotFound` where there is no such instance, and `OutOfMemory`.
     pub fn instance(&self, key: &Key, form: Form) -> Result<Arc<Payload, Global>, Fault>
         ensures served { IfOk result (λ d. IsDocOf self.now.hub true (doc_of_key key.now form) d.value) }
         ensures refused { IfErr result (Withholds self.now.hub true (doc_of_key key.now form)) }
@@ -113,6 +123,10 @@ impl<J: Naming> Desk<J> {
     }
 
     /// The document of the instance of an id, as [`Hub::by_id`] gives it.
+    ///
+    /// # Errors
+    ///
+    /// As of [`Hub::by_id`]: `NotFound` where there is no such instance, and `OutOfMemory`.
     pub fn by_id(&self, id: &str, form: Form) -> Result<Arc<Payload, Global>, Fault>
         ensures served { IfOk result (λ d. IsDocOfId self.now.hub id.now form d.value) }
         ensures refused { IfErr result (WithholdsId self.now.hub id.now) }
@@ -164,6 +178,7 @@ impl<J: Naming> Seat<J> {
         ensures knows { self.new ≡ record self.old { known = desk.old.published; heard = notes_of desk.old } }
         ensures bound { self.old.changes ≤ version_of desk.old.hub }
     {
+        // For the proof alone: its changes are bounded, and what it knew and heard of are beginnings.
         self.check(&mut desk.book);
         desk.log.meet(self.known());
         desk.log.meet_all(self.heard());

@@ -19,6 +19,11 @@ use std::sync::Wait;
 impl<J: Naming> Desk<J> {
     /// Begins a round, as [`disco_hub::Hub::begin`] does, and notes it. Answers how many keys it
     /// has.
+    ///
+    /// # Errors
+    ///
+    /// As of [`disco_hub::Hub::begin`]: `RoundOpen` in an open round, and `OutOfMemory`. The desk
+    /// is then as it was.
     pub fn begin(&mut self) -> Result<usize, Fault>
         ensures begun { IfOk result (BeginsRound self.old.hub self.new.hub) }
         ensures noted { OnOk result (Notes (press.begin ∷ []) self.old self.new) }
@@ -34,6 +39,11 @@ impl<J: Naming> Desk<J> {
 
     /// Copies the first key that is left of the open round, as [`disco_hub::Hub::copy_one`] does,
     /// and notes its document, or that there is none now. Nothing where no key is left.
+    ///
+    /// # Errors
+    ///
+    /// As of [`disco_hub::Hub::copy_one`]: `NoRound` where no round is open, and `OutOfMemory`. The
+    /// desk is then as it was.
     pub fn copy_one(&mut self) -> Result<Option<Copied>, Fault>
         ensures copied { IfOk result (λ o. IfSome o (CopiesOne self.old.hub self.new.hub)) }
         ensures noted { IfOk result (λ o. IfSome o (λ c. Notes (note_of c ∷ []) self.old self.new)) }
@@ -50,8 +60,12 @@ impl<J: Naming> Desk<J> {
 
     /// Ends the open round and publishes: readers take the edition of all that was noted from now
     /// on. Answers how many documents it has. Takes no memory, and may wait for a seat that is
-    /// inside its look. Refused as `NoRound` where no round is open, and as `KeysLeft` where not all
-    /// of its keys were copied.
+    /// inside its look.
+    ///
+    /// # Errors
+    ///
+    /// `NoRound` where no round is open, and `KeysLeft` where not all of its keys were copied. The
+    /// desk is then as it was.
     pub fn publish<R: Wait>(&mut self, rt: &R) -> Result<usize, Fault>
         ensures documents { IfOk result (λ n. n ≡ len (edition_of (notes_of self.old))) }
         ensures published { OnOk result ((self.new.published ≡ self.old.published ++ self.old.pending ∷ []) × (self.new.pending ≡ [])) }

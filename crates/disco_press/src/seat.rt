@@ -70,6 +70,7 @@ impl<J: Naming> Seat<J> {
         ensures total { book.new.total ≡ book.old.total + 1 }
         ensures count { self.new ≡ record self.old { changes = self.old.changes + 1 } }
     {
+        // For the proof alone: its share is no more than the total, and counts the change too.
         book.audit(&mut self.mine);
         book.add(&mut self.mine, 1);
         self.changes += 1;
@@ -81,6 +82,7 @@ impl<J: Naming> Seat<J> {
         ensures same { self.new ≡ self.old }
         ensures bound { self.old.changes ≤ book.new.total }
     {
+        // For the proof alone: a share is no more than the total.
         book.audit(&mut self.mine);
     }
 

@@ -52,7 +52,10 @@ fn seats_of<J: Naming>(
 }
 
 /// A desk over an empty registry within the limits of the settings, with so many seats, 1 to 64.
-/// Refused only as `OutOfMemory`.
+///
+/// # Errors
+///
+/// `OutOfMemory` alone.
 pub fn open<J: Naming, R: Wait>(
     rt: &R,
     alloc: Global,

@@ -18,6 +18,11 @@ use disco_values::{Fault, Key};
 impl<J: Naming> Desk<J> {
     /// Does one operation at a moment in milliseconds, as [`disco_hub::Hub::write`] does, and notes
     /// its change, if it makes one. No seat counts it.
+    ///
+    /// # Errors
+    ///
+    /// As of [`disco_hub::Hub::write`]: what the registry refuses the operation as, and
+    /// `OutOfMemory`. Nothing is noted then.
     pub fn write(&mut self, op: Op, now: u64) -> Result<Applied, Fault>
         ensures done { IfOk result (λ a. Writes self.old.hub self.new.hub (ask_of op) now (done_by a)) }
         ensures proper { IfOk result (λ a. changes_properly a ≡ true) }
@@ -28,6 +33,7 @@ impl<J: Naming> Desk<J> {
         ensures rest { KeepsRest self.old.hub self.new.hub }
     {
         let applied = self.hub.write(op, now)?;
+        // For the proof alone: a version fits a u64.
         let _version = self.hub.version();
         match applied {
             Applied::Changed(change) => {
@@ -40,6 +46,10 @@ impl<J: Naming> Desk<J> {
 
     /// Does one operation as [`Desk::write`] does, for a seat, which counts its change, if it makes
     /// one.
+    ///
+    /// # Errors
+    ///
+    /// What [`Desk::write`] is refused as. Nothing is noted then, and the seat is as it was.
     pub fn write_as(&mut self, seat: &mut Seat<J>, op: Op, now: u64) -> Result<Applied, Fault>
         ensures done { IfOk result (λ a. Writes self.old.hub self.new.hub (ask_of op) now (done_by a)) }
         ensures proper { IfOk result (λ a. changes_properly a ≡ true) }
@@ -52,6 +62,7 @@ impl<J: Naming> Desk<J> {
         ensures rest { KeepsRest self.old.hub self.new.hub }
     {
         let applied = self.hub.write(op, now)?;
+        // For the proof alone: a version fits a u64.
         let _version = self.hub.version();
         match applied {
             Applied::Changed(change) => {

@@ -110,12 +110,17 @@ impl ChangedQueue {
     pub fn check(&self)
         ensures { AreFilled self.now }
     {
+        // For the proof alone: the invariant of a queue.
         let _base = self.base;
     }
 
     /// Makes room for one more change, which is of this key, where the queue is not full, and a place
-    /// for the key. No answer shows either. Refused only as `OutOfMemory`, and only where room or
-    /// place isn't there already; then no place is made.
+    /// for the key. No answer shows either.
+    ///
+    /// # Errors
+    ///
+    /// `OutOfMemory` alone, and only where room or place isn't there already. Then no place is
+    /// made.
     pub fn ready(&mut self, key: &Key) -> Result<(), Fault>
         ensures same { IsSameQueue self.old self.new }
         ensures history { (h : List Timed) → KeepsHistory self.old h → KeepsHistory self.new h }
@@ -180,8 +185,11 @@ impl ChangedQueue {
         }
     }
 
-    /// The last kept change of each key, in the order of the keys. Takes memory for them alone. Refused
-    /// only as `OutOfMemory`.
+    /// The last kept change of each key, in the order of the keys. Takes memory for them alone.
+    ///
+    /// # Errors
+    ///
+    /// `OutOfMemory` alone.
     pub fn last_changes(&self, alloc: Global) -> Result<Vec<&Change>, Fault>
         ensures kept { IfOk result (λ found. map (λ c. change_view c.now) found.items ≡ values (delta (changes self.now.kept) 0)) }
         ensures history { (h : List Timed) → KeepsHistory self.now h → IfOk result (λ found. map (λ c. change_view c.now) found.items ≡ values (delta (changes h) self.now.base)) }

@@ -35,6 +35,10 @@ impl<R: Source> Reader<R> {
     ghost use Rattle.disco_reader.specs.Streams.{ahead, reader_limits, source_of, is_spent};
 
     /// A buffer in front of a source, with nothing read.
+    ///
+    /// # Errors
+    ///
+    /// `AllocError` where memory is refused.
     pub fn new(alloc: Global, source: R, limits: Limits) -> Result<Reader<R>, AllocError>
     where
         R: Drop,

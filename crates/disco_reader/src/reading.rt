@@ -129,9 +129,12 @@ impl<R: Source> Reader<R> {
         Ok(Some(Request::new(head, body)))
     }
 
-    /// Reads a request. None at the end of the input, between requests. Refused as `BadRequest`,
-    /// `HeadTooLarge`, `UnsupportedCoding`, `BodyTooLarge`, `OutOfMemory` or `ReadFailed`; then the
-    /// reader is spent.
+    /// Reads a request. None at the end of the input, between requests.
+    ///
+    /// # Errors
+    ///
+    /// `BadRequest`, `HeadTooLarge`, `UnsupportedCoding`, `BodyTooLarge`, `OutOfMemory` or
+    /// `ReadFailed`. Then the reader is spent.
     pub fn read_request(&mut self, alloc: Global) -> Result<Option<Request>, Fault>
         requires { IsFalse (is_spent self.old) }
         // What is read is the request at the front of the stream, and the rest stays ahead.

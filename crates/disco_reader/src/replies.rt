@@ -138,8 +138,11 @@ impl<R: Source> Reader<R> {
     }
 
     /// Reads a reply, its body by length, in chunks or, with neither, up to the end of the input.
-    /// Refused as `BadRequest` (also at an end before its head), `HeadTooLarge`, `BodyTooLarge`,
-    /// `OutOfMemory` or `ReadFailed`; then the reader is spent.
+    ///
+    /// # Errors
+    ///
+    /// `BadRequest` (also at an end before its head), `HeadTooLarge`, `BodyTooLarge`, `OutOfMemory`
+    /// or `ReadFailed`. Then the reader is spent.
     pub fn read_reply(&mut self, alloc: Global) -> Result<ReceivedReply, Fault>
         requires { IsFalse (is_spent self.old) }
         // What is read is the reply at the front of the stream, and the rest stays ahead.

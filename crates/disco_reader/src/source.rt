@@ -33,6 +33,10 @@ pub trait Source {
     ghost failed: { Self → ℕ };
 
     /// Reads once. 0 is the end of the input, where `buf` has room.
+    ///
+    /// # Errors
+    ///
+    /// `Failed` where the read fails. That raises the count of failures, or finds it at 2^64 - 1.
     fn read(&mut self, buf: &mut [u8]) -> Result<usize, Failed>
         ensures bound { ReadsAtMost result buf.new }
         ensures bytes { ReadConsumes (remaining self.old) (remaining self.new) result buf.new }
@@ -56,6 +60,10 @@ pub trait Sink {
     ghost failed: { Self → ℕ };
 
     /// Writes once, at least one byte where there are any.
+    ///
+    /// # Errors
+    ///
+    /// `Failed` where the write fails. That raises the count of failures, or finds it at 2^64 - 1.
     fn write(&mut self, buf: &[u8]) -> Result<usize, Failed>
         ensures bound { WritesAtMost result buf.now }
         ensures some { IfOk result (λ n. 0 < length buf.now → 0 < n) }

@@ -125,10 +125,12 @@ impl<F: Fetch> Client<F> {
     /// other delta. They become the copy where there was none, where it is of another run, and where
     /// it isn't newer. A certificate of another version than the document's own is none.
     ///
-    /// Refused as `NotFetched` where a fetch failed or its status tells nothing, as `BadDocument`
-    /// where a body is no document of many apps, or all apps come to a certified client without a
-    /// certificate, and as `OutOfMemory`. The copy is then the old one, or a plain client's that
-    /// after the overlay where what followed it was refused.
+    /// # Errors
+    ///
+    /// `NotFetched` where a fetch failed or its status tells nothing, `BadDocument` where a body is
+    /// no document of many apps, or all apps come to a certified client without a certificate, and
+    /// `OutOfMemory`. The copy is then the old one, or a plain client's that after the overlay
+    /// where what followed it was refused.
     pub fn refresh(&mut self) -> Result<Refreshed, Fault>
         ensures { Refreshes F.gives F.failed self.old result self.new }
     {

@@ -28,8 +28,12 @@ pub trait Fetch {
     // How often a fetch has failed.
     ghost failed: { Self → ℕ };
 
-    /// Asks for all apps or for the delta. A fetch that fails otherwise than for want of memory
-    /// raises the count of failures, or finds it at 2^64 - 1.
+    /// Asks for all apps or for the delta.
+    ///
+    /// # Errors
+    ///
+    /// A fault where the fetch fails. Any but `OutOfMemory` raises the count of failures, or finds
+    /// it at 2^64 - 1.
     fn fetch(&mut self, key: &DocKey) -> Result<Fetched, Fault>
         requires { (key.now.query ≡ Apps) ⊎ (key.now.query ≡ Delta) }
         ensures answer { gives self.old key.now result self.new }

@@ -207,6 +207,10 @@ impl Registry {
 
     /// The records of an app in the order of their ids. It costs nothing for those of other apps,
     /// but for the search.
+    ///
+    /// # Errors
+    ///
+    /// `AllocError` where memory is refused.
     pub fn of_app(&self, alloc: Global, app: &Text) -> Result<Vec<Held>, AllocError>
         ensures { IfOk result (λ v. map entry_of v.items ≡ filter (is_of_app app.now) (values self.now.held)) }
     {
@@ -226,6 +230,7 @@ impl Registry {
         ensures version { result ≡ self.now.version }
         ensures fits { self.now.versions < 2 ^ 64 }
     {
+        // For the proof alone: `versions` fits a u64.
         let _versions = self.versions;
         self.version
     }
@@ -237,8 +242,11 @@ impl Registry {
         self.records.as_map()
     }
 
-    /// Makes every growth that an operation needs, and changes no answer. Refused as the operation
-    /// is, and as `OutOfMemory`.
+    /// Makes every growth that an operation needs, and changes no answer.
+    ///
+    /// # Errors
+    ///
+    /// What the operation is refused as, and `OutOfMemory`.
     pub fn ready(&mut self, op: Op, now: u64) -> Result<Ready, Fault>
         ensures same { IsSameRegistry self.old self.new }
         ensures ready { IfOk result (λ r. accepts self.old (ask_of op) now ≡ Ok r × IsReady self.new r) }
@@ -277,6 +285,7 @@ impl Registry {
         ensures left { OnOk result (self.now.version < self.now.versions) }
         ensures refused { IfErr result (MayRefuse self.now (register (row posted.now)) now) }
     {
+        // For the proof alone: only the clauses name them.
         let _ = now;
         let _ = posted;
         if self.has_no_place(held) {
@@ -334,6 +343,7 @@ impl Registry {
         ensures ready { IfOk result (λ r. accepts self.now (renew key.now) now ≡ Ok r × IsReady self.now r) }
         ensures refused { IfErr result (MayRefuse self.now (renew key.now) now) }
     {
+        // For the proof alone: only the clauses name it.
         let _ = now;
         let Some(held) = self.records.get(key) else {
             return Err(Fault::NotFound);
@@ -436,9 +446,12 @@ impl Registry {
         self.version += 1;
     }
 
-    /// Does one operation at a moment in milliseconds. It is refused as `BadStatus`, `NotFound`,
-    /// `TooManyInstances` or `VersionsSpent`, the first of these whose cause holds, or as
-    /// `OutOfMemory`, and then changes no answer.
+    /// Does one operation at a moment in milliseconds.
+    ///
+    /// # Errors
+    ///
+    /// `BadStatus`, `NotFound`, `TooManyInstances` or `VersionsSpent`, the first of these whose
+    /// cause holds, or `OutOfMemory`. Then no answer is changed.
     pub fn apply(&mut self, op: Op, now: u64) -> Result<Applied, Fault>
         ensures done { IfOk result (λ a. accepts self.old (ask_of op) now ≡ Ok (done_by a)) }
         ensures refused { IfErr result (MayRefuse self.old (ask_of op) now) }

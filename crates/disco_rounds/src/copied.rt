@@ -26,8 +26,11 @@ impl Copied {
         matches!(self, Copied::Doc(_))
     }
 
-    /// Puts it into an edition: its document, shared, or that there is none. Refused only as
-    /// `OutOfMemory`, and then the edition is as before.
+    /// Puts it into an edition: its document, shared, or that there is none.
+    ///
+    /// # Errors
+    ///
+    /// `OutOfMemory` alone. Then the edition is as before.
     pub fn put_into(&self, edition: &mut Edition) -> Result<(), Fault>
         ensures put { OnOk result (edition.new ≡ put_copy edition.old self.now) }
         ensures as_before { OnErr result (edition.new ≡ edition.old) }

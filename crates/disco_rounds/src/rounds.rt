@@ -47,6 +47,10 @@ impl Rounds {
 
     /// Begins a round of the edition's keys and of those of kept documents. Answers how many keys it
     /// has.
+    ///
+    /// # Errors
+    ///
+    /// `RoundOpen` in an open round, and `OutOfMemory`. The rounds are then as they were.
     pub fn begin(&mut self, alloc: Global, cache: &DocCache) -> Result<usize, Fault>
         ensures begun { IfOk result (λ n. Begins (round_keys self.old.edition cache.now) n self.old self.new) }
         ensures refused { IfErr result (λ e. e ≢ OutOfMemory → (e ≡ RoundOpen) × (self.old.round ≢ None)) }
@@ -73,6 +77,10 @@ impl Rounds {
     }
 
     /// The first key that is left of the open round, if one is.
+    ///
+    /// # Errors
+    ///
+    /// `NoRound` where no round is open.
     pub fn first(&self) -> Result<Option<&DocKey>, Fault>
         ensures first { IfOk result (λ o. IfSome self.now.round (λ r. option_map (λ k. k.now) o ≡ slice_get r.left 0)) }
         ensures open { OnOk result (self.now.round ≢ None) }
@@ -85,6 +93,10 @@ impl Rounds {
     }
 
     /// Takes the first key that is left out of the open round.
+    ///
+    /// # Errors
+    ///
+    /// `NoRound` where no round is open or no key is left. The rounds are then as they were.
     pub fn mark(&mut self, kept: bool) -> Result<(), Fault>
         ensures marked { OnOk result (Advances kept self.old self.new) }
         ensures refused { IfErr result (λ e. (e ≡ NoRound) × IfSome self.old.round (λ r. r.left ≡ [])) }
@@ -101,6 +113,10 @@ impl Rounds {
     }
 
     /// Ends the open round, of which no key may have been copied.
+    ///
+    /// # Errors
+    ///
+    /// `NoRound` where no round is open or a key was copied. The rounds are then as they were.
     pub fn abandon(&mut self) -> Result<(), Fault>
         ensures abandoned { OnOk result (IfSome self.old.round (λ r. r.done ≡ []) × (self.old.round ≢ None) × (self.new ≡ record self.old { round = None })) }
         ensures refused { IfErr result (λ e. (e ≡ NoRound) × IfSome self.old.round (λ r. r.done ≢ [])) }
@@ -117,6 +133,11 @@ impl Rounds {
 
     /// Ends the open round, of which no key may be left: the keys that had a document are the
     /// edition's. Answers how many these are.
+    ///
+    /// # Errors
+    ///
+    /// `NoRound` where no round is open, and `KeysLeft` where a key is left. The rounds are then as
+    /// they were.
     pub fn finish(&mut self) -> Result<usize, Fault>
         ensures finished { IfOk result (λ n. Ends n self.old self.new) }
         ensures refused { IfErr result (λ e. StaysOpen e self.old.round) }

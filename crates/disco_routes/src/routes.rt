@@ -93,7 +93,11 @@ fn filled(route: Route, path: &[u8]) -> Place<&[u8]>
 }
 
 impl Routes {
-    /// The table. Refused for want of memory alone.
+    /// The table.
+    ///
+    /// # Errors
+    ///
+    /// `AllocError` for want of memory alone.
     pub fn new(alloc: Global) -> Result<Routes, AllocError> {
         match router(alloc) {
             Ok(router) => Ok(Routes { router }),

@@ -68,10 +68,12 @@ where
 /// A connection is waited for as a server does ([`Waits::of_server`]): one that has sent nothing of a
 /// next request gives way to one that waits while no worker is free.
 ///
-/// Refused as `OutOfMemory` and as `ReadFailed`, once all workers have ended. Where the host refuses a
-/// worker, or there is no memory before they begin, none takes a connection; where it refuses a
-/// connection for good, or one of them finds no memory or no descriptor for what it needs, no more is
-/// taken, and those that were taken are served to their end.
+/// # Errors
+///
+/// `OutOfMemory` and `ReadFailed`, once all workers have ended. Where the host refuses a worker, or
+/// there is no memory before they begin, none takes a connection. Where it refuses a connection for
+/// good, or one of them finds no memory or no descriptor for what it needs, no more is taken, and
+/// those that were taken are served to their end.
 pub fn start<'a, J, R, C, G>(
     rt: &'a R,
     alloc: Global,

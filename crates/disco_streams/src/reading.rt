@@ -36,8 +36,11 @@ fn read_more<R: Source>(
     }
 }
 
-/// All bytes that a source gives, up to its end. Refused as `ReadFailed` where a read fails, and as
-/// `OutOfMemory`.
+/// All bytes that a source gives, up to its end.
+///
+/// # Errors
+///
+/// `ReadFailed` where a read fails, and `OutOfMemory`.
 pub fn read_all<R: Source>(alloc: Global, source: &mut R) -> Result<Vec<u8>, Fault>
     ensures all { IfOk result (λ bytes. IfSome (R.remaining source.old) (λ given. bytes.items ≡ given)) }
     ensures end { OnOk result (IsAtEnd (R.remaining source.new)) }

@@ -4,8 +4,11 @@ ghost use Rattle.disco_streams.specs.Writes.{WritesBytes};
 
 use disco_reader::{Failed, Sink};
 
-/// Writes all of these bytes, in as many writes as it takes. Where a write fails, a front of them was
-/// written.
+/// Writes all of these bytes, in as many writes as it takes.
+///
+/// # Errors
+///
+/// `Failed` where a write fails. Then a front of the bytes was written.
 pub fn write_all<W: Sink>(sink: &mut W, bytes: &[u8]) -> Result<(), Failed>
     ensures { WritesBytes (W.contents sink.old) (W.contents sink.new) (W.failed sink.old) (W.failed sink.new) result bytes.now }
 {

@@ -41,8 +41,11 @@ fn turn<F: Fetch, W: Sink>(
 
 /// Refreshes a client so many times, 0 being no end, with a pause in milliseconds between two, and
 /// tells what comes of each: a line for a copy that changed, for a vip whose instances that are up
-/// changed, and for a refusal, after which it goes on. Refused as `WriteFailed` where a write fails,
-/// and as `OutOfMemory` where there is none for a line.
+/// changed, and for a refusal, after which it goes on.
+///
+/// # Errors
+///
+/// `WriteFailed` where a write fails, and `OutOfMemory` where there is no memory for a line.
 pub fn follow_client<R: Clock, F: Fetch, W: Sink>(
     rt: &R,
     alloc: Global,

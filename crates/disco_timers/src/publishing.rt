@@ -48,8 +48,11 @@ fn publish<J: Naming, R: Wait>(rt: &R, desk: &mut Desk<J>) -> Step
 }
 
 /// Takes the next step of a publisher: it goes on with the round that is open, and begins one only
-/// where none is. May wait for a seat that is inside its look. Refused only as `OutOfMemory`, and
-/// then the desk is as it was.
+/// where none is. May wait for a seat that is inside its look.
+///
+/// # Errors
+///
+/// `OutOfMemory` alone. Then the desk is as it was.
 pub fn publish_step<J: Naming, R: Wait>(rt: &R, desk: &mut Desk<J>) -> Result<Step, Fault>
     ensures moves { IfOk result (λ step. TakesStep desk.old step desk.new) }
     ensures rest { MovesRounds desk.old.hub desk.new.hub }
@@ -65,7 +68,11 @@ pub fn publish_step<J: Naming, R: Wait>(rt: &R, desk: &mut Desk<J>) -> Result<St
 }
 
 /// Takes the next step of a publisher under the lock, as [`publish_step`] does, and gives the lock
-/// back. Refused only as `OutOfMemory`.
+/// back.
+///
+/// # Errors
+///
+/// `OutOfMemory` alone.
 pub fn publish_step_locked<J: Naming, R: Wait>(rt: &R, desk: &Mutex<Desk<J>>) -> Result<Step, Fault>
     ensures { IfErr result (λ fault. fault ≡ OutOfMemory) }
 {

@@ -90,8 +90,10 @@ fn tend_often<J: Naming, R: Wait + rt::Clock, C: Clock + Copy>(
 /// Publishes and cleans every 30,000 milliseconds of the clock, and closes minutes and lets leases
 /// run out every 60,000, each on a thread of its own. Returns once `stop` is set.
 ///
-/// Refused only as `ReadFailed`, where the host refuses a thread: then the others end at once, and
-/// what they did until then stays.
+/// # Errors
+///
+/// `ReadFailed` alone, where the host refuses a thread. Then the others end at once, and what they
+/// did until then stays.
 pub fn timers<J, R, C>(
     rt: &R,
     desk: &Mutex<Desk<J>>,

@@ -74,10 +74,15 @@ impl Entries {
     pub fn ordered(&self)
         ensures { is_by_name self.now ≡ true }
     {
+        // For the proof alone: the invariant of entries.
         let _ = &self.entries;
     }
 
     /// The same entries once more.
+    ///
+    /// # Errors
+    ///
+    /// `AllocError` where memory is refused.
     pub fn copy(&self) -> Result<Entries, AllocError>
         ensures { IfOk result (λ e. e ≡ self.now) }
     {
@@ -87,7 +92,11 @@ impl Entries {
     }
 
     /// The entries of pairs of a name and a text: of equal names the first counts, and an entry
-    /// named `@class` is dropped. Refused only as `OutOfMemory`.
+    /// named `@class` is dropped.
+    ///
+    /// # Errors
+    ///
+    /// `OutOfMemory` alone.
     pub fn from_pairs(alloc: Global, pairs: Vec<(Text, Text)>) -> Result<Entries, Fault>
         ensures entries { IfOk result (λ e. e ≡ entries_of pairs.items) }
         ensures memory { IfErr result (λ e. e ≡ OutOfMemory) }
@@ -115,9 +124,14 @@ impl Entries {
     }
 
     /// Puts all of the other entries in.
+    ///
+    /// # Errors
+    ///
+    /// `AllocError` where memory is refused.
     pub fn put_all(&mut self, others: &Entries) -> Result<(), AllocError>
         ensures { OnOk result (self.new ≡ with_entries self.old others.now) }
     {
+        // For the proof alone: the names stand in byte order, each once.
         others.ordered();
         for (name, text) in others.as_slice() {
             self.put(name.clone()?, text.clone()?)?;

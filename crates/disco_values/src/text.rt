@@ -24,6 +24,10 @@ impl Model for Text {
 
 impl Text {
     /// The text once more, in memory of its own.
+    ///
+    /// # Errors
+    ///
+    /// `AllocError` where memory is refused.
     pub fn new(alloc: Global, text: &str) -> Result<Text, AllocError>
         ensures { IfOk result (λ t. t ≡ text.now) }
     {
@@ -59,8 +63,11 @@ impl Text {
     }
 }
 
-/// The text with its ASCII letters in upper case, and all else as it is. Refused only as
-/// `OutOfMemory`.
+/// The text with its ASCII letters in upper case, and all else as it is.
+///
+/// # Errors
+///
+/// `OutOfMemory` alone.
 pub fn upper(alloc: Global, text: &str) -> Result<Text, Fault>
     ensures text { IfOk result (λ t. t ≡ in_upper_case text.now) }
     ensures memory { IfErr result (λ e. e ≡ OutOfMemory) }
@@ -68,6 +75,11 @@ pub fn upper(alloc: Global, text: &str) -> Result<Text, Fault>
     Ok(upper_text(alloc, text)?)
 }
 
+/// The text with its ASCII letters in upper case, and all else as it is.
+///
+/// # Errors
+///
+/// `AllocError` where memory is refused.
 pub fn upper_text(alloc: Global, text: &str) -> Result<Text, AllocError>
     ensures { IfOk result (λ t. t ≡ in_upper_case text.now) }
 {

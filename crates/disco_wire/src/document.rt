@@ -19,9 +19,12 @@ use disco_values::{Fault, Text};
 use serde_json::Value;
 use std::alloc::{AllocError, Global};
 
-/// What a document means: the body of an answer to one of Eureka's `GET`s. Refused as `BadJson`
-/// where the bytes are no JSON text (RFC 8259), as `BadDocument` where its tree means nothing, and
-/// as `OutOfMemory`.
+/// What a document means: the body of an answer to one of Eureka's `GET`s.
+///
+/// # Errors
+///
+/// `BadJson` where the bytes are no JSON text (RFC 8259), `BadDocument` where its tree means
+/// nothing, and `OutOfMemory`.
 pub fn read_document(alloc: Global, bytes: &[u8]) -> Result<Wire, Fault>
     ensures { Gives wire_meaning result (document_of bytes.now) }
 {

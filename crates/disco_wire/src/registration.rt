@@ -12,10 +12,13 @@ use disco_values::{Fault, Field};
 use serde_json::Value;
 use std::alloc::Global;
 
-/// The record of a registration, the body of Eureka's `POST /apps/{app}`. Refused as `BadJson`
-/// where the bytes are no JSON object with an object `instance`, as `MissingField` for the first
-/// of `instanceId`, `hostName`, `ipAddr`, `app` and the `name` of `dataCenterInfo` that is absent
-/// or empty, and as `OutOfMemory`.
+/// The record of a registration, the body of Eureka's `POST /apps/{app}`.
+///
+/// # Errors
+///
+/// `BadJson` where the bytes are no JSON object with an object `instance`, `MissingField` for the
+/// first of `instanceId`, `hostName`, `ipAddr`, `app` and the `name` of `dataCenterInfo` that is
+/// absent or empty, and `OutOfMemory`.
 pub fn read_registration(alloc: Global, bytes: &[u8]) -> Result<Record, Fault>
     ensures { Gives row result (registration_of bytes.now) }
 {

@@ -35,10 +35,14 @@ use disco_values::Fault;
 use std::alloc::Global;
 
 /// Runs the events in order from an empty registry, in the run that the settings name, and answers
-/// each. Refused as `BadEvent`, with the number of the first such event counted from 1, where a
-/// client is to take what is no earlier served document of all apps and no delta; and as
-/// `OutOfMemory` where no room for the replies is found. An event that finds no memory is answered so
-/// and changes nothing; a run of cancels that finds none says so behind how many are gone.
+/// each. An event that finds no memory is answered so and changes nothing; a run of cancels that
+/// finds none says so behind how many are gone.
+///
+/// # Errors
+///
+/// `BadEvent`, with the number of the first such event counted from 1, where a client is to take
+/// what is no earlier served document of all apps and no delta, and `OutOfMemory` where no room for
+/// the replies is found.
 pub fn run(alloc: Global, settings: &Settings, events: &[Event]) -> Result<Vec<Reply>, Fault>
     ensures each { IfOk result (λ replies. length replies.items ≡ length events.now) }
     ensures answers { IfOk result (λ replies. AreAnswers (rules settings.now) settings.now.run events.now replies.items) }

@@ -29,15 +29,22 @@ pub trait Tell<W> {
     // The bytes that a reply is told as.
     ghost text: { Reply → List ℕ };
 
-    /// Tells a reply. Refused as `WriteFailed` or `OutOfMemory`.
+    /// Tells a reply.
+    ///
+    /// # Errors
+    ///
+    /// `WriteFailed` or `OutOfMemory`.
     fn tell(&mut self, reply: &Reply, out: &mut W) -> Result<(), Fault>
         ensures told { OnOk result (Appends (told self.old out.old) (told self.new out.new) (text reply.now)) }
         ensures fault { IfErr result (λ e. (e ≡ WriteFailed) ⊎ (e ≡ OutOfMemory)) };
 }
 
 /// Runs the events in order from an empty registry as `run` does, and tells each reply as it comes.
-/// No reply is held, so none of them is a take. Refused as the teller refuses, with the replies
-/// before told.
+/// No reply is held, so none of them is a take.
+///
+/// # Errors
+///
+/// What the teller refuses as, `WriteFailed` or `OutOfMemory`, with the replies before told.
 pub fn run_to<W, T: Tell<W>>(
     alloc: Global,
     settings: &Settings,

@@ -37,7 +37,11 @@ use std::alloc::Global;
 /// The document that a query asks for in a form, as compact JSON; `None` exactly where the query is
 /// for an app, a vip, a secure vip or an instance, and no record is. A delta names what the queue
 /// keeps. The counts, the vips and the kept texts, in that form, have to be those of the registry: the
-/// document is joined from these texts. Refused only as `OutOfMemory`.
+/// document is joined from these texts.
+///
+/// # Errors
+///
+/// `OutOfMemory` alone.
 pub fn write_document(
     alloc: Global,
     form: Form,
@@ -68,6 +72,10 @@ pub fn write_document(
 }
 
 /// The document that a query asks for in the full form, as [`write_document`] gives it.
+///
+/// # Errors
+///
+/// `OutOfMemory` alone.
 pub fn write_full(
     alloc: Global,
     query: &Query,

@@ -155,7 +155,10 @@ fn put_instance(
 }
 
 /// The text of an instance in a form, as compact JSON, with what was done to it where that is said.
-/// Refused only as `OutOfMemory`.
+///
+/// # Errors
+///
+/// `OutOfMemory` alone.
 pub fn write_text(
     alloc: Global,
     form: Form,
@@ -165,6 +168,7 @@ pub fn write_text(
     ensures text { IfOk result (λ v. IsTextOf form v.items (row rec.now, action)) }
     ensures memory { IfErr result (λ e. e ≡ OutOfMemory) }
 {
+    // For the proof alone: what holds of every record, and that its app's name is UTF-8.
     well_formed(rec);
     let _app = rec.key.app.as_str();
     let mut out = Writer::new(Vec::with_capacity(alloc, usual(form))?);
@@ -173,6 +177,10 @@ pub fn write_text(
 }
 
 /// The text of a mention in the full form, as [`write_text`] gives it.
+///
+/// # Errors
+///
+/// `OutOfMemory` alone.
 pub fn text_full(alloc: Global, mention: &Mention) -> Result<Vec<u8>, Fault>
     ensures text { IfOk result (λ v. IsTextOf Full v.items (tell mention.now)) }
     ensures memory { IfErr result (λ e. e ≡ OutOfMemory) }

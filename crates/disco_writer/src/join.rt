@@ -223,6 +223,7 @@ pub(crate) fn join_many(
     ensures text { IfOk result (λ v. (f : Form) (es : List Entry) → AreTextsOf f (shown_by pieces.now) es → v.items ≡ compact_text (document_tree f es hash.now version)) }
     ensures means { IfOk result (λ v. (f : Form) (es : List Entry) → AreTextsOf f (shown_by pieces.now) es → document_of v.items ≡ Ok (meant Many (Some hash.now) (Some version) (mentions_in f es))) }
 {
+    // For the proof alone: a hash code is UTF-8.
     let _hash = hash.as_str();
     let mut out = Vec::with_capacity(alloc, room(pieces, hash))?;
     push_many(alloc, &mut out, pieces, hash, version)?;
@@ -238,6 +239,7 @@ pub(crate) fn join_app(
     ensures text { IfOk result (λ v. (f : Form) (es : List Entry) → AreTextsOf f (shown_by pieces.now) es → v.items ≡ compact_text (app_document f name.now es)) }
     ensures means { IfOk result (λ v. (f : Form) (es : List Entry) → AreTextsOf f (shown_by pieces.now) es → document_of v.items ≡ Ok (meant App None None (mentions_in f es))) }
 {
+    // For the proof alone: a name is UTF-8.
     let _name = name.as_str();
     let mut out = Vec::with_capacity(alloc, room(pieces, name))?;
     push_app(alloc, &mut out, name, pieces)?;

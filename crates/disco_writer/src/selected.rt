@@ -71,6 +71,7 @@ pub(crate) fn held_under_svip(
 pub(crate) fn count(held: &[Held]) -> Counts
     ensures { result ≡ tally_of (rows_in (held_entries held.now)) }
 {
+    // For the proof alone: their number fits a usize.
     let _len = held.len();
     let mut counts = Counts::new();
     for one in held {

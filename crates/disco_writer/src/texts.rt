@@ -73,7 +73,11 @@ impl Texts {
 
     /// Makes a place for a key and keeps the text for the next `put`. No answer shows a place
     /// without a text, and there is at most this one: that of an earlier text that was not put is
-    /// given back. Refused only as `OutOfMemory`, and then no place stands empty.
+    /// given back.
+    ///
+    /// # Errors
+    ///
+    /// `OutOfMemory` alone. Then no place stands empty.
     pub fn ready(&mut self, key: &Key, text: Vec<u8>) -> Result<(), Fault>
         ensures same { IsSameTexts self.old self.new }
         ensures ready { OnOk result (IsReadyFor self.new key.now text.items) }

@@ -52,6 +52,10 @@ fn answer(exact: bool) -> &'static str
 
 /// What a fleet came to, as lines: `fleet N HASH` of the registry, and of each client whether its
 /// copy has exactly the registry's records, `client I yes` or `client I no`.
+///
+/// # Errors
+///
+/// `OutOfMemory` where memory is refused.
 pub fn lines_of<F: Fetch>(
     alloc: Global,
     registry: &Copy,
