@@ -19,15 +19,18 @@ use Rattle.disco_message.specs.ReplyText.{Answer}
 use Rattle.disco_calls.specs.Calls.{Asks, loads}
 use Rattle.disco_answers.specs.Replies.{IsReply, with_document}
 
--- these changes are noted, and counted by the seat and as a seat's; whatever has happened before, this is a reply to it, they come behind it, and the desk stands for what has happened after
+-- these changes are noted, and counted by the seat and as a seat's; whatever has happened before, this is a reply to it, they come behind it, and the
+-- desk stands for what has happened after
 pub record IsAnsweredOn (old new : DeskState) (before after : SeatState) (asked : Result Asks Fault) (now : ℕ) (y : Answer) : Type 0 where
   pub changes : List Entry
   pub noted : Notes (map change changes) old new
   pub counted : after.changes ≡ before.changes + length changes
   pub by_seat : CountsBySeat (length changes) old new
-  pub replied : (p : Past) → HubStandsFor old.hub p → (q : Past) × IsReply (rules_of old.hub) p asked now y q × (history q ≡ history p ++ changes) × HubStandsFor new.hub q
+  pub replied : (p : Past) → HubStandsFor old.hub p → (q : Past) × IsReply (rules_of old.hub) p asked now y q × (history q ≡ history p ++ changes)
+      × HubStandsFor new.hub q
 
--- and the desk had no fewer changes than the seat, had published what the seat knew, and had noted what the seat had heard of; then the seat knows what it has published, and all that it has noted
+-- and the desk had no fewer changes than the seat, had published what the seat knew, and had noted what the seat had heard of; then the seat knows
+-- what it has published, and all that it has noted
 pub record IsAnsweredBy (old new : DeskState) (before after : SeatState) (asked : Result Asks Fault) (now : ℕ) (y : Answer) : Type 0 where
   pub valid : IsValid old
   pub bound : before.changes ≤ version_of old.hub

@@ -80,7 +80,8 @@ fn answer_called<J: Naming>(
     called: Result<Call, Fault>,
     now: u64,
 ) -> Reply<Shared>
-    ensures answered { (asked : Result Asks Fault) → Gives call_view called asked → IsAnsweredOn desk.old desk.new seat.old seat.new asked now (answer_of shared_text result) }
+    ensures answered { (asked : Result Asks Fault) → Gives call_view called asked
+        → IsAnsweredOn desk.old desk.new seat.old seat.new asked now (answer_of shared_text result) }
     ensures rest { KeepsRest desk.old.hub desk.new.hub }
 {
     match called {
@@ -96,7 +97,8 @@ pub(crate) fn answer_read<J: Naming>(
     called: Result<Call, Fault>,
     now: u64,
 ) -> Reply<Shared>
-    ensures answered { (asked : Result Asks Fault) → Gives call_view called asked → IsAnsweredBy desk.old desk.new seat.old seat.new asked now (answer_of shared_text result) }
+    ensures answered { (asked : Result Asks Fault) → Gives call_view called asked
+        → IsAnsweredBy desk.old desk.new seat.old seat.new asked now (answer_of shared_text result) }
     ensures rest { KeepsRest desk.old.hub desk.new.hub }
 {
     // For the proof alone: what holds of every desk.

@@ -22,7 +22,8 @@ use std::sync::{Mutex, MutexGuard, Wait};
 
 /// The document that is called for, where a look finds it.
 fn looked<J: Naming>(seat: &mut Seat<J>, called: &Result<Call, Fault>) -> Option<Reply<Shared>>
-    ensures looked { IfSome result (λ reply. (asked : Result Asks Fault) → Gives call_view called.now asked → IsLooked seat.old seat.new asked (answer_of shared_text reply)) }
+    ensures looked { IfSome result (λ reply. (asked : Result Asks Fault) → Gives call_view called.now asked
+        → IsLooked seat.old seat.new asked (answer_of shared_text reply)) }
     ensures known { IsPrefix seat.old.known seat.new.known }
     ensures heard { seat.new.heard ≡ seat.old.heard }
     ensures count { seat.new.changes ≡ seat.old.changes }
@@ -44,7 +45,8 @@ fn answer_locked<J: Naming, R: Wait>(
     called: Result<Call, Fault>,
     now: u64,
 ) -> Reply<Shared>
-    ensures answered { (asked : Result Asks Fault) → Gives call_view called asked → IsAnsweredBySome seat.old seat.new asked now (answer_of shared_text result) }
+    ensures answered { (asked : Result Asks Fault) → Gives call_view called asked
+        → IsAnsweredBySome seat.old seat.new asked now (answer_of shared_text result) }
     ensures known { IsPrefix seat.old.known seat.new.known }
 {
     let mut guard = desk.lock(rt);

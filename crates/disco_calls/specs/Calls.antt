@@ -27,7 +27,8 @@ use Rattle.disco_calls.specs.declared.call.Call.TheVariants as calls
 use Rattle.disco_calls.specs.declared.method.Method.{Method}
 use Rattle.disco_calls.specs.declared.method.Method.TheVariants.{Get, Post, Put, Delete, Other}
 
--- what is asked for: a document that readers may share, that of an instance, that of the instance of an id, an operation, or nothing, since the path has these methods alone
+-- what is asked for: a document that readers may share, that of an instance, that of the instance of an id, an operation, or nothing, since the path
+-- has these methods alone
 pub data Asks : Type 0 where
   loads : DocKey → Asks
   shows : Key → Form → Asks

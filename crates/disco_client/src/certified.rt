@@ -54,7 +54,10 @@ impl CertifiedCopy {
     ) -> Result<bool, Fault>
         requires { wire.shape ≡ Many }
         ensures took { IfOk result (λ took. took ≡ gives_way cert self.old.known) }
-        ensures now { IfOk result (λ took. self.new ≡ (if took then record { copy = copied (tell_all wire.mentions); known = known_at form cert } else self.old)) }
+        ensures now { IfOk result (λ took. self.new ≡ (if took then record {
+          copy = copied (tell_all wire.mentions);
+          known = known_at form cert;
+        } else self.old)) }
         ensures unchanged { OnErr result (self.new ≡ self.old) }
         ensures memory { IfErr result (λ e. e ≡ OutOfMemory) }
     {
@@ -74,7 +77,10 @@ impl CertifiedCopy {
     pub fn follow(&mut self, wire: Wire, form: Form, cert: Cert) -> Result<bool, Fault>
         requires { wire.shape ≡ Many }
         ensures took { IfOk result (λ took. took ≡ reaches cert self.old.known) }
-        ensures now { IfOk result (λ took. self.new ≡ (if took then record { copy = overlay self.old.copy (tell_all wire.mentions); known = known_at form cert } else self.old)) }
+        ensures now { IfOk result (λ took. self.new ≡ (if took then record {
+          copy = overlay self.old.copy (tell_all wire.mentions);
+          known = known_at form cert;
+        } else self.old)) }
         ensures unchanged { OnErr result (self.new ≡ self.old) }
         ensures memory { IfErr result (λ e. e ≡ OutOfMemory) }
     {

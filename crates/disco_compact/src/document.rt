@@ -40,7 +40,8 @@ pub fn write_compact(
     ensures written { IfOk result (λ o. is_delta query.now ≡ false
         → (h : List Entry) → StandsFor registry.now h → IsWritten Compact query.now h (length h) (option_map (λ v. v.items) o)) }
     ensures delta { IfOk result (λ o. is_delta query.now ≡ true
-        → (h : List Timed) → StandsFor registry.now (changes h) → KeepsHistory queue.now h → IsWritten Compact query.now (changes h) queue.now.base (option_map (λ v. v.items) o)) }
+        → (h : List Timed) → StandsFor registry.now (changes h) → KeepsHistory queue.now h
+        → IsWritten Compact query.now (changes h) queue.now.base (option_map (λ v. v.items) o)) }
     ensures memory { IfErr result (λ e. e ≡ OutOfMemory) }
 {
     write_document(

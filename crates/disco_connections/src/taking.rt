@@ -20,7 +20,8 @@ fn accept_next<L: OpenListener, R: rt::Clock>(
 ) -> Option<(L::Stream, u64)>
     ensures open { IfSome result (λ _. IsOpen acceptor.old) }
     ensures number { IfSome result (λ r. (r.1 ≡ min (acceptor.old.taken + 1) (2 ^ 64 - 1)) × (acceptor.new ≡ record acceptor.old { taken = r.1 })) }
-    ensures shut { IsNone result → ((IsOpen acceptor.old → ⊥) × (acceptor.new ≡ acceptor.old)) ⊎ (IsOpen acceptor.old × (acceptor.new ≡ record acceptor.old { refused = Some ByHost })) }
+    ensures shut { IsNone result → ((IsOpen acceptor.old → ⊥) × (acceptor.new ≡ acceptor.old))
+        ⊎ (IsOpen acceptor.old × (acceptor.new ≡ record acceptor.old { refused = Some ByHost })) }
 {
     if !acceptor.is_open() {
         return None;

@@ -14,7 +14,8 @@ use Rattle.disco_queue.specs.Base.{base_after_change, base_after_cleaning}
 use Rattle.disco_queue.specs.Timed.{Timed, changes}
 use Rattle.disco_registry.specs.Op.{Ask, register, cancel, renew, set_status, drop_status, add_metadata}
 
--- the number of the run, the accepted changes with their moments, how many leading ones the queue dropped, the mark of each lease, how many renewals were accepted since the last closing of a minute, and what that closing kept
+-- the number of the run, the accepted changes with their moments, how many leading ones the queue dropped, the mark of each lease, how many renewals
+-- were accepted since the last closing of a minute, and what that closing kept
 pub record Past : Type 0 where
   pub run : ℕ
   pub timed : List Timed

@@ -22,7 +22,8 @@ use Rattle.disco_settings.specs.declared.settings.Settings.{Settings}
 abbrev pub limits : Settings → Limits
 limits s = record { versions = s.versions; instances = s.instances }
 
--- the number of the run, the registry, beside it the vips, the leases and the texts with their places, the recent changes, how long these are kept, and whether deltas are served
+-- the number of the run, the registry, beside it the vips, the leases and the texts with their places, the recent changes, how long these are kept,
+-- and whether deltas are served
 pub record CoreState : Type 0 where
   pub run : ℕ
   pub registry : registry.RegistryState
@@ -51,7 +52,8 @@ pub record Remembers (q : Queue) (p : Past) : Type 0 where
   pub kept : KeepsHistory q p.timed
   pub base : q.base ≡ p.base
 
--- exactly the held instances have leases, each of its record's duration and with its mark, each renewal since the last closing was counted, and what that closing kept is kept
+-- exactly the held instances have leases, each of its record's duration and with its mark, each renewal since the last closing was counted, and what
+-- that closing kept is kept
 pub record AreLeasesOf (v : Leases) (p : Past) : Type 0 where
   pub durations : (k : Key) → option_map (λ l. l.duration_secs) (lease_at v k) ≡ option_map (λ r. r.lease.duration_secs) (get (registry_of (history p)) k)
   pub marks : (k : Key) → option_map (λ l. l.mark) (lease_at v k) ≡ get p.marks k
@@ -108,7 +110,8 @@ IsSweptAfter held (Some c) v l = IsSwept v (get held (key_of c)) × IsFilled (ke
 
 -- there is no place of a vip, a lease, a text or a recent change that was not there
 abbrev pub AddsNoPlaces : CoreState → CoreState → Type 0
-AddsNoPlaces old new = vips.KeepsVipPlaces new.vips old.vips × leases.KeepsPlaces new.leases old.leases × OpensNoText old.texts new.texts × (new.queue.places ≡ old.queue.places)
+AddsNoPlaces old new = vips.KeepsVipPlaces new.vips old.vips × leases.KeepsPlaces new.leases old.leases × OpensNoText old.texts new.texts
+    × (new.queue.places ≡ old.queue.places)
 
 -- whether an operation is a renewal
 abbrev pub is_renewal : Ask → Bool

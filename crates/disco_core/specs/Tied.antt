@@ -16,7 +16,8 @@ use Rattle.disco_core.specs.Written.{AreWritten, KeptTexts}
 abbrev pub AreLeased : FinMap key_cmp Entry → Leases → Type 0
 AreLeased held v = (k : Key) → option_map (λ l. l.duration_secs) (lease_at v k) ≡ option_map (λ r. r.lease.duration_secs) (record_at held k)
 
--- the counts, the vips and the texts are those of the records, each has its lease, there are no more records than changes, and the queue follows them to the last change
+-- the counts, the vips and the texts are those of the records, each has its lease, there are no more records than changes, and the queue follows them
+-- to the last change
 pub record IsTied (s : RegistryState) (t : Tally) (i : VipKeys) (v : Leases) (q : Queue) (w : KeptTexts) : Type 0 where
   pub counts : t ≡ tally_in s.held
   pub indexed : IsIndexOf i s.held

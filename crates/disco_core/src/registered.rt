@@ -1,5 +1,6 @@
 //! The registry and all that follows its changes.
-ghost use Rattle.std.specs.Prelude.{◌≡◌, ◌≢◌, ◌<◌, ◌≤◌, ◌+◌, ◌-◌, List, IfErr, IfNone, IfOk, IfSome, OnErr, OnOk, Ok, Some, None, length, map, true, false, option_map};
+ghost use Rattle.std.specs.Prelude.{◌≡◌, ◌≢◌, ◌<◌, ◌≤◌, ◌+◌, ◌-◌, List, IfErr, IfNone, IfOk, IfSome, OnErr, OnOk, Ok, Some, None, length, map, true};
+ghost use Rattle.std.specs.Prelude.{false, option_map};
 ghost use Rattle.std.specs.FinMap.{len};
 ghost use Rattle.disco_values.specs.declared.fault.Fault.TheVariants.{OutOfMemory};
 ghost use Rattle.disco_instance.specs.Row.{row};
@@ -23,7 +24,8 @@ ghost use Rattle.disco_core.specs.Past.{Past, cleaned, history, minute_closed, n
 ghost use Rattle.disco_core.specs.Refusals.{doc_of_id, doc_of_key, refusal_of, refusal_of_id};
 ghost use Rattle.disco_core.specs.Moves.{Moves, OthersStay};
 ghost use Rattle.disco_core.specs.Written.{AreWritten, HasNoEmptyText, HasTextsFor, IsSameWritten, OpensNoText};
-ghost use Rattle.disco_core.specs.State.{AddsNoPlaces, HasPlacesFor, HasRoomFor, IsFor, IsCoreReady, IsSameCore, IsSwept, IsSweptAfter, CoreStandsFor, is_renewal, rules, core_rules};
+ghost use Rattle.disco_core.specs.State.{AddsNoPlaces, HasPlacesFor, HasRoomFor, IsFor, IsCoreReady, IsSameCore, IsSwept, IsSweptAfter};
+ghost use Rattle.disco_core.specs.State.{CoreStandsFor, is_renewal, rules, core_rules};
 
 use crate::counts::count;
 use crate::leases::{is_renewal, keep};
@@ -74,7 +76,16 @@ impl Model for Core {
 
     ghost coded = { Prim.hlevel (codes, code) };
 
-    ghost view = { λ h. record { run = h.run; registry = h.registry; vips = h.vips; leases = h.leases; texts = h.texts; queue = h.queue; retention = h.retention; delta = h.delta } };
+    ghost view = { λ h. record {
+      run = h.run;
+      registry = h.registry;
+      vips = h.vips;
+      leases = h.leases;
+      texts = h.texts;
+      queue = h.queue;
+      retention = h.retention;
+      delta = h.delta;
+    } };
 
     ghost invariant = { λ h. IsTied h.registry h.counts h.vips h.leases h.queue h.texts };
 }
@@ -220,7 +231,8 @@ fn open_places(
     ensures texts { IsSameWritten texts.old texts.new }
     ensures written { OnOk result (HasTextsFor texts.new (option_map (λ c. change_view c.now) change.entry)) }
     ensures memory { IfErr result (λ e. e ≡ OutOfMemory) }
-    ensures given_back { OnErr result (vip.KeepsVipPlaces index.new index.old × lease.KeepsPlaces book.new book.old × OpensNoText texts.old texts.new × (queue.new.places ≡ queue.old.places)) }
+    ensures given_back { OnErr result (vip.KeepsVipPlaces index.new index.old × lease.KeepsPlaces book.new book.old × OpensNoText texts.old texts.new
+        × (queue.new.places ≡ queue.old.places)) }
 {
     let Some(change) = change else {
         return Ok(());
@@ -350,7 +362,8 @@ impl Core {
         ensures takes { Takes self.old.registry ready.change self.new.registry }
         ensures swept { IsSweptAfter self.old.registry.held ready.change self.new.vips self.new.leases }
         ensures empty { recent.AddsNoneEmpty self.old.queue self.new.queue }
-        ensures history { (p : Past) (ask : Ask) → IsFor self.old ready ask → CoreStandsFor self.old p → CoreStandsFor self.new (with_done self.old.queue.max p ready.moment ask (done_by result)) }
+        ensures history { (p : Past) (ask : Ask) → IsFor self.old ready ask → CoreStandsFor self.old p
+            → CoreStandsFor self.new (with_done self.old.queue.max p ready.moment ask (done_by result)) }
         ensures rules { core_rules self.new ≡ core_rules self.old }
     {
         // For the proof alone: a version fits a u64.
@@ -427,7 +440,13 @@ impl Core {
     }
 
     fn payload(&self, key: &DocKey, base: u64, text: Vec<u8>) -> Result<Arc<Payload, Global>, Fault>
-        ensures payload { IfOk result (λ p. p.value ≡ record { key = key.now; run = self.now.run; base = base; version = self.now.registry.version; text = text.items }) }
+        ensures payload { IfOk result (λ p. p.value ≡ record {
+          key = key.now;
+          run = self.now.run;
+          base = base;
+          version = self.now.registry.version;
+          text = text.items;
+        }) }
         ensures memory { IfErr result (λ e. e ≡ OutOfMemory) }
     {
         let payload = Payload {
@@ -471,7 +490,8 @@ impl Core {
         ensures version { IfOk result (λ o. IfSome o (λ d. d.value.version ≡ self.now.registry.version)) }
         ensures base { IfOk result (λ o. IfSome o (λ d. is_delta key.now.query ≡ true → d.value.base ≡ self.now.queue.base)) }
         ensures true_now { IfOk result (λ o. IfSome o (λ d. (p : Past) → CoreStandsFor self.now p → IsTrue p.run d.value (history p))) }
-        ensures absent { IfOk result (λ o. IfNone o ((p : Past) → CoreStandsFor self.now p → is_absent (registry_of (history p)) (asked_by key.now.query) ≡ true)) }
+        ensures absent { IfOk result (λ o. IfNone o ((p : Past) → CoreStandsFor self.now p
+            → is_absent (registry_of (history p)) (asked_by key.now.query) ≡ true)) }
         ensures memory { IfErr result (λ e. e ≡ OutOfMemory) }
     {
         if key.query.is_delta() {
@@ -487,7 +507,8 @@ impl Core {
         ensures version { IfOk result (λ o. IfSome o (λ d. d.value.version ≡ self.now.registry.version)) }
         ensures base { IfOk result (λ o. IfSome o (λ d. d.value.base ≡ self.now.queue.base)) }
         ensures true_now { IfOk result (λ o. IfSome o (λ d. (p : Past) → CoreStandsFor self.now p → IsTrue p.run d.value (history p))) }
-        ensures absent { IfOk result (λ o. IfNone o ((p : Past) → CoreStandsFor self.now p → is_absent (registry_of (history p)) (asked_by key.now.query) ≡ true)) }
+        ensures absent { IfOk result (λ o. IfNone o ((p : Past) → CoreStandsFor self.now p
+            → is_absent (registry_of (history p)) (asked_by key.now.query) ≡ true)) }
         ensures memory { IfErr result (λ e. e ≡ OutOfMemory) }
     {
         match self.text_of(key)? {
@@ -501,7 +522,8 @@ impl Core {
         ensures key { IfOk result (λ o. IfSome o (λ d. d.value.key ≡ key.now)) }
         ensures version { IfOk result (λ o. IfSome o (λ d. d.value.version ≡ self.now.registry.version)) }
         ensures true_now { IfOk result (λ o. IfSome o (λ d. (h : List Entry) → registry.StandsFor self.now.registry h → IsTrue self.now.run d.value h)) }
-        ensures absent { IfOk result (λ o. IfNone o ((h : List Entry) → registry.StandsFor self.now.registry h → is_absent (registry_of h) (asked_by key.now.query) ≡ true)) }
+        ensures absent { IfOk result (λ o. IfNone o ((h : List Entry) → registry.StandsFor self.now.registry h
+            → is_absent (registry_of h) (asked_by key.now.query) ≡ true)) }
         ensures memory { IfErr result (λ e. e ≡ OutOfMemory) }
     {
         match self.text_of(key)? {
@@ -519,8 +541,10 @@ impl Core {
         ensures key { IfOk result (λ p. p.value.key ≡ doc_of_key key.now form) }
         ensures version { IfOk result (λ p. p.value.version ≡ self.now.registry.version) }
         ensures true_now { IfOk result (λ p. (h : List Entry) → registry.StandsFor self.now.registry h → IsTrue self.now.run p.value h) }
-        ensures allowed { IfOk result (λ _. (h : List Entry) → registry.StandsFor self.now.registry h → refusal_of true (doc_of_key key.now form).query h ≡ None) }
-        ensures refused { IfErr result (λ e. e ≢ OutOfMemory → (h : List Entry) → registry.StandsFor self.now.registry h → refusal_of true (doc_of_key key.now form).query h ≡ Some e) }
+        ensures allowed { IfOk result (λ _. (h : List Entry) → registry.StandsFor self.now.registry h
+            → refusal_of true (doc_of_key key.now form).query h ≡ None) }
+        ensures refused { IfErr result (λ e. e ≢ OutOfMemory → (h : List Entry) → registry.StandsFor self.now.registry h
+            → refusal_of true (doc_of_key key.now form).query h ≡ Some e) }
     {
         let key = DocKey {
             query: Query::Instance(key.clone()?),

@@ -68,7 +68,8 @@ meaning_for q f h base v = record {
 abbrev pub text_for : Query → Form → List Entry → ℕ → ℕ → List ℕ
 text_for q f h base v = compact_text (tree_of f (asked_by q) (told q h base) (hash_of q h) v)
 
--- a text means a document after a history, however it is written: a delta from its base to now; another one of now, or, where it is kept, of an earlier version since which nothing that is asked for has changed
+-- a text means a document after a history, however it is written: a delta from its base to now; another one of now, or, where it is kept, of an
+-- earlier version since which nothing that is asked for has changed
 pub record MeansFor (q : Query) (text : List ℕ) (base version : ℕ) (f : Form) (h : List Entry) : Type 0 where
   pub meaning : document_of text ≡ Ok (meaning_for q f h base version)
   pub there : is_absent (registry_of h) (asked_by q) ≡ false
@@ -83,7 +84,9 @@ pub record IsTrueFor (q : Query) (text : List ℕ) (base version : ℕ) (f : For
   pub written : text ≡ text_for q f h base version
   pub means : MeansFor q text base version f h
 
--- what is written of a query in a form after a history, a delta from a base: nothing exactly where it is absent, else the compact text of its tree, which means what is asked for
+-- what is written of a query in a form after a history, a delta from a base: nothing exactly where it is absent, else the compact text of its tree,
+-- which means what is asked for
 abbrev pub IsWritten : Form → Query → List Entry → ℕ → Option (List ℕ) → Type 0
 IsWritten f q h base None = is_absent (registry_of h) (asked_by q) ≡ true
-IsWritten f q h base (Some text) = (is_absent (registry_of h) (asked_by q) ≡ false) × (text ≡ text_for q f h base (length h)) × (document_of text ≡ Ok (meaning_for q f h base (length h)))
+IsWritten f q h base (Some text) = (is_absent (registry_of h) (asked_by q) ≡ false) × (text ≡ text_for q f h base (length h))
+    × (document_of text ≡ Ok (meaning_for q f h base (length h)))

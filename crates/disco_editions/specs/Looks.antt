@@ -14,7 +14,8 @@ Finds o (Doc d) = o ≡ Some d.value
 Finds o Miss = o ≡ None
 Finds o Shut = Unit {0}
 
--- what a look that is not shut shows of what was published: it is legal in one run, readers may see it, the answer is its edition's, and a document is of that run and was true when it was noted, behind the beginning of the last round
+-- what a look that is not shut shows of what was published: it is legal in one run, readers may see it, the answer is its edition's, and a document
+-- is of that run and was true when it was noted, behind the beginning of the last round
 abbrev pub Shows : List Note → DocKey → Looked → Type 0
 Shows l k Shut = Unit {0}
 Shows l k Miss = (run : ℕ) × IsLegal run l × IsPublishable l × (get (edition_of l) k ≡ None)

@@ -32,7 +32,8 @@ impl<J: Naming> Model for PublicationLog<J> {
 
     ghost view = { λ r. logged r.entries.items };
 
-    ghost invariant = { λ r. (r.entries.name ≡ J.list) × (r.len < 2 ^ 64 - 1 → r.len ≡ length r.entries.items) × (r.shown.leaf.name ≡ J.list) × (publications r.shown.leaf.items ≡ publications r.entries.items) };
+    ghost invariant = { λ r. (r.entries.name ≡ J.list) × (r.len < 2 ^ 64 - 1 → r.len ≡ length r.entries.items) × (r.shown.leaf.name ≡ J.list)
+        × (publications r.shown.leaf.items ≡ publications r.entries.items) };
 }
 
 impl<J: Naming> PublicationLog<J> {

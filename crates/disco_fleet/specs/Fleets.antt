@@ -28,7 +28,8 @@ is_last_run restart run = restart && run == 18446744073709551615
 
 -- the words of `fleet` ask for that
 unfoldable pub ask_for_no_run : List Text → Bool
-ask_for_no_run words = option_map_or (λ options. let rows = matches_for Fleet options in is_last_run (flag_given (codes "restart") rows) (unwrap_or (number_given (codes "run") rows) 0)) (options_of Fleet words) false
+ask_for_no_run words = option_map_or (λ options. let rows = matches_for Fleet options in
+    is_last_run (flag_given (codes "restart") rows) (unwrap_or (number_given (codes "run") rows) 0)) (options_of Fleet words) false
 
 -- what is wrong with that
 abbrev pub faults_of_restart : Bool → Kinds

@@ -29,9 +29,11 @@ pub record IsFollowPlan (rows : List Given) (p : Plan) : Type 0 where
   pub pause : p.pause ≡ within 18446744073709551615 30000 (number_given (codes "every") rows)
   pub times : p.times ≡ times_in rows
 
--- a certified client without a copy is refreshed so many times, by what a server answers, and what is told of it is written; of its fetcher only the number of failures is known
+-- a certified client without a copy is refreshed so many times, by what a server answers, and what is told of it is written; of its fetcher only the
+-- number of failures is known
 abbrev pub Tells : Option (List ℕ) → Form → ℕ → Option (List ℕ) → Option (List ℕ) → Type 0
-Tells vip form times old new = (left : ClientState ℕ) × Follows (λ _ _ _ _. Unit {0}) (λ l. l) vip (turns_of times) (record { fetcher = 0; form = form; kept = Certified None }) left old new
+Tells vip form times old new = (left : ClientState ℕ)
+    × Follows (λ _ _ _ _. Unit {0}) (λ l. l) vip (turns_of times) (record { fetcher = 0; form = form; kept = Certified None }) left old new
 
 -- the words are `follow` and options, and what these ask for is told
 unfoldable pub TellsFor : List Text → Option (List ℕ) → Option (List ℕ) → Type 0

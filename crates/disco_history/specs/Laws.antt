@@ -35,4 +35,5 @@ pub record FormLaw : Type 0 where
 -- the law of untouched documents: a change leaves the records, and their mentions, of each query that it doesn't name
 abbrev pub UntouchedLaw : Type 0
 UntouchedLaw = (h : List Entry) (c : Entry) (a : Selector) → is_named (get (registry_of h) (key_of c)) (option_map (λ e. e.0) (put_of c)) a ≡ false
-    → let now = h ++ c ∷ [] in (restrict (registry_of now) a ≡ restrict (registry_of h) a) × (mentions_of now (restrict (registry_of now) a) ≡ mentions_of h (restrict (registry_of h) a))
+    → let now = h ++ c ∷ [] in (restrict (registry_of now) a ≡ restrict (registry_of h) a)
+    × (mentions_of now (restrict (registry_of now) a) ≡ mentions_of h (restrict (registry_of h) a))

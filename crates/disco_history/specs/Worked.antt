@@ -55,7 +55,8 @@ story =
     (instance (codes "A") (codes "1") Down, Modified) ∷ (instance (codes "B") (codes "1") Down, Deleted) ∷ []
 
 pub record Worked : Type 0 where
-  pub hash_code : hash (instance (codes "A") (codes "1") Up ∷ instance (codes "A") (codes "2") Down ∷ instance (codes "B") (codes "1") Up ∷ []) ≡ codes "DOWN_1_UP_2_"
+  pub hash_code : hash (instance (codes "A") (codes "1") Up ∷ instance (codes "A") (codes "2") Down ∷ instance (codes "B") (codes "1") Up ∷ []) ≡
+      codes "DOWN_1_UP_2_"
   pub count_of_two_digits : digits 10 ≡ codes "10"
   pub empty_hash_code : hash [] ≡ []
   pub vips_of : vips (codes ",a,,b") ≡ codes "a" ∷ codes "b" ∷ []
@@ -68,7 +69,8 @@ pub record Worked : Type 0 where
   pub delta_none : get (delta story 3) a1 ≡ None
   pub overlay_puts : get (overlay (registry_of (prefix story 1)) (map mention_of story)) a1 ≡ Some (instance (codes "A") (codes "1") Down)
   pub overlay_takes : get (overlay (registry_of (prefix story 2)) (map mention_of story)) b1 ≡ None
-  pub overlay_skips : get (overlay (registry_of (prefix story 1)) ((instance (codes "A") (codes "1") Down, None) ∷ [])) a1 ≡ Some (instance (codes "A") (codes "1") Up)
+  pub overlay_skips : get (overlay (registry_of (prefix story 1)) ((instance (codes "A") (codes "1") Down, None) ∷ [])) a1 ≡
+      Some (instance (codes "A") (codes "1") Up)
   pub vip_has : get (restrict (registry_of (prefix story 1)) (of_vip (codes "b"))) a1 ≡ Some (instance (codes "A") (codes "1") Up)
   pub vip_lacks : get (restrict (registry_of (prefix story 1)) (of_vip (codes "a,,b"))) a1 ≡ None
   pub app_lacks : get (restrict (registry_of (prefix story 1)) (of_app (codes "B"))) a1 ≡ None

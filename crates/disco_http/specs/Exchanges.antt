@@ -28,12 +28,16 @@ Closing None end = end ≡ Fault WriteFailed
 
 -- one text was written, or its write failed, and a front of it was written
 abbrev pub WrittenOne : End → End → Option (List ℕ) → Option (List ℕ) → List ℕ → Type 0
-WrittenOne at end before after text = ((at ≡ end) × (at ≢ Fault WriteFailed) × Appends before after text) ⊎ ((at ≡ Fault WriteFailed) × AppendsProperFront before after text)
+WrittenOne at end before after text = ((at ≡ end) × (at ≢ Fault WriteFailed) × Appends before after text)
+    ⊎ ((at ≡ Fault WriteFailed) × AppendsProperFront before after text)
 
 -- a request was given to the service
-abbrev pub AnswersOne : {S : Type 0} → (S → message.RequestView → Answer → S → Type 0) → S → S → Option (List ℕ) → Option (List ℕ) → message.RequestView → Bool → Step → Type 0
-AnswersOne answers old new before after a last Goes = (r : Answer) × answers old a r new × Appends before after (reply_text r false) × (end_behind a.closes last ≡ None)
-AnswersOne answers old new before after a last (Last at) = (r : Answer) × (end : End) × answers old a r new × Closing (end_behind a.closes last) end × WrittenOne at end before after (reply_text r (is_last [] end))
+abbrev pub AnswersOne : {S : Type 0} → (S → message.RequestView → Answer → S → Type 0) → S → S → Option (List ℕ) → Option (List ℕ) → message.RequestView
+    → Bool → Step → Type 0
+AnswersOne answers old new before after a last Goes = (r : Answer) × answers old a r new × Appends before after (reply_text r false)
+    × (end_behind a.closes last ≡ None)
+AnswersOne answers old new before after a last (Last at) = (r : Answer) × (end : End) × answers old a r new × Closing (end_behind a.closes last) end
+    × WrittenOne at end before after (reply_text r (is_last [] end))
 AnswersOne answers old new before after a last (Stops at) = ⊥
 
 -- a request was refused
@@ -43,21 +47,26 @@ RefusesRequest before after f (Last at) = ⊥
 RefusesRequest before after f (Stops at) = WrittenOne at (Fault f) before after (reply_text (refused f) true)
 
 -- a request was read and answered, or there was none
-abbrev pub Exchanged : {S : Type 0} → (S → message.RequestView → Answer → S → Type 0) → Limits → List ℕ → Left → S → S → Option (List ℕ) → Option (List ℕ) → Bool → Step → Type 0
-Exchanged answers limits stream left old new before after last (Stops at) = (end : End) × (new ≡ old) × EndsStream limits stream left end × Written at end before after (end_texts end)
+abbrev pub Exchanged : {S : Type 0} → (S → message.RequestView → Answer → S → Type 0) → Limits → List ℕ → Left → S → S → Option (List ℕ) → Option (List ℕ)
+    → Bool → Step → Type 0
+Exchanged answers limits stream left old new before after last (Stops at) = (end : End) × (new ≡ old) × EndsStream limits stream left end
+    × Written at end before after (end_texts end)
 Exchanged answers limits stream left old new before after last step =
-    (a : message.RequestView) × (rest : List ℕ) × TakesRequest limits stream a rest × (left.ahead ≡ Some rest) × AnswersOne answers old new before after a last step
+    (a : message.RequestView) × (rest : List ℕ) × TakesRequest limits stream a rest × (left.ahead ≡ Some rest)
+    × AnswersOne answers old new before after a last step
 
 -- the texts of replies behind which others come
 abbrev pub open_texts : List Answer → List (List ℕ)
 open_texts replies = map (λ r. reply_text r false) replies
 
 -- After so many answered requests: what stands before them with what stands ahead is what stands in the stream
-abbrev pub SoFar : {S : Type 0} → (S → message.RequestView → Answer → S → Type 0) → Limits → ℕ → List ℕ → S → S → Option (List ℕ) → Option (List ℕ) → Option (List ℕ) → ℕ → Type 0
+abbrev pub SoFar : {S : Type 0} → (S → message.RequestView → Answer → S → Type 0) → Limits → ℕ → List ℕ → S → S → Option (List ℕ) → Option (List ℕ)
+    → Option (List ℕ) → ℕ → Type 0
 SoFar answers limits most stream old new before after left count =
     (asks : List message.RequestView) × (replies : List Answer) × (now : List ℕ)
     × (left ≡ Some now)
-    × ((at : Left) (more : List message.RequestView) (end : End) → Requests limits (most - count) now at more end → Requests limits most stream at (asks ++ more) end)
+    × ((at : Left) (more : List message.RequestView) (end : End) → Requests limits (most - count) now at more end
+    → Requests limits most stream at (asks ++ more) end)
     × Chain answers old asks replies new
     × (length asks ≡ count)
     × Appends before after (bytes_in_chunks (open_texts replies))

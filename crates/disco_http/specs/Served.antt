@@ -46,7 +46,8 @@ Behind None later rest left asks end = later
 abbrev pub Requests : Limits → ℕ → List ℕ → Left → List message.RequestView → End → Type 0
 Requests limits most stream left [] end = EndsStream limits stream left end
 Requests limits most stream left (a ∷ asks) end =
-    (rest : List ℕ) × TakesRequest limits stream a rest × Behind (end_behind a.closes (most == 1)) (Requests limits (most - 1) rest left asks end) rest left asks end
+    (rest : List ℕ) × TakesRequest limits stream a rest × Behind (end_behind a.closes (most == 1))
+    (Requests limits (most - 1) rest left asks end) rest left asks end
 
 -- the answers answer the requests, each from the state that the one before left
 abbrev pub Chain : {S : Type 0} → (S → message.RequestView → Answer → S → Type 0) → S → List message.RequestView → List Answer → S → Type 0
@@ -84,7 +85,8 @@ texts (r ∷ replies) end = reply_text r (is_last replies end) ∷ texts replies
 -- all texts but the last were written, and a front of that one
 abbrev pub Breaks : Option (List ℕ) → Option (List ℕ) → List (List ℕ) → Type 0
 Breaks before after texts =
-    (whole : List (List ℕ)) × (last : List ℕ) × (mid : Option (List ℕ)) × (texts ≡ whole ++ last ∷ []) × Appends before mid (bytes_in_chunks whole) × AppendsProperFront mid after last
+    (whole : List (List ℕ)) × (last : List ℕ) × (mid : Option (List ℕ)) × (texts ≡ whole ++ last ∷ []) × Appends before mid (bytes_in_chunks whole)
+    × AppendsProperFront mid after last
 
 -- the connection ends by a reply, and not at the end of its input, nor by a failed read
 abbrev pub ends_by_reply : End → Bool
@@ -94,10 +96,12 @@ ends_by_reply end = true
 
 -- all texts were written, or the write of the last one failed, which ended the connection
 abbrev pub Written : End → End → Option (List ℕ) → Option (List ℕ) → List (List ℕ) → Type 0
-Written at end before after texts = ((at ≡ end) × (at ≢ Fault WriteFailed) × Appends before after (bytes_in_chunks texts)) ⊎ ((at ≡ Fault WriteFailed) × IsTrue (ends_by_reply end) × Breaks before after texts)
+Written at end before after texts = ((at ≡ end) × (at ≢ Fault WriteFailed) × Appends before after (bytes_in_chunks texts))
+    ⊎ ((at ≡ Fault WriteFailed) × IsTrue (ends_by_reply end) × Breaks before after texts)
 
 -- the connection's replies are exactly the answers to the stream's requests
-abbrev pub AnswersAll : {S : Type 0} → (S → message.RequestView → Answer → S → Type 0) → Limits → List ℕ → Left → S → S → Option (List ℕ) → Option (List ℕ) → Served → Type 0
+abbrev pub AnswersAll : {S : Type 0} → (S → message.RequestView → Answer → S → Type 0) → Limits → List ℕ → Left → S → S → Option (List ℕ) → Option (List ℕ)
+    → Served → Type 0
 AnswersAll answers limits stream left old new before after served =
     (asks : List message.RequestView) × (replies : List Answer) × (end : End)
     × Requests limits limits.requests stream left asks end

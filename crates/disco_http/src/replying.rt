@@ -56,8 +56,10 @@ fn send_reply<W: Sink, D: Document>(
     reply: &Reply<D>,
     last: bool,
 ) -> Result<(), Failed>
-    ensures written { OnOk result (Appends (W.contents (sink_of writer.old)) (W.contents (sink_of writer.new)) (reply_text (answer_of D.content reply.now) last)) }
-    ensures front { OnErr result (AppendsProperFront (W.contents (sink_of writer.old)) (W.contents (sink_of writer.new)) (reply_text (answer_of D.content reply.now) last)) }
+    ensures written { OnOk result (Appends (W.contents (sink_of writer.old)) (W.contents (sink_of writer.new))
+        (reply_text (answer_of D.content reply.now) last)) }
+    ensures front { OnErr result (AppendsProperFront (W.contents (sink_of writer.old)) (W.contents (sink_of writer.new))
+        (reply_text (answer_of D.content reply.now) last)) }
     ensures cause { OnErr result (Raises (W.failed (sink_of writer.old)) (W.failed (sink_of writer.new))) }
     ensures none_failed { OnOk result (W.failed (sink_of writer.new) ≡ W.failed (sink_of writer.old)) }
     ensures spent { is_writer_spent writer.new ≡ is_writer_spent writer.old }
@@ -85,8 +87,10 @@ pub fn write_reply<W: Sink, D: Document>(
     last: bool,
 ) -> Result<(), Fault>
     requires { IsFalse (is_writer_spent writer.old) }
-    ensures written { OnOk result (Appends (W.contents (sink_of writer.old)) (W.contents (sink_of writer.new)) (reply_text (answer_of D.content reply.now) last)) }
-    ensures front { OnErr result (AppendsProperFront (W.contents (sink_of writer.old)) (W.contents (sink_of writer.new)) (reply_text (answer_of D.content reply.now) last)) }
+    ensures written { OnOk result (Appends (W.contents (sink_of writer.old)) (W.contents (sink_of writer.new))
+        (reply_text (answer_of D.content reply.now) last)) }
+    ensures front { OnErr result (AppendsProperFront (W.contents (sink_of writer.old)) (W.contents (sink_of writer.new))
+        (reply_text (answer_of D.content reply.now) last)) }
     ensures fault { IfErr result (λ fault. fault ≡ WriteFailed) }
     ensures cause { OnErr result (Raises (W.failed (sink_of writer.old)) (W.failed (sink_of writer.new))) }
     ensures none_failed { OnOk result (W.failed (sink_of writer.new) ≡ W.failed (sink_of writer.old)) }

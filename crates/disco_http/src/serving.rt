@@ -122,13 +122,15 @@ fn exchange<R: Source, W: Sink, S: Service>(
 ) -> Step
     requires { IsFalse (is_spent reader.old) × IsFalse (sinks.is_writer_spent writer.old) }
     ensures step { IfSome (ahead R.remaining reader.old) (λ stream.
-        Exchanged S.answers (reader_limits reader.old) stream (left_by R.remaining reader.new) service.old service.new (W.contents (sink_of writer.old)) (W.contents (sink_of writer.new)) last result) }
+        Exchanged S.answers (reader_limits reader.old) stream (left_by R.remaining reader.new) service.old service.new
+        (W.contents (sink_of writer.old)) (W.contents (sink_of writer.new)) last result) }
     ensures limits { reader_limits reader.new ≡ reader_limits reader.old }
     ensures goes { result ≡ Step.Goes → IsFalse last }
     ensures fresh { result ≡ Step.Goes → IsFalse (is_spent reader.new) × IsFalse (sinks.is_writer_spent writer.new) }
     ensures read_cause { Fails ReadFailed result → Raises (R.failed (source_of reader.old)) (R.failed (source_of reader.new)) }
     ensures write_cause { Fails WriteFailed result → Raises (W.failed (sink_of writer.old)) (W.failed (sink_of writer.new)) }
-    ensures none_failed { result ≡ Step.Goes → (R.failed (source_of reader.new) ≡ R.failed (source_of reader.old)) × (W.failed (sink_of writer.new) ≡ W.failed (sink_of writer.old)) }
+    ensures none_failed { result ≡ Step.Goes → (R.failed (source_of reader.new) ≡ R.failed (source_of reader.old))
+        × (W.failed (sink_of writer.new) ≡ W.failed (sink_of writer.old)) }
 {
     match reader.read_request(alloc) {
         Ok(Some(request)) => {
@@ -151,7 +153,8 @@ fn answer_all<R: Source, W: Sink, S: Service>(
 ) -> Served
     requires { IsFalse (is_spent reader.old) × IsFalse (sinks.is_writer_spent writer.old) }
     ensures answers { IfSome (ahead R.remaining reader.old) (λ stream.
-        AnswersAll S.answers (reader_limits reader.old) stream (left_by R.remaining reader.new) service.old service.new (W.contents (sink_of writer.old)) (W.contents (sink_of writer.new)) result) }
+        AnswersAll S.answers (reader_limits reader.old) stream (left_by R.remaining reader.new) service.old service.new
+        (W.contents (sink_of writer.old)) (W.contents (sink_of writer.new)) result) }
     ensures read_cause { result.end ≡ End.Fault ReadFailed → Raises (R.failed (source_of reader.old)) (R.failed (source_of reader.new)) }
     ensures write_cause { result.end ≡ End.Fault WriteFailed → Raises (W.failed (sink_of writer.old)) (W.failed (sink_of writer.new)) }
 {
@@ -184,7 +187,8 @@ pub fn serve<R: Source, W: Sink, S: Service>(
     // these are the whole requests that had come; at a failed write the last of them was answered in
     // part, and nothing more is read.
     ensures answers { IfSome (ahead R.remaining reader.old) (λ stream.
-        AnswersAll S.answers (reader_limits reader.old) stream (left_by R.remaining reader.new) service.old service.new (W.contents (sink_of writer.old)) (W.contents (sink_of writer.new)) result) }
+        AnswersAll S.answers (reader_limits reader.old) stream (left_by R.remaining reader.new) service.old service.new
+        (W.contents (sink_of writer.old)) (W.contents (sink_of writer.new)) result) }
     // A connection ends by a failed read or write only where the count of failures rose.
     ensures read_cause { result.end ≡ End.Fault ReadFailed → Raises (R.failed (source_of reader.old)) (R.failed (source_of reader.new)) }
     ensures write_cause { result.end ≡ End.Fault WriteFailed → Raises (W.failed (sink_of writer.old)) (W.failed (sink_of writer.new)) }

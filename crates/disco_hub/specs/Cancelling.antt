@@ -14,16 +14,19 @@ use Rattle.disco_hub.specs.State.{HubState, HubStandsFor, rules_of}
 
 -- one cancel is accepted, the hub then stands for what has happened with it, and just the kept documents that it names are dropped
 abbrev pub Cancels : HubState → HubState → ℕ → Key → Type 0
-Cancels old new now k = (p : Past) → HubStandsFor old p → (c : Option Entry) × (cancel_of (rules_of old) p now k ≡ Ok c) × HubStandsFor new (with_done (rules_of old).queue p now (cancel k) c) × Forgets (get (registry_of (history p))) c old.docs new.docs
+Cancels old new now k = (p : Past) → HubStandsFor old p → (c : Option Entry) × (cancel_of (rules_of old) p now k ≡ Ok c)
+    × HubStandsFor new (with_done (rules_of old).queue p now (cancel k) c) × Forgets (get (registry_of (history p))) c old.docs new.docs
 
 -- one cancel is refused, the hub stands for what it stood for, and what was kept is
 abbrev pub CancelsNone : HubState → HubState → ℕ → Key → Fault → Type 0
-CancelsNone old new now k e = (p : Past) → HubStandsFor old p → HubStandsFor new p × (e ≢ OutOfMemory → cancel_of (rules_of old) p now k ≡ Err e) × (new.docs ≡ old.docs)
+CancelsNone old new now k e = (p : Past) → HubStandsFor old p → HubStandsFor new p × (e ≢ OutOfMemory → cancel_of (rules_of old) p now k ≡ Err e)
+    × (new.docs ≡ old.docs)
 
 -- a hub has cancelled the first so many of these keys
 pub record HasCancelled (old new : HubState) (now : ℕ) (ks : List Key) (gone : ℕ) : Type 0 where
   pub stands : (p : Past) → HubStandsFor old p → HubStandsFor new (cancelled (rules_of old) p now ks gone)
-  pub accepted : (p : Past) → HubStandsFor old p → (i : ℕ) (k : Key) → i < gone → slice_get ks i ≡ Some k → IsOk (cancel_of (rules_of old) (cancelled (rules_of old) p now ks i) now k)
+  pub accepted : (p : Past) → HubStandsFor old p → (i : ℕ) (k : Key) → i < gone → slice_get ks i ≡ Some k
+      → IsOk (cancel_of (rules_of old) (cancelled (rules_of old) p now ks i) now k)
   pub docs : (p : Past) → HubStandsFor old p → ForgetsEach (rules_of old) p now ks gone old.docs new.docs
   pub rules : rules_of new ≡ rules_of old
 

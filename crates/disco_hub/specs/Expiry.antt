@@ -28,7 +28,8 @@ unfoldable pub cancelled : Rules → Past → ℕ → List Key → ℕ → Past
 cancelled rules p now ks zero = p
 cancelled rules p now ks (suc i) = after_next rules (cancelled rules p now ks i) now (slice_get ks i)
 
--- so many of these keys are cancelled at a moment, in their order, each accepted, and all of them unless it stopped: the next cancel is refused so, or there was no memory for it
+-- so many of these keys are cancelled at a moment, in their order, each accepted, and all of them unless it stopped: the next cancel is refused so,
+-- or there was no memory for it
 pub record IsExpired (rules : Rules) (p : Past) (now : ℕ) (ks : List Key) (gone : ℕ) (stopped : Option Fault) : Type 0 where
   pub accepted : (i : ℕ) (k : Key) → i < gone → slice_get ks i ≡ Some k → IsOk (cancel_of rules (cancelled rules p now ks i) now k)
   pub within : gone ≤ length ks
@@ -46,9 +47,11 @@ pub record ForgetsNext (rules : Rules) (p : Past) (now : ℕ) (next : Option Key
 -- and so of the first i of these keys, one after the other
 unfoldable pub ForgetsEach : Rules → Past → ℕ → List Key → ℕ → Docs → Docs → Type 0
 ForgetsEach rules p now ks zero old new = new ≡ old
-ForgetsEach rules p now ks (suc i) old new = (mid : Docs) × ForgetsEach rules p now ks i old mid × ForgetsNext rules (cancelled rules p now ks i) now (slice_get ks i) mid new
+ForgetsEach rules p now ks (suc i) old new = (mid : Docs) × ForgetsEach rules p now ks i old mid
+    × ForgetsNext rules (cancelled rules p now ks i) now (slice_get ks i) mid new
 
 -- a hub cancels these keys as far as it says, then stands for what has happened with that, and keeps what the cancels leave
 abbrev pub Expires : HubState → HubState → ℕ → (Past → List Key) → ℕ → Option Fault → Type 0
 Expires old new now ks gone stopped = (p : Past) → HubStandsFor old p
-    → IsExpired (rules_of old) p now (ks p) gone stopped × HubStandsFor new (cancelled (rules_of old) p now (ks p) gone) × ForgetsEach (rules_of old) p now (ks p) gone old.docs new.docs
+    → IsExpired (rules_of old) p now (ks p) gone stopped × HubStandsFor new (cancelled (rules_of old) p now (ks p) gone)
+    × ForgetsEach (rules_of old) p now (ks p) gone old.docs new.docs

@@ -28,7 +28,8 @@ pub record KeepsRest (old new : HubState) : Type 0 where
   pub rounds : new.rounds ≡ old.rounds
   pub room : new.docs.max ≡ old.docs.max
 
--- an operation is accepted at a moment, with this change or none: it has happened then, no place of what it found stands empty, and just the kept documents that it names are dropped
+-- an operation is accepted at a moment, with this change or none: it has happened then, no place of what it found stands empty, and just the kept
+-- documents that it names are dropped
 pub record Writes (old new : HubState) (ask : Ask) (now : ℕ) (change : Option Entry) : Type 0 where
   pub accepted : accepts old.core.registry ask now ≡ Ok change
   pub docs : (p : Past) → HubStandsFor old p → Forgets (get (registry_of (history p))) change old.docs new.docs

@@ -1,5 +1,6 @@
 //! The hub: one state behind all documents, with the documents that are kept.
-ghost use Rattle.std.specs.Prelude.{◌≡◌, ◌≢◌, ◌<◌, [], IfErr, IfNone, IfOk, IfSome, OnErr, OnOk, Ok, None, Some, is_some, length, map, option_map, slice_get, true};
+ghost use Rattle.std.specs.Prelude.{◌≡◌, ◌≢◌, ◌<◌, [], IfErr, IfNone, IfOk, IfSome, OnErr, OnOk, Ok, None, Some, is_some, length, map, option_map};
+ghost use Rattle.std.specs.Prelude.{slice_get, true};
 ghost use Rattle.disco_values.specs.declared.fault.Fault.TheVariants.{NoRound, OutOfMemory};
 ghost use Rattle.disco_registry.specs.Accept.{MayRefuse, accepts};
 ghost use Rattle.disco_registry.specs.Commit.{Takes, changes_properly, done_by};
@@ -14,7 +15,8 @@ ghost use Rattle.disco_core.specs.Refusals.{doc_of_key};
 ghost use Rattle.disco_core.specs.State.{AddsNoPlaces, IsFor, IsCoreReady, IsSweptAfter};
 ghost use Rattle.disco_hub.specs.Expiry.{Expires};
 ghost use Rattle.disco_hub.specs.Kept.{Forgets, IsCopiedAsKept};
-ghost use Rattle.disco_hub.specs.Transitions.{BeginsRound, Cleans, Closes, CopiesOne, Declines, EndsRound, HasNoneLeft, IsDocOf, IsDocOfId, IsNextCopy, KeepsRest, Loads, MovesRounds, RefusesCopy, RefusesRound, Withholds, WithholdsId, Writes};
+ghost use Rattle.disco_hub.specs.Transitions.{BeginsRound, Cleans, Closes, CopiesOne, Declines, EndsRound, HasNoneLeft, IsDocOf, IsDocOfId};
+ghost use Rattle.disco_hub.specs.Transitions.{IsNextCopy, KeepsRest, Loads, MovesRounds, RefusesCopy, RefusesRound, Withholds, WithholdsId, Writes};
 ghost use Rattle.disco_rounds.specs.Press.{put_copy};
 ghost use Rattle.disco_rounds.specs.Rounds.{Advances, StaysOpen};
 ghost use Rattle.disco_hub.specs.State.{IsCopied, IsEmptyHub, IsSameHub, HubStandsFor, open_round, rules_of, version_of};
@@ -113,7 +115,8 @@ impl Hub {
         ensures swept { IsSweptAfter self.old.core.registry.held ready.change self.new.core.vips self.new.core.leases }
         ensures empty { AddsNoneEmpty self.old.core.queue self.new.core.queue }
         ensures docs { (p : Past) → HubStandsFor self.old p → Forgets (get (registry_of (history p))) ready.change self.old.docs self.new.docs }
-        ensures history { (p : Past) (ask : Ask) → IsFor self.old.core ready ask → HubStandsFor self.old p → HubStandsFor self.new (with_done (rules_of self.old).queue p ready.moment ask (done_by result)) }
+        ensures history { (p : Past) (ask : Ask) → IsFor self.old.core ready ask → HubStandsFor self.old p
+            → HubStandsFor self.new (with_done (rules_of self.old).queue p ready.moment ask (done_by result)) }
         ensures rest { KeepsRest self.old self.new }
     {
         forget(&mut self.cache, &self.core, &ready);
@@ -357,7 +360,8 @@ impl Hub {
     ///
     /// `NoRound` where there is no such round. The hub is then as it was.
     pub fn abandon(&mut self) -> Result<(), Fault>
-        ensures abandoned { OnOk result (IfSome (open_round self.old) (λ r. r.done ≡ []) × (open_round self.old ≢ None) × (self.new.rounds ≡ record self.old.rounds { round = None })) }
+        ensures abandoned { OnOk result (IfSome (open_round self.old) (λ r. r.done ≡ []) × (open_round self.old ≢ None)
+            × (self.new.rounds ≡ record self.old.rounds { round = None })) }
         ensures refused { IfErr result (λ e. (e ≡ NoRound) × IfSome (open_round self.old) (λ r. r.done ≢ [])) }
         ensures rest { MovesRounds self.old self.new }
         ensures as_before { OnErr result (self.new ≡ self.old) }

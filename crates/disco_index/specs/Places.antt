@@ -37,4 +37,5 @@ swept (Some false) = None
 
 -- the place of the key becomes what f makes of it under each of these vips, and each other place stays
 abbrev pub Alters : (Option Bool → Option Bool) → List (List ℕ) → Key → VipKeys → VipKeys → Type 0
-Alters f vips k old new = (q : List ℕ) (p : Key) → place_at new q p ≡ (if list_any (bytes_eq q) vips && same_key p k then f (place_at old q p) else place_at old q p)
+Alters f vips k old new = (q : List ℕ) (p : Key) → place_at new q p ≡
+    (if list_any (bytes_eq q) vips && same_key p k then f (place_at old q p) else place_at old q p)

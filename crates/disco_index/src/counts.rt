@@ -68,7 +68,8 @@ impl Counts {
     pub fn add(&mut self, status: Status)
         requires { count_in self.old status < 2 ^ 64 - 1 }
         ensures more { self.new ≡ more self.old status }
-        ensures tally { (m : FinMap key_cmp Entry) (k : Key) (e : Entry) → e.0.status ≡ status → get m k ≡ None → self.old ≡ tally_in m → self.new ≡ tally_in (insert m k e) }
+        ensures tally { (m : FinMap key_cmp Entry) (k : Key) (e : Entry) → e.0.status ≡ status → get m k ≡ None → self.old ≡ tally_in m
+            → self.new ≡ tally_in (insert m k e) }
     {
         self.count(status);
     }
@@ -77,7 +78,8 @@ impl Counts {
     pub fn take(&mut self, status: Status)
         requires { 0 < count_in self.old status }
         ensures fewer { self.new ≡ fewer self.old status }
-        ensures tally { (m : FinMap key_cmp Entry) (k : Key) (e : Entry) → e.0.status ≡ status → get m k ≡ Some e → self.old ≡ tally_in m → self.new ≡ tally_in (remove m k) }
+        ensures tally { (m : FinMap key_cmp Entry) (k : Key) (e : Entry) → e.0.status ≡ status → get m k ≡ Some e → self.old ≡ tally_in m
+            → self.new ≡ tally_in (remove m k) }
     {
         self.uncount(status);
     }

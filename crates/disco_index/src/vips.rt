@@ -85,7 +85,8 @@ impl VipIndex {
     pub fn add(&mut self, rec: &Record)
         requires { HasPlaces self.old (row rec.now) }
         ensures vips { Adds (row rec.now) self.old self.new }
-        ensures index { (m : FinMap key_cmp Entry) (e : Entry) → e.0 ≡ row rec.now → get m (key_of e) ≡ None → IsIndexOf self.old m → IsIndexOf self.new (insert m (key_of e) e) }
+        ensures index { (m : FinMap key_cmp Entry) (e : Entry) → e.0 ≡ row rec.now → get m (key_of e) ≡ None → IsIndexOf self.old m
+            → IsIndexOf self.new (insert m (key_of e) e) }
         ensures places { KeepsVipPlaces self.old self.new }
     {
         self.place(rec);
@@ -95,7 +96,8 @@ impl VipIndex {
     /// Takes no memory.
     pub fn take(&mut self, rec: &Record)
         ensures vips { Removes (row rec.now) self.old self.new }
-        ensures index { (m : FinMap key_cmp Entry) (e : Entry) → e.0 ≡ row rec.now → get m (key_of e) ≡ Some e → IsIndexOf self.old m → IsIndexOf self.new (remove m (key_of e)) }
+        ensures index { (m : FinMap key_cmp Entry) (e : Entry) → e.0 ≡ row rec.now → get m (key_of e) ≡ Some e → IsIndexOf self.old m
+            → IsIndexOf self.new (remove m (key_of e)) }
         ensures places { KeepsVipPlaces self.old self.new }
     {
         self.displace(rec);
@@ -121,7 +123,8 @@ impl VipIndex {
     /// `OutOfMemory` alone.
     pub fn under(&self, alloc: Global, vip: &str) -> Result<Vec<&Key>, Fault>
         ensures keys { IfOk result (λ found. map (λ k. k.now) found.items ≡ under self.now vip.now) }
-        ensures restriction { (m : FinMap key_cmp Entry) (rows : FinMap key_cmp Row) → IsIndexOf self.now m → ((k : Key) → get rows k ≡ option_map (λ e. e.0) (get m k))
+        ensures restriction { (m : FinMap key_cmp Entry) (rows : FinMap key_cmp Row) → IsIndexOf self.now m
+            → ((k : Key) → get rows k ≡ option_map (λ e. e.0) (get m k))
             → IfOk result (λ found. map (λ k. k.now) found.items ≡ keys (restrict rows (of_vip vip.now))) }
         ensures memory { IfErr result (λ e. e ≡ OutOfMemory) }
     {

@@ -1,5 +1,6 @@
 -- Members of one kind in a JSON tree. A member of another kind counts as absent (this project's own rule).
-use Rattle.std.specs.Prelude.{ℕ, is_some, Bool, true, false, ◌&&◌, List, [], codes, length, ◌==◌, nat_le, if◌then◌else◌, Option, Some, None, option_and_then, option_map, unwrap_or}
+use Rattle.std.specs.Prelude.{ℕ, is_some, Bool, true, false, ◌&&◌, List, [], codes, length, ◌==◌, nat_le, if◌then◌else◌, Option, Some, None}
+use Rattle.std.specs.Prelude.{option_and_then, option_map, unwrap_or}
 use Rattle.std.specs.Str.{bytes_eq}
 use Rattle.serde_json.specs.Data.{Data, null, boolean, number, string}
 use Rattle.serde_json.specs.Find.{get, as_str, as_u64}
@@ -51,7 +52,8 @@ flag_at name d = option_and_then as_flag (get name d)
 
 -- the whole number at the name where it is in range, else the default
 abbrev pub number_at : List ℕ → ℕ → ℕ → ℕ → Data → ℕ
-number_at name low high default d = unwrap_or (option_and_then (λ n. if nat_le low n && nat_le n high then Some n else None) (option_and_then as_whole (get name d))) default
+number_at name low high default d = unwrap_or (option_and_then (λ n.
+    if nat_le low n && nat_le n high then Some n else None) (option_and_then as_whole (get name d))) default
 
 -- a port: its number and its flag have each a default of their own
 abbrev pub port_at : List ℕ → ℕ → Bool → Data → Port
@@ -66,4 +68,5 @@ status_at name default d = unwrap_or (option_map (λ s. unwrap_or (status_named 
 
 -- the override: the second spelling of the name counts where the first is no text
 abbrev pub override_at : Data → Status
-override_at d = if is_some (text_at (codes "overriddenStatus") d) then status_at (codes "overriddenStatus") Unknown d else status_at (codes "overriddenstatus") Unknown d
+override_at d = if is_some (text_at (codes "overriddenStatus") d) then status_at (codes "overriddenStatus") Unknown d else
+    status_at (codes "overriddenstatus") Unknown d

@@ -44,4 +44,5 @@ at_pair q (Some e) = if eq_by_cmp due_cmp q e.0 then Some tt else None
 
 -- what a key is given whose place is this: a lease that is moved by its duration, or what there is
 abbrev pub Moved : ℕ → Option (Option Lease) → (Option (Option Lease) → Type 0) → Type 0
-Moved now place Gets = (new : Option (Option Lease)) × (option_map (option_map plain_lease) new ≡ option_map (option_map (leases.extended now)) (option_map (option_map plain_lease) place)) × Gets new
+Moved now place Gets = (new : Option (Option Lease)) × (option_map (option_map plain_lease) new ≡
+    option_map (option_map (leases.extended now)) (option_map (option_map plain_lease) place)) × Gets new

@@ -212,7 +212,8 @@ impl LeaseBook {
     /// Whether a run at a moment takes no lease. Takes no memory.
     fn takes_none(&self, now: u64, held: u64) -> bool
         ensures none { IsTrue result → taken self.now.closed (due_at self.now) (keys self.now.places) held now ≡ [] }
-        ensures some { result ≡ false → lets_expire self.now.closed ≡ true × (0 < length (taken self.now.closed (due_at self.now) (keys self.now.places) held now)) }
+        ensures some { result ≡ false → lets_expire self.now.closed ≡ true
+            × (0 < length (taken self.now.closed (due_at self.now) (keys self.now.places) held now)) }
     {
         if held == 0 {
             return true;

@@ -24,7 +24,8 @@ fn add<'a>(
     place: &Option<Lease>,
     now: u64,
 ) -> Result<(), AllocError>
-    ensures { OnOk result ((q : ℕ × Key) → finmap.get (seen_due overdue.new.entries) q ≡ option_or (at_pair q (pair now (key.now, place.now))) (finmap.get (seen_due overdue.old.entries) q)) }
+    ensures { OnOk result ((q : ℕ × Key) → finmap.get (seen_due overdue.new.entries) q ≡
+        option_or (at_pair q (pair now (key.now, place.now))) (finmap.get (seen_due overdue.old.entries) q)) }
 {
     if let Some(lease) = place {
         let due = lease.due();
@@ -89,7 +90,9 @@ pub(crate) fn overdue_keys<'a>(
     places: &'a BTreeMap<Key, Option<Lease>>,
     now: u64,
 ) -> Result<Vec<&'a Key>, AllocError>
-    ensures { IfOk result (λ v. map (λ k. k.now) v.items ≡ map (λ d. d.1) (finmap.keys (overdue (λ k. option_map due_moment (option_flatten (finmap.get (seen_places places.now.entries) k))) (finmap.keys (seen_places places.now.entries)) now))) }
+    ensures { IfOk result (λ v. map (λ k. k.now) v.items ≡ map
+        (λ d. d.1) (finmap.keys (overdue (λ k. option_map due_moment (option_flatten (finmap.get (seen_places places.now.entries) k)))
+        (finmap.keys (seen_places places.now.entries)) now))) }
 {
     let overdue = collect(alloc, places, now)?;
     Ok(keys(alloc, &overdue)?)

@@ -62,7 +62,8 @@ fn extend(place: &mut Option<Lease>, now: u64) -> bool
 /// Moves the lease in the place of a key, if there is one, and answers whether there is.
 fn extend_at(places: &mut BTreeMap<Key, Option<Lease>>, key: &Key, now: u64) -> bool
     ensures there { result ≡ is_some (option_flatten (tree.get key_cmp places.old key.now)) }
-    ensures moved { IsSome (tree.get key_cmp places.old key.now) → Moved now (tree.get key_cmp places.old key.now) (λ p. tree.Updates key_cmp places.old places.new key.now p) }
+    ensures moved { IsSome (tree.get key_cmp places.old key.now)
+        → Moved now (tree.get key_cmp places.old key.now) (λ p. tree.Updates key_cmp places.old places.new key.now p) }
     ensures same { tree.get key_cmp places.old key.now ≡ None → places.new ≡ places.old }
 {
     match places.get_mut(key) {
@@ -135,15 +136,18 @@ impl Places {
     /// The keys of the leases that have run out by a moment, by due moment and then by key. Costs a
     /// pass over all leases, and a search in those that have run out for each of them.
     pub(crate) fn overdue(&self, alloc: Global, now: u64) -> Result<Vec<&Key>, AllocError>
-        ensures { IfOk result (λ v. map (λ k. k.now) v.items ≡ map (λ d. d.1) (finmap.keys (overdue (λ k. option_map due_moment (option_flatten (finmap.get self.now k))) (finmap.keys self.now) now))) }
+        ensures { IfOk result (λ v. map (λ k. k.now) v.items ≡
+            map (λ d. d.1) (finmap.keys (overdue (λ k. option_map due_moment (option_flatten (finmap.get self.now k))) (finmap.keys self.now) now))) }
     {
         overdue_keys(alloc, &self.places, now)
     }
 
     /// Whether a lease has run out by a moment. Takes no memory.
     pub(crate) fn any_overdue(&self, now: u64) -> bool
-        ensures some { IsTrue result → 0 < length (finmap.keys (overdue (λ k. option_map due_moment (option_flatten (finmap.get self.now k))) (finmap.keys self.now) now)) }
-        ensures none { result ≡ false → finmap.keys (overdue (λ k. option_map due_moment (option_flatten (finmap.get self.now k))) (finmap.keys self.now) now) ≡ [] }
+        ensures some { IsTrue result → 0 < length (finmap.keys
+            (overdue (λ k. option_map due_moment (option_flatten (finmap.get self.now k))) (finmap.keys self.now) now)) }
+        ensures none { result ≡ false → finmap.keys (overdue (λ k.
+            option_map due_moment (option_flatten (finmap.get self.now k))) (finmap.keys self.now) now) ≡ [] }
     {
         any_overdue(&self.places, now)
     }

@@ -10,7 +10,8 @@ use Rattle.disco_rounds.specs.declared.copied.Copied.TheVariants as copied
 use Rattle.disco_values.specs.Status.{status_name}
 use Rattle.disco_world.specs.declared.instance_summary.InstanceSummary.{InstanceSummary}
 use Rattle.disco_world.specs.declared.event.Reply.{Reply}
-use Rattle.disco_world.specs.declared.event.Reply.TheVariants.{Changed, Same, Doc, Cleaned, Closed, Expired, Begun, Copied, Done, Published, Missed, Taken, Certified, Held, Restarted, Refused}
+use Rattle.disco_world.specs.declared.event.Reply.TheVariants.{Changed, Same, Doc, Cleaned, Closed, Expired, Begun, Copied, Done, Published, Missed}
+use Rattle.disco_world.specs.declared.event.Reply.TheVariants.{Taken, Certified, Held, Restarted, Refused}
 
 -- `doc BASE VERSION `
 abbrev pub document_front : Payload → List ℕ

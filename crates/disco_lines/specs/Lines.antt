@@ -8,7 +8,8 @@ use Rattle.disco_values.specs.declared.fault.Fault.TheVariants.{BadEvent}
 use Rattle.disco_world.specs.declared.event.Event.{Event}
 use Rattle.disco_world.specs.declared.event.Event.TheVariants as event
 use Rattle.disco_world.specs.declared.event.Step.{Step}
-use Rattle.disco_world.specs.declared.event.Step.TheVariants.{Register, Cancel, Renew, SetStatus, DropStatus, Metadata, Clean, Minute, Expire, Begin, Copy, Publish, Show, ShowCertified, Restart}
+use Rattle.disco_world.specs.declared.event.Step.TheVariants.{Register, Cancel, Renew, SetStatus, DropStatus, Metadata, Clean, Minute, Expire, Begin}
+use Rattle.disco_world.specs.declared.event.Step.TheVariants.{Copy, Publish, Show, ShowCertified, Restart}
 use Rattle.disco_lines.specs.Loads.{load_of, look_for, target}
 use Rattle.disco_operations.specs.Query.{entries_of_query}
 use Rattle.disco_lines.specs.Words.{words, joined, only, only_text, only_moment, moment_of_word, client_of_word}
@@ -48,7 +49,8 @@ step_at keyword now app id more =
 
 -- `NOW APP ID` behind a keyword, and more words
 abbrev pub step_of_instance : List ℕ → List (List ℕ) → Option Step
-step_of_instance keyword (now ∷ app ∷ id ∷ more) = option_and_then (λ n. option_and_then (λ a. option_and_then (λ i. step_at keyword n a i more) (decoded_text id)) (decoded_text app)) (moment_of_word now)
+step_of_instance keyword (now ∷ app ∷ id ∷ more) = option_and_then (λ n.
+    option_and_then (λ a. option_and_then (λ i. step_at keyword n a i more) (decoded_text id)) (decoded_text app)) (moment_of_word now)
 step_of_instance keyword _ = None
 
 -- `NOW`

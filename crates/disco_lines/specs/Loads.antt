@@ -21,7 +21,8 @@ target_by form query = ByKey (record { query = query; form = form })
 
 -- `apps` or `delta`
 abbrev pub whole_target : Form → List ℕ → Option Target
-whole_target form kind = if bytes_eq kind (codes "apps") then Some (target_by form Apps) else (if bytes_eq kind (codes "delta") then Some (target_by form Delta) else None)
+whole_target form kind = if bytes_eq kind (codes "apps") then Some (target_by form Apps) else
+    (if bytes_eq kind (codes "delta") then Some (target_by form Delta) else None)
 
 -- `app NAME`, `vip VIP`, `svip SVIP` or `id ID`
 abbrev pub named : Form → List ℕ → List ℕ → Option Target
@@ -44,7 +45,8 @@ target_of_kind form kind _ = None
 
 -- `FORM QUERY`
 abbrev pub target : List (List ℕ) → Option Target
-target (form ∷ kind ∷ more) = option_and_then (λ f. option_and_then (λ k. target_of_kind f k more) (decoded_text kind)) (option_and_then form_named (decoded_text form))
+target (form ∷ kind ∷ more) = option_and_then (λ f. option_and_then (λ k. target_of_kind f k more) (decoded_text kind))
+    (option_and_then form_named (decoded_text form))
 target _ = None
 
 -- the load of what is asked for

@@ -1,7 +1,8 @@
 //! The event that a line means. `None` stands for a line that can't be read.
 ghost use Rattle.std.specs.Prelude.{◌≡◌, IfOk, IfErr, Some};
 ghost use Rattle.disco_values.specs.declared.fault.Fault.TheVariants.{OutOfMemory};
-ghost use Rattle.disco_lines.specs.Lines.{alone, certifying, client_and_event, event_named, event_of, metadata_change, only_client, override_removal, registration, step_at, step_named, step_of_instance, taking};
+ghost use Rattle.disco_lines.specs.Lines.{alone, certifying, client_and_event, event_named, event_of, metadata_change, only_client, override_removal};
+ghost use Rattle.disco_lines.specs.Lines.{registration, step_at, step_named, step_of_instance, taking};
 ghost use Rattle.disco_lines.specs.Words.{client_of_word, moment_of_word, only_moment, only_text};
 
 use crate::load::{load_of, look_for, target_of};

@@ -48,7 +48,8 @@ fn run_and_write<W: Sink>(
     steps: Steps,
     out: &mut W,
 ) -> Result<(), Fault>
-    ensures { OnOk result (AreTold settings.now.entries (rules settings.now) settings.now.run steps.entry.events.now answer_line (W.contents out.old) (W.contents out.new)) }
+    ensures { OnOk result (AreTold settings.now.entries (rules settings.now) settings.now.run steps.entry.events.now answer_line (W.contents out.old)
+        (W.contents out.new)) }
 {
     let mut buffered = LineBuffer(Vec::with_capacity(alloc, ROOM)?);
     run_to(alloc, settings, steps, &mut buffered, out)?;
@@ -67,7 +68,8 @@ pub fn answer_events<W: Sink>(
     steps: Steps,
     out: &mut W,
 ) -> Result<(), Fault>
-    ensures told { OnOk result (AreTold settings.now.entries (rules settings.now) settings.now.run steps.entry.events.now answer_line (W.contents out.old) (W.contents out.new)) }
+    ensures told { OnOk result (AreTold settings.now.entries (rules settings.now) settings.now.run steps.entry.events.now answer_line (W.contents out.old)
+        (W.contents out.new)) }
     ensures fault { IfErr result (λ e. (e ≡ WriteFailed) ⊎ (e ≡ OutOfMemory)) }
     // A failed write has raised the count of failures.
     ensures cause { Cause WriteFailed (W.failed out.old) (W.failed out.new) result }

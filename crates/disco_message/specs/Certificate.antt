@@ -19,7 +19,8 @@ cert_by _ _ _ = None
 
 -- the certificate that a text spells: three numbers in digits, with one space between them
 abbrev pub cert_spelled : List ℕ → Option Cert
-cert_spelled text = cert_by (digits_number (before_first is_blank text)) (digits_number (before_first is_blank (behind_space text))) (digits_number (behind_space (behind_space text)))
+cert_spelled text = cert_by (digits_number (before_first is_blank text)) (digits_number (before_first is_blank (behind_space text)))
+    (digits_number (behind_space (behind_space text)))
 
 -- that of the one value that is there; none where there are more
 abbrev pub only_cert : List (List ℕ) → Option Cert

@@ -27,7 +27,13 @@ closes minor fields = minor == 0 || list_any (λ v. has_option (codes "close") (
 abbrev pub headed : List ℕ → ℕ → List (List ℕ × List ℕ) → Option (List ℕ) → Result Framing Fault → Result Heading Fault
 headed method minor fields None framing = Err BadRequest
 headed method minor fields (Some path) (Err fault) = Err fault
-headed method minor fields (Some path) (Ok framing) = Ok (record { method = method; target = path; fields = fields; framing = framing; closes = closes minor fields })
+headed method minor fields (Some path) (Ok framing) = Ok (record {
+  method = method;
+  target = path;
+  fields = fields;
+  framing = framing;
+  closes = closes minor fields;
+})
 
 -- the same by the parts of the head
 abbrev pub heading_by : List ℕ → List ℕ → ℕ → List (List ℕ × List ℕ) → Result Heading Fault

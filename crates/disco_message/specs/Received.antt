@@ -20,11 +20,13 @@ pub record Received : Type 0 where
 
 -- how a body ends, by the values of Content-Length and of Transfer-Encoding: with neither, at the end of the input (RFC 9112, section 6.3)
 abbrev pub extent_of : ℕ → List (List ℕ) → List (List ℕ) → Option Extent
-extent_of minor lengths codings = if length lengths == 0 && length codings == 0 then Some UntilEnd else option_map (λ f. Framed f) (framing_of minor lengths codings)
+extent_of minor lengths codings = if length lengths == 0 && length codings == 0 then Some UntilEnd else
+    option_map (λ f. Framed f) (framing_of minor lengths codings)
 
 -- a reply of status 204 has no body
 abbrev pub body_extent : ℕ → ℕ → List (List ℕ × List ℕ) → Option Extent
-body_extent status minor fields = if status == 204 then Some (Framed (Sized 0)) else extent_of minor (values (codes "content-length") fields) (values (codes "transfer-encoding") fields)
+body_extent status minor fields = if status == 204 then Some (Framed (Sized 0)) else
+    extent_of minor (values (codes "content-length") fields) (values (codes "transfer-encoding") fields)
 
 -- what a head says with a body that ends so
 abbrev pub received_with : ℕ → ℕ → List (List ℕ × List ℕ) → Option Extent → Result Received Fault

@@ -34,7 +34,8 @@ length_line n = codes "Content-Length: " ++ number_text n ++ codes "\r\n"
 -- the certificate of the document: its run, its base and its version, with a space between them (this project's own rule)
 unfoldable pub certificate_line : Option Cert → List ℕ
 certificate_line None = []
-certificate_line (Some c) = codes "X-Discovery-Certificate: " ++ number_text c.run ++ codes " " ++ number_text c.base ++ codes " " ++ number_text c.version ++ codes "\r\n"
+certificate_line (Some c) = codes "X-Discovery-Certificate: " ++ number_text c.run ++ codes " " ++ number_text c.base
+    ++ codes " " ++ number_text c.version ++ codes "\r\n"
 
 -- the methods of the path
 unfoldable pub allow_line : Option Allow → List ℕ
@@ -54,7 +55,8 @@ body_lines status (Some n) = type_line ++ length_line n
 
 -- the head of a reply with a document of so many bytes and this certificate, or with none; `last` says that the connection ends behind it
 abbrev pub reply_head : StatusLine → Option Allow → Option ℕ → Option Cert → Bool → List ℕ
-reply_head status allow size cert last = status_line status ++ body_lines status size ++ certificate_line cert ++ allow_line allow ++ close_line last ++ codes "\r\n"
+reply_head status allow size cert last = status_line status ++ body_lines status size ++ certificate_line cert ++ allow_line allow
+    ++ close_line last ++ codes "\r\n"
 
 -- the body: the document, but for a 204
 abbrev pub reply_body : StatusLine → Option (List ℕ) → List ℕ

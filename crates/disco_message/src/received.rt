@@ -125,7 +125,8 @@ impl ReceivedHead {
         line: &ResponseSpans,
     ) -> Result<ReceivedHead, Fault>
         requires { IsResponseWithin buf.now spans.now line.now }
-        ensures says { (h : ResponseHead) → IsResponseAt buf.now spans.now line.now h → (result ≡ received h) ⊎ ((result ≡ Err OutOfMemory) × IsOk (received h)) }
+        ensures says { (h : ResponseHead) → IsResponseAt buf.now spans.now line.now h → (result ≡ received h)
+            ⊎ ((result ≡ Err OutOfMemory) × IsOk (received h)) }
         ensures fault { IfErr result (λ fault. (fault ≡ BadRequest) ⊎ (fault ≡ OutOfMemory)) }
     {
         let fields = &spans[..line.headers];

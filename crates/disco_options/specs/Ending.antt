@@ -3,8 +3,10 @@ use Rattle.std.specs.Prelude.{◌≡◌, ◌≢◌, ◌≤◌, ℕ, List, Option
 use Rattle.clap.specs.Words.{Kinds}
 use Rattle.disco_options.specs.Faults.{IsStatusAmong, SaysAny}
 
--- its words have these faults, or ask for help: it ends with a status of one of them, and where words are refused nothing was written; words with no fault are never refused; 0 leaves the errors as they were, and 1 ends them with the line of a fault
-pub record EndsBy {W E : Type 0} (contents : E → Option (List ℕ)) (failed : E → ℕ) (faults : Kinds) (status : ℕ) (out-old out-new : W) (errors-old errors-new : E) : Type 0 where
+-- its words have these faults, or ask for help: it ends with a status of one of them, and where words are refused nothing was written; words with no
+-- fault are never refused; 0 leaves the errors as they were, and 1 ends them with the line of a fault
+pub record EndsBy {W E : Type 0} (contents : E → Option (List ℕ)) (failed : E → ℕ) (faults : Kinds) (status : ℕ) (out-old out-new : W)
+    (errors-old errors-new : E) : Type 0 where
   pub most : status ≤ 2
   pub refused : faults ≢ [] → IsStatusAmong faults status
   pub settled : faults ≡ [] → status ≤ 1

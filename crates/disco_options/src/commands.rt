@@ -1,7 +1,8 @@
 //! The command line.
 ghost use Rattle.std.specs.Prelude.{◌≡◌, IfOk, map, string_bytes};
 ghost use Rattle.clap.specs.Words.{FailsBy, HasKind, app_of, found_of, rows_of};
-ghost use Rattle.disco_options.specs.Options.{AreMatches, app_for, faults_of, faults_of_options, faults_of_others, matches_for, program_app, fleet_app, follow_app, replay_app, serve_app};
+ghost use Rattle.disco_options.specs.Options.{AreMatches, app_for, faults_of, faults_of_options, faults_of_others, matches_for, program_app};
+ghost use Rattle.disco_options.specs.Options.{fleet_app, follow_app, replay_app, serve_app};
 
 use crate::limits::{
     MOST_PORT, MOST_THREADS, MOST_WORKERS, bounds_and_default, most_port, most_threads, pause,

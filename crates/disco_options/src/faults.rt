@@ -27,7 +27,8 @@ fn write_number<E: Sink>(text: &[u8], number: u64, errors: &mut E) -> Result<(),
 
 /// Writes the end of a line behind a number.
 fn write_end<E: Sink>(text: &[u8], number: u64, errors: &mut E) -> Result<(), Failed>
-    ensures { WritesBytes (E.contents errors.old) (E.contents errors.new) (E.failed errors.old) (E.failed errors.new) result (text.now ++ decimal number ++ codes "\n") }
+    ensures { WritesBytes (E.contents errors.old) (E.contents errors.new) (E.failed errors.old) (E.failed errors.new) result
+        (text.now ++ decimal number ++ codes "\n") }
 {
     write_number(text, number, errors)?;
     write_all(errors, b"\n")

@@ -40,7 +40,8 @@ pub fn run<J: Naming + Send + Sync, R, I: Source, W: Sink, E: Sink>(
 where
     R: Net<Listener = TcpListener, Stream = TcpStream> + Threads + Wait + Clock + Sync,
     requires opening { Opens J.list J.name J.parts opening }
-    ensures ends { EndsBy E.contents E.failed (faults_of_running (verb_of (map string_bytes words.now)) (map string_bytes words.now)) result out.old out.new errors.old errors.new }
+    ensures ends { EndsBy E.contents E.failed (faults_of_running (verb_of (map string_bytes words.now))
+        (map string_bytes words.now)) result out.old out.new errors.old errors.new }
 
     // `replay` with status 0 has answered all events of the input, and with 1 has told why it hasn't.
     ensures replayed { verb_of (map string_bytes words.now) ≡ Replay → faults_of Replay (map string_bytes words.now) ≡ [] → result ≡ 0

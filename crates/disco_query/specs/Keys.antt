@@ -32,7 +32,8 @@ place_of Compact = 1
 
 -- by kind, then by names in byte order, then the full form before the compact one
 abbrev pub doc_cmp : DocKey → DocKey → Ordering
-doc_cmp a b = ordering_then (nat_cmp (kind_of a.query) (kind_of b.query)) (ordering_then (slice_cmp (slice_cmp nat_cmp) (names_in a.query) (names_in b.query)) (nat_cmp (place_of a.form) (place_of b.form)))
+doc_cmp a b = ordering_then (nat_cmp (kind_of a.query) (kind_of b.query))
+    (ordering_then (slice_cmp (slice_cmp nat_cmp) (names_in a.query) (names_in b.query)) (nat_cmp (place_of a.form) (place_of b.form)))
 
 -- whether two keys are one
 abbrev pub same_doc : DocKey → DocKey → Bool

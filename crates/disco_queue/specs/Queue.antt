@@ -7,7 +7,8 @@ use Rattle.disco_values.specs.declared.key.Key.{Key}
 use Rattle.disco_history.specs.Change.{last}
 use Rattle.disco_queue.specs.Timed.{Timed, changes}
 
--- how many changes it keeps at most, how many leading ones it dropped, those that it keeps, room for more, and the places of keys, each with a number that is 0 where it stands empty
+-- how many changes it keeps at most, how many leading ones it dropped, those that it keeps, room for more, and the places of keys, each with a number
+-- that is 0 where it stands empty
 pub record Queue : Type 0 where
   pub max : ℕ
   pub base : ℕ

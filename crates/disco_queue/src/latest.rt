@@ -34,7 +34,8 @@ pub(crate) fn numbered_in<'a>(
     before: u64,
     alloc: Global,
 ) -> Result<Vec<&'a Change>, AllocError>
-    ensures changes { IfOk result (λ found. map (λ c. change_view c.now) found.items ≡ filter_map (λ e. numbered before (map change_of kept.now.items) e.1) places.now.entries) }
+    ensures changes { IfOk result (λ found. map (λ c. change_view c.now) found.items ≡
+        filter_map (λ e. numbered before (map change_of kept.now.items) e.1) places.now.entries) }
     ensures proper { IfOk result (λ found. All (λ c. is_proper c.now ≡ true) found.items) }
     ensures ordered { IsOrdered key_cmp places.now }
 {

@@ -83,7 +83,8 @@ impl Numbers {
         before: u64,
         alloc: Global,
     ) -> Result<Vec<&'a Change>, AllocError>
-        ensures last { AreNumbered self.now before (map change_of kept.now.items) → IfOk result (λ found. map (λ c. change_view c.now) found.items ≡ values (delta (map change_of kept.now.items) 0)) }
+        ensures last { AreNumbered self.now before (map change_of kept.now.items)
+            → IfOk result (λ found. map (λ c. change_view c.now) found.items ≡ values (delta (map change_of kept.now.items) 0)) }
         ensures proper { IfOk result (λ found. All (λ c. is_proper c.now ≡ true) found.items) }
     {
         numbered_in(&self.places, kept, before, alloc)

@@ -44,7 +44,13 @@ impl Model for ChangedQueue {
 
     ghost coded = { Prim.hlevel (codes, code) };
 
-    ghost view = { λ q. record { max = q.max; base = q.base; kept = map timed q.kept.items; room = deque_capacity q.kept - deque_len q.kept; places = q.numbers } };
+    ghost view = { λ q. record {
+      max = q.max;
+      base = q.base;
+      kept = map timed q.kept.items;
+      room = deque_capacity q.kept - deque_len q.kept;
+      places = q.numbers;
+    } };
 
     ghost invariant = { λ q. IsWithin q.max q.base (deque_len q.kept) × AreNumbered q.numbers q.base (map change_of q.kept.items) };
 }
@@ -58,7 +64,8 @@ fn drop_front(kept: &mut VecDeque<Kept>, base: &mut u64, numbers: &mut Numbers)
     ensures capacity { deque_capacity kept.new ≡ deque_capacity kept.old }
     ensures base { base.new ≡ base.old + 1 }
     ensures empty { LeavesNone numbers.old numbers.new }
-    ensures numbers { (es : List Entry) → AreNumbered numbers.old base.old (map change_of kept.old.items ++ es) → AreNumbered numbers.new base.new (map change_of kept.new.items ++ es) }
+    ensures numbers { (es : List Entry) → AreNumbered numbers.old base.old (map change_of kept.old.items ++ es)
+        → AreNumbered numbers.new base.new (map change_of kept.new.items ++ es) }
 {
     if let Some(oldest) = kept.pop_front() {
         *base += 1;
@@ -150,7 +157,8 @@ impl ChangedQueue {
         ensures version { version self.new ≡ version self.old + 1 }
         ensures empty { AddsNoneEmpty self.old self.new }
         ensures history { (h : List Timed) → KeepsHistory self.old h → KeepsHistory self.new (h ++ (change_view change, now) ∷ []) }
-        ensures history_base { (h : List Timed) → KeepsHistory self.old h → self.new.base ≡ base_after_change self.old.max self.old.base (length (h ++ (change_view change, now) ∷ [])) }
+        ensures history_base { (h : List Timed) → KeepsHistory self.old h
+            → self.new.base ≡ base_after_change self.old.max self.old.base (length (h ++ (change_view change, now) ∷ [])) }
     {
         let number = self.version() + 1;
         let is_full = self.is_full();
@@ -192,7 +200,8 @@ impl ChangedQueue {
     /// `OutOfMemory` alone.
     pub fn last_changes(&self, alloc: Global) -> Result<Vec<&Change>, Fault>
         ensures kept { IfOk result (λ found. map (λ c. change_view c.now) found.items ≡ values (delta (changes self.now.kept) 0)) }
-        ensures history { (h : List Timed) → KeepsHistory self.now h → IfOk result (λ found. map (λ c. change_view c.now) found.items ≡ values (delta (changes h) self.now.base)) }
+        ensures history { (h : List Timed) → KeepsHistory self.now h
+            → IfOk result (λ found. map (λ c. change_view c.now) found.items ≡ values (delta (changes h) self.now.base)) }
         ensures proper { IfOk result (λ found. All (λ c. is_proper c.now ≡ true) found.items) }
         ensures memory { IfErr result (λ e. e ≡ OutOfMemory) }
     {

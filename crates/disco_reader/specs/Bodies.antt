@@ -11,7 +11,8 @@ use Rattle.disco_reader.specs.Chunks.{ReadsPieces, ReadsLast, bytes_in_chunks, C
 abbrev pub ReadsBody : Limits → Framing → List ℕ → List ℕ → List ℕ → Type 0
 ReadsBody limits (Sized n) after body rest = (n ≤ limits.body) × (length body ≡ n) × (after ≡ body ++ rest)
 ReadsBody limits Chunked after body rest =
-    (pieces : List (List ℕ)) × (next : List ℕ) × ReadsPieces limits after pieces next × ReadsLast limits next rest × (body ≡ bytes_in_chunks pieces) × (length body ≤ limits.body)
+    (pieces : List (List ℕ)) × (next : List ℕ) × ReadsPieces limits after pieces next × ReadsLast limits next rest × (body ≡ bytes_in_chunks pieces)
+    × (length body ≤ limits.body)
 
 -- the input ends before so many bytes; of memory and of the host nothing is said here
 abbrev pub EndsBefore : ℕ → Fault → List ℕ → Type 0

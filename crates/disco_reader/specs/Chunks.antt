@@ -23,7 +23,8 @@ ReadsPieces limits input (piece ∷ pieces) rest = (next : List ℕ) × ReadsChu
 
 -- the fields behind the last chunk, which are dropped
 abbrev pub ReadsTrailer : Limits → List ℕ → List ℕ → Type 0
-ReadsTrailer limits input rest = (fields : List Field) × (last : LineEnd) × ReadsSection input fields last rest × (length (print_section fields last) ≤ limits.head) × (length fields ≤ limits.fields)
+ReadsTrailer limits input rest = (fields : List Field) × (last : LineEnd) × ReadsSection input fields last rest
+    × (length (print_section fields last) ≤ limits.head) × (length fields ≤ limits.fields)
 
 -- the line of size 0, and the fields behind it
 abbrev pub ReadsLast : Limits → List ℕ → List ℕ → Type 0
@@ -56,4 +57,5 @@ NextRefused limits have fault input = ⊥
 
 -- why a body in chunks is refused
 abbrev pub ChunksRefused : Limits → Fault → List ℕ → Type 0
-ChunksRefused limits fault input = (pieces : List (List ℕ)) × (next : List ℕ) × ReadsPieces limits input pieces next × (length (bytes_in_chunks pieces) ≤ limits.body) × NextRefused limits (length (bytes_in_chunks pieces)) fault next
+ChunksRefused limits fault input = (pieces : List (List ℕ)) × (next : List ℕ) × ReadsPieces limits input pieces next
+    × (length (bytes_in_chunks pieces) ≤ limits.body) × NextRefused limits (length (bytes_in_chunks pieces)) fault next

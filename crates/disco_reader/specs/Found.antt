@@ -1,5 +1,6 @@
 -- Only what code keeps: nothing here is to be believed.
-use Rattle.std.specs.Prelude.{◌≡◌, ℕ, ◌≤◌, ⊤, ◌⊎◌, IsOk, Bool, true, false, ◌==◌, ◌&&◌, ◌||◌, ◌++◌, List, [], ◌∷◌, length, drop, Option, Some, None, Result, Ok, Err}
+use Rattle.std.specs.Prelude.{◌≡◌, ℕ, ◌≤◌, ⊤, ◌⊎◌, IsOk, Bool, true, false, ◌==◌, ◌&&◌, ◌||◌, ◌++◌, List, [], ◌∷◌, length, drop, Option, Some, None}
+use Rattle.std.specs.Prelude.{Result, Ok, Err}
 use Rattle.std.specs.List.{list_any}
 use Rattle.httparse.specs.Ascii.{carriage_return, line_feed}
 use Rattle.httparse.specs.Grammar.{ChunkLine, Field, LineEnd, print_section, ReadsSection}
@@ -39,7 +40,8 @@ IsLine bytes len size = (len ≤ length bytes) × ((line : ChunkLine) × IsChunk
 
 -- so many fields at most, with the empty line, stand at the front
 abbrev pub IsTrailer : ℕ → List ℕ → ℕ → Type 0
-IsTrailer few bytes len = (len ≤ length bytes) × ((fields : List Field) × (last : LineEnd) × ReadsSection bytes fields last (drop len bytes) × (len ≡ length (print_section fields last)) × (length fields ≤ few))
+IsTrailer few bytes len = (len ≤ length bytes) × ((fields : List Field) × (last : LineEnd) × ReadsSection bytes fields last (drop len bytes)
+    × (len ≡ length (print_section fields last)) × (length fields ≤ few))
 
 -- the part that was found stands at the front
 abbrev pub IsFound : ℕ → Part → List ℕ → List HeaderSpan → Found → Type 0
@@ -82,7 +84,8 @@ Turn limits false old new input left = (next : List ℕ) × HasSize limits 0 inp
 
 -- the body so far is that of the chunks so far
 abbrev pub PiecesSoFar : Limits → List ℕ → List ℕ → Option (List ℕ) → Type 0
-PiecesSoFar limits body input left = (pieces : List (List ℕ)) × (next : List ℕ) × ReadsPieces limits input pieces next × (body ≡ bytes_in_chunks pieces) × (left ≡ Some next)
+PiecesSoFar limits body input left = (pieces : List (List ℕ)) × (next : List ℕ) × ReadsPieces limits input pieces next × (body ≡ bytes_in_chunks pieces)
+    × (left ≡ Some next)
 
 -- no chunks up to the last, with the fields behind it, stand at the front of these bytes
 abbrev pub HasNoChunks : Limits → List ℕ → Type 0
@@ -103,7 +106,8 @@ IsRead {H} say begins stream says left = (h : H) × (after : List ℕ) × begins
 
 -- why no head is read that may be read on: none stands there, or one that is refused, or there was no memory
 abbrev pub IsNotRead : {H S : Type 0} → (H → Result S Fault) → (List ℕ → H → List ℕ → Type 0) → (Fault → List ℕ → Type 0) → Fault → List ℕ → Type 0
-IsNotRead {H} say begins none fault stream = none fault stream ⊎ ((h : H) × (after : List ℕ) × begins stream h after × ((say h ≡ Err fault) ⊎ ((fault ≡ OutOfMemory) × IsOk (say h))))
+IsNotRead {H} say begins none fault stream = none fault stream
+    ⊎ ((h : H) × (after : List ℕ) × begins stream h after × ((say h ≡ Err fault) ⊎ ((fault ≡ OutOfMemory) × IsOk (say h))))
 
 -- the same of the head of a request
 abbrev pub HeadRead : Limits → List ℕ → Heading → Option (List ℕ) → Type 0

@@ -1,6 +1,7 @@
 -- The parts of a message that are looked for, and why one isn't there.
 use Rattle.std.specs.Prelude.{◌≡◌, ◌≢◌, ℕ, ◌<◌, ◌≤◌, ◌⊎◌, List, [], ◌++◌, length, ⊤}
-use Rattle.httparse.specs.Grammar.{HasNoRequest, NeverHasRequest, HasNoResponse, NeverHasResponse, HasNoSection, NeverHasSection, HasNoChunkLine, NeverHasChunkLine}
+use Rattle.httparse.specs.Grammar.{HasNoRequest, NeverHasRequest, HasNoResponse, NeverHasResponse, HasNoSection, NeverHasSection, HasNoChunkLine}
+use Rattle.httparse.specs.Grammar.{NeverHasChunkLine}
 use Rattle.httparse.specs.Spans.{RequestExceeds, ResponseExceeds, SectionExceeds}
 use Rattle.disco_values.specs.declared.fault.Fault.{Fault}
 use Rattle.disco_values.specs.declared.fault.Fault.TheVariants.{HeadTooLarge, BadRequest, ReadFailed}
@@ -47,7 +48,8 @@ FrontRefused limits part fault front = ⊥
 
 -- some first bytes of the stream, no more than a part may have, are refused
 abbrev pub SomeFront : Limits → Part → Fault → List ℕ → Type 0
-SomeFront limits part fault stream = (front : List ℕ) × (more : List ℕ) × (stream ≡ front ++ more) × (length front ≤ limits.head) × FrontRefused limits part fault front
+SomeFront limits part fault stream = (front : List ℕ) × (more : List ℕ) × (stream ≡ front ++ more) × (length front ≤ limits.head)
+    × FrontRefused limits part fault front
 
 -- the input ends before the part is whole; an end before a request's first byte is none
 abbrev pub EndsInside : Limits → Part → List ℕ → Type 0

@@ -48,4 +48,5 @@ BehindReplyHead limits fault h after = (received h ≡ Err fault) ⊎ ((says : R
 
 -- why the stream begins with no reply
 abbrev pub ReplyRefused : Limits → Fault → List ℕ → Type 0
-ReplyRefused limits fault stream = PartRefused limits part.ReplyHead fault stream ⊎ ((h : ResponseHead) × (after : List ℕ) × BeginsReply limits stream h after × BehindReplyHead limits fault h after)
+ReplyRefused limits fault stream = PartRefused limits part.ReplyHead fault stream
+    ⊎ ((h : ResponseHead) × (after : List ℕ) × BeginsReply limits stream h after × BehindReplyHead limits fault h after)

@@ -35,4 +35,5 @@ BehindHead limits fault h after = (heading h ≡ Err fault) ⊎ ((says : Heading
 
 -- why the stream begins with no request
 abbrev pub Refused : Limits → Fault → List ℕ → Type 0
-Refused limits fault stream = PartRefused limits part.RequestHead fault stream ⊎ ((h : RequestHead) × (after : List ℕ) × BeginsWithHead limits stream h after × BehindHead limits fault h after)
+Refused limits fault stream = PartRefused limits part.RequestHead fault stream
+    ⊎ ((h : RequestHead) × (after : List ℕ) × BeginsWithHead limits stream h after × BehindHead limits fault h after)

@@ -72,9 +72,11 @@ impl<R: Source> Reader<R> {
     /// Appends the bytes of a chunk to a body, and goes past the line end behind them.
     fn append_chunk(&mut self, body: &mut Vec<u8>, size: usize) -> Result<(), Fault>
         requires { vec_len body.old + size + 2 < 2 ^ 64 }
-        ensures chunk { OnOk result ((piece : List ℕ) × (body.new.items ≡ body.old.items ++ piece) × (length piece ≡ size) × Consumes (ahead R.remaining self.old) (ahead R.remaining self.new) (piece ++ crlf_bytes)) }
+        ensures chunk { OnOk result ((piece : List ℕ) × (body.new.items ≡ body.old.items ++ piece) × (length piece ≡ size)
+            × Consumes (ahead R.remaining self.old) (ahead R.remaining self.new) (piece ++ crlf_bytes)) }
         ensures refused { IfErr result (λ fault. IfSome (ahead R.remaining self.old) (DataRefused size fault)) }
-        ensures broken { IsErrOf result ReadFailed → IfSome (ahead R.remaining self.old) (λ input. Came (λ given. length given < size + 2) input (R.remaining self.new.source)) }
+        ensures broken { IsErrOf result ReadFailed → IfSome (ahead R.remaining self.old) (λ input.
+            Came (λ given. length given < size + 2) input (R.remaining self.new.source)) }
         ensures limits { self.new.limits ≡ self.old.limits }
         ensures fault { IfErr result (λ fault. IsTrue (is_of_reply fault)) }
         ensures cause { Cause ReadFailed (R.failed self.old.source) (R.failed self.new.source) result }
@@ -92,11 +94,13 @@ impl<R: Source> Reader<R> {
     /// Reads one chunk behind a body. False where it was the last, of size 0.
     fn read_chunk(&mut self, body: &mut Vec<u8>) -> Result<bool, Fault>
         requires { vec_len body.old ≤ self.old.limits.body }
-        ensures turn { IfOk result (λ more. IfSome (ahead R.remaining self.old) (λ input. Turn self.old.limits more body.old.items body.new.items input (ahead R.remaining self.new))) }
+        ensures turn { IfOk result (λ more. IfSome (ahead R.remaining self.old) (λ input.
+            Turn self.old.limits more body.old.items body.new.items input (ahead R.remaining self.new))) }
         ensures fits { OnOk result (vec_len body.new ≤ self.old.limits.body) }
         ensures grown { IfOk result (λ more. IsTrue more → vec_len body.old < vec_len body.new) }
         ensures refused { IfErr result (λ fault. IfSome (ahead R.remaining self.old) (NextRefused self.old.limits (length body.old.items) fault)) }
-        ensures broken { IsErrOf result ReadFailed → IfSome (ahead R.remaining self.old) (λ input. Came (HasNoChunks self.old.limits) input (R.remaining self.new.source)) }
+        ensures broken { IsErrOf result ReadFailed → IfSome (ahead R.remaining self.old) (λ input.
+            Came (HasNoChunks self.old.limits) input (R.remaining self.new.source)) }
         ensures limits { self.new.limits ≡ self.old.limits }
         ensures fault { IfErr result (λ fault. IsTrue (is_of_reply fault)) }
         ensures cause { Cause ReadFailed (R.failed self.old.source) (R.failed self.new.source) result }
@@ -119,7 +123,8 @@ impl<R: Source> Reader<R> {
         ensures body { IfOk result (λ body. IfSome (ahead R.remaining self.old) (λ after.
             (rest : List ℕ) × ReadsBody self.old.limits Chunked after body.items rest × (ahead R.remaining self.new ≡ Some rest))) }
         ensures refused { IfErr result (λ fault. IfSome (ahead R.remaining self.old) (ChunksRefused self.old.limits fault)) }
-        ensures broken { IsErrOf result ReadFailed → IfSome (ahead R.remaining self.old) (λ after. Came (HasNoChunks self.old.limits) after (R.remaining self.new.source)) }
+        ensures broken { IsErrOf result ReadFailed → IfSome (ahead R.remaining self.old) (λ after.
+            Came (HasNoChunks self.old.limits) after (R.remaining self.new.source)) }
         ensures limits { self.new.limits ≡ self.old.limits }
         ensures fault { IfErr result (λ fault. IsTrue (is_of_reply fault)) }
         ensures cause { Cause ReadFailed (R.failed self.old.source) (R.failed self.new.source) result }

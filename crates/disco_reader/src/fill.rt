@@ -18,7 +18,8 @@ pub(crate) fn fill_from<R: Source>(
     ensures within { IfOk result (λ filled. (from ≤ filled) × (filled ≤ length buffer.new)) }
     ensures bytes { IfOk result (λ filled. Consumes (R.remaining source.old) (R.remaining source.new) (slice_range buffer.new from filled)) }
     ensures end { IfOk result (λ filled. filled < length buffer.new → IsAtEnd (R.remaining source.new)) }
-    ensures broken { OnErr result (IfSome (R.remaining source.old) (λ input. Came (λ given. length given < length buffer.old - from) input (R.remaining source.new))) }
+    ensures broken { OnErr result (IfSome (R.remaining source.old) (λ input.
+        Came (λ given. length given < length buffer.old - from) input (R.remaining source.new))) }
     ensures cause { OnErr result (Raises (R.failed source.old) (R.failed source.new)) }
     ensures none_failed { OnOk result (R.failed source.new ≡ R.failed source.old) }
 {

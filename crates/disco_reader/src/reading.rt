@@ -27,7 +27,8 @@ impl<R: Source> Reader<R> {
         requires within { IsRequestWithin (unread self.now) self.now.spans.items line.now }
         requires found { IsRequestOf (unread self.now) self.now.spans.items line.now }
         ensures fault { IfErr result (λ fault. (fault ≡ BadRequest) ⊎ ((fault ≡ UnsupportedCoding) ⊎ (fault ≡ OutOfMemory))) }
-        ensures head { IfOk result (λ says. IfSome (ahead R.remaining self.now) (λ stream. HeadRead self.now.limits stream says (prepend_known (drop line.now.len (unread self.now)) (R.remaining self.now.source)))) }
+        ensures head { IfOk result (λ says. IfSome (ahead R.remaining self.now) (λ stream.
+            HeadRead self.now.limits stream says (prepend_known (drop line.now.len (unread self.now)) (R.remaining self.now.source)))) }
         ensures refused { IfErr result (λ fault. IfSome (ahead R.remaining self.now) (HeadRefused self.now.limits fault)) }
     {
         Head::new(room, self.unread(), &self.spans, line)
@@ -35,10 +36,12 @@ impl<R: Source> Reader<R> {
 
     /// Reads a head. None at the end of the input.
     fn read_head(&mut self, alloc: Global) -> Result<Option<Head>, Fault>
-        ensures head { IfOk result (λ found. IfSome found (λ says. IfSome (ahead R.remaining self.old) (λ stream. HeadRead self.old.limits stream says (ahead R.remaining self.new)))) }
+        ensures head { IfOk result (λ found. IfSome found (λ says.
+            IfSome (ahead R.remaining self.old) (λ stream. HeadRead self.old.limits stream says (ahead R.remaining self.new)))) }
         ensures none { IfOk result (λ found. IfNone found (IfSome (ahead R.remaining self.old) (λ stream. stream ≡ []))) }
         ensures refused { IfErr result (λ fault. IfSome (ahead R.remaining self.old) (HeadRefused self.old.limits fault)) }
-        ensures broken { IsErrOf result ReadFailed → IfSome (ahead R.remaining self.old) (λ stream. Came (HasNo part.RequestHead) stream (R.remaining self.new.source)) }
+        ensures broken { IsErrOf result ReadFailed → IfSome (ahead R.remaining self.old) (λ stream.
+            Came (HasNo part.RequestHead) stream (R.remaining self.new.source)) }
         ensures limits { self.new.limits ≡ self.old.limits }
         ensures fault { IfErr result (λ fault. IsTrue (is_of_request fault)) }
         ensures cause { Cause ReadFailed (R.failed self.old.source) (R.failed self.new.source) result }
@@ -61,7 +64,8 @@ impl<R: Source> Reader<R> {
         ensures body { IfOk result (λ body. IfSome (ahead R.remaining self.old) (λ after.
             (rest : List ℕ) × ReadsBody self.old.limits framing after body.items rest × (ahead R.remaining self.new ≡ Some rest))) }
         ensures refused { IfErr result (λ fault. IfSome (ahead R.remaining self.old) (BodyRefused self.old.limits framing fault)) }
-        ensures broken { IsErrOf result ReadFailed → IfSome (ahead R.remaining self.old) (λ after. Came (HasNoBody self.old.limits framing) after (R.remaining self.new.source)) }
+        ensures broken { IsErrOf result ReadFailed → IfSome (ahead R.remaining self.old) (λ after.
+            Came (HasNoBody self.old.limits framing) after (R.remaining self.new.source)) }
         ensures limits { self.new.limits ≡ self.old.limits }
         ensures fault { IfErr result (λ fault. IsTrue (is_of_reply fault)) }
         ensures cause { Cause ReadFailed (R.failed self.old.source) (R.failed self.new.source) result }
@@ -79,7 +83,8 @@ impl<R: Source> Reader<R> {
         ensures body { IfOk result (λ body. IfSome (ahead R.remaining self.old) (λ after.
             (rest : List ℕ) × ReadsBody self.old.limits (Sized size) after body.items rest × (ahead R.remaining self.new ≡ Some rest))) }
         ensures refused { IfErr result (λ fault. IfSome (ahead R.remaining self.old) (BodyRefused self.old.limits (Sized size) fault)) }
-        ensures broken { IsErrOf result ReadFailed → IfSome (ahead R.remaining self.old) (λ after. Came (HasNoBody self.old.limits (Sized size)) after (R.remaining self.new.source)) }
+        ensures broken { IsErrOf result ReadFailed → IfSome (ahead R.remaining self.old) (λ after.
+            Came (HasNoBody self.old.limits (Sized size)) after (R.remaining self.new.source)) }
         ensures limits { self.new.limits ≡ self.old.limits }
         ensures fault { IfErr result (λ fault. IsTrue (is_of_reply fault)) }
         ensures cause { Cause ReadFailed (R.failed self.old.source) (R.failed self.new.source) result }
@@ -113,7 +118,8 @@ impl<R: Source> Reader<R> {
             (rest : List ℕ) × TakesRequest self.old.limits stream request rest × (ahead R.remaining self.new ≡ Some rest)))) }
         ensures none { IfOk result (λ found. IfNone found (IfSome (ahead R.remaining self.old) (λ stream. stream ≡ []))) }
         ensures refused { IfErr result (λ fault. IfSome (ahead R.remaining self.old) (Refused self.old.limits fault)) }
-        ensures broken { IsErrOf result ReadFailed → IfSome (ahead R.remaining self.old) (λ stream. Came (HasNone self.old.limits) stream (R.remaining self.new.source)) }
+        ensures broken { IsErrOf result ReadFailed → IfSome (ahead R.remaining self.old) (λ stream.
+            Came (HasNone self.old.limits) stream (R.remaining self.new.source)) }
         ensures limits { self.new.limits ≡ self.old.limits }
         ensures fault { IfErr result (λ fault. IsTrue (is_of_request fault)) }
         ensures cause { Cause ReadFailed (R.failed self.old.source) (R.failed self.new.source) result }
@@ -145,7 +151,8 @@ impl<R: Source> Reader<R> {
         // A refusal has its cause in the stream.
         ensures refused { IfErr result (λ fault. IfSome (ahead R.remaining self.old) (Refused (reader_limits self.old) fault)) }
         // After a failed read what had come holds no whole request.
-        ensures broken { IsErrOf result ReadFailed → IfSome (ahead R.remaining self.old) (λ stream. Came (HasNone (reader_limits self.old)) stream (R.remaining (source_of self.new))) }
+        ensures broken { IsErrOf result ReadFailed → IfSome (ahead R.remaining self.old) (λ stream.
+            Came (HasNone (reader_limits self.old)) stream (R.remaining (source_of self.new))) }
         ensures limits { reader_limits self.new ≡ reader_limits self.old }
         // A failed read has raised the count of failures.
         ensures fault { IfErr result (λ fault. IsTrue (is_of_request fault)) }

@@ -1,5 +1,6 @@
 //! Replies that are read, as a client does.
-ghost use Rattle.std.specs.Prelude.{◌≡◌, ◌≤◌, ◌⊎◌, ◌+◌, ◌++◌, ◌<◌, ℕ, List, length, vec_len, IfOk, IfErr, IfSome, IsErrOf, IsFalse, IsTrue, is_err, Some, OnOk, drop};
+ghost use Rattle.std.specs.Prelude.{◌≡◌, ◌≤◌, ◌⊎◌, ◌+◌, ◌++◌, ◌<◌, ℕ, List, length, vec_len, IfOk, IfErr, IfSome, IsErrOf, IsFalse, IsTrue, is_err};
+ghost use Rattle.std.specs.Prelude.{Some, OnOk, drop};
 ghost use Rattle.std.specs.Io.KnownBytes.{Consumes, prepend_known};
 ghost use Rattle.httparse.specs.Spans.{IsResponseOf, IsResponseWithin};
 ghost use Rattle.disco_values.specs.declared.fault.Fault.TheVariants.{BadRequest, BodyTooLarge, ReadFailed, OutOfMemory};
@@ -33,7 +34,8 @@ impl<R: Source> Reader<R> {
         requires within { IsResponseWithin (unread self.now) self.now.spans.items line.now }
         requires found { IsResponseOf (unread self.now) self.now.spans.items line.now }
         ensures fault { IfErr result (λ fault. (fault ≡ BadRequest) ⊎ (fault ≡ OutOfMemory)) }
-        ensures head { IfOk result (λ says. IfSome (ahead R.remaining self.now) (λ stream. ReplyRead self.now.limits stream says (prepend_known (drop line.now.len (unread self.now)) (R.remaining self.now.source)))) }
+        ensures head { IfOk result (λ says. IfSome (ahead R.remaining self.now) (λ stream.
+            ReplyRead self.now.limits stream says (prepend_known (drop line.now.len (unread self.now)) (R.remaining self.now.source)))) }
         ensures refused { IfErr result (λ fault. IfSome (ahead R.remaining self.now) (ReplyHeadRefused self.now.limits fault)) }
     {
         ReceivedHead::new(alloc, self.unread(), &self.spans, line)
@@ -41,9 +43,11 @@ impl<R: Source> Reader<R> {
 
     /// Reads the head of a reply.
     fn read_reply_head(&mut self, alloc: Global) -> Result<ReceivedHead, Fault>
-        ensures head { IfOk result (λ says. IfSome (ahead R.remaining self.old) (λ stream. ReplyRead self.old.limits stream says (ahead R.remaining self.new))) }
+        ensures head { IfOk result (λ says. IfSome (ahead R.remaining self.old) (λ stream.
+            ReplyRead self.old.limits stream says (ahead R.remaining self.new))) }
         ensures refused { IfErr result (λ fault. IfSome (ahead R.remaining self.old) (ReplyHeadRefused self.old.limits fault)) }
-        ensures broken { IsErrOf result ReadFailed → IfSome (ahead R.remaining self.old) (λ stream. Came (HasNo part.ReplyHead) stream (R.remaining self.new.source)) }
+        ensures broken { IsErrOf result ReadFailed → IfSome (ahead R.remaining self.old) (λ stream.
+            Came (HasNo part.ReplyHead) stream (R.remaining self.new.source)) }
         ensures limits { self.new.limits ≡ self.old.limits }
         ensures fault { IfErr result (λ fault. IsTrue (is_of_reply fault)) }
         ensures cause { Cause ReadFailed (R.failed self.old.source) (R.failed self.new.source) result }
@@ -66,7 +70,8 @@ impl<R: Source> Reader<R> {
         ensures body { OnOk result (body.new.items ≡ body.old.items ++ unread self.old) }
         ensures empty { OnOk result (self.new.start ≡ self.new.end) }
         ensures fits { OnOk result (vec_len body.new ≤ self.old.limits.body) }
-        ensures refused { IfErr result (λ fault. (fault ≡ OutOfMemory) ⊎ ((fault ≡ BodyTooLarge) × (self.old.limits.body < vec_len body.old + length (unread self.old)))) }
+        ensures refused { IfErr result (λ fault. (fault ≡ OutOfMemory)
+            ⊎ ((fault ≡ BodyTooLarge) × (self.old.limits.body < vec_len body.old + length (unread self.old)))) }
         ensures source { self.new.source ≡ self.old.source }
         ensures limits { self.new.limits ≡ self.old.limits }
     {
@@ -85,7 +90,8 @@ impl<R: Source> Reader<R> {
         ensures body { IfOk result (λ body. IfSome (ahead R.remaining self.old) (λ after.
             (rest : List ℕ) × ReadsExtent self.old.limits UntilEnd after body.items rest × (ahead R.remaining self.new ≡ Some rest))) }
         ensures refused { IfErr result (λ fault. IfSome (ahead R.remaining self.old) (ExtentRefused self.old.limits UntilEnd fault)) }
-        ensures broken { IsErrOf result ReadFailed → IfSome (ahead R.remaining self.old) (λ after. Came (HasNoExtent self.old.limits UntilEnd) after (R.remaining self.new.source)) }
+        ensures broken { IsErrOf result ReadFailed → IfSome (ahead R.remaining self.old) (λ after.
+            Came (HasNoExtent self.old.limits UntilEnd) after (R.remaining self.new.source)) }
         ensures limits { self.new.limits ≡ self.old.limits }
         ensures fault { IfErr result (λ fault. IsTrue (is_of_reply fault)) }
         ensures cause { Cause ReadFailed (R.failed self.old.source) (R.failed self.new.source) result }
@@ -104,7 +110,8 @@ impl<R: Source> Reader<R> {
         ensures body { IfOk result (λ body. IfSome (ahead R.remaining self.old) (λ after.
             (rest : List ℕ) × ReadsExtent self.old.limits extent after body.items rest × (ahead R.remaining self.new ≡ Some rest))) }
         ensures refused { IfErr result (λ fault. IfSome (ahead R.remaining self.old) (ExtentRefused self.old.limits extent fault)) }
-        ensures broken { IsErrOf result ReadFailed → IfSome (ahead R.remaining self.old) (λ after. Came (HasNoExtent self.old.limits extent) after (R.remaining self.new.source)) }
+        ensures broken { IsErrOf result ReadFailed → IfSome (ahead R.remaining self.old) (λ after.
+            Came (HasNoExtent self.old.limits extent) after (R.remaining self.new.source)) }
         ensures limits { self.new.limits ≡ self.old.limits }
         ensures fault { IfErr result (λ fault. IsTrue (is_of_reply fault)) }
         ensures cause { Cause ReadFailed (R.failed self.old.source) (R.failed self.new.source) result }
@@ -126,7 +133,8 @@ impl<R: Source> Reader<R> {
         ensures reply { IfOk result (λ reply. IfSome (ahead R.remaining self.old) (λ stream.
             (rest : List ℕ) × TakesReply self.old.limits stream reply.head reply.body.items rest × (ahead R.remaining self.new ≡ Some rest))) }
         ensures refused { IfErr result (λ fault. IfSome (ahead R.remaining self.old) (ReplyRefused self.old.limits fault)) }
-        ensures broken { IsErrOf result ReadFailed → IfSome (ahead R.remaining self.old) (λ stream. Came (HasNoReply self.old.limits) stream (R.remaining self.new.source)) }
+        ensures broken { IsErrOf result ReadFailed → IfSome (ahead R.remaining self.old) (λ stream.
+            Came (HasNoReply self.old.limits) stream (R.remaining self.new.source)) }
         ensures limits { self.new.limits ≡ self.old.limits }
         ensures fault { IfErr result (λ fault. IsTrue (is_of_reply fault)) }
         ensures cause { Cause ReadFailed (R.failed self.old.source) (R.failed self.new.source) result }
@@ -151,7 +159,8 @@ impl<R: Source> Reader<R> {
         // A refusal has its cause in the stream.
         ensures refused { IfErr result (λ fault. IfSome (ahead R.remaining self.old) (ReplyRefused (reader_limits self.old) fault)) }
         // After a failed read what had come holds no whole reply, but for one without an end of its own.
-        ensures broken { IsErrOf result ReadFailed → IfSome (ahead R.remaining self.old) (λ stream. Came (HasNoReply (reader_limits self.old)) stream (R.remaining (source_of self.new))) }
+        ensures broken { IsErrOf result ReadFailed → IfSome (ahead R.remaining self.old) (λ stream.
+            Came (HasNoReply (reader_limits self.old)) stream (R.remaining (source_of self.new))) }
         ensures limits { reader_limits self.new ≡ reader_limits self.old }
         ensures fault { IfErr result (λ fault. IsTrue (is_of_reply fault)) }
         // A failed read has raised the count of failures.

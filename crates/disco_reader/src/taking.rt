@@ -1,5 +1,6 @@
 //! Bytes that are taken from the front of what is ahead.
-ghost use Rattle.std.specs.Prelude.{◌≡◌, ◌⊎◌, IsTrue, IsFalse, IsErrOf, ◌-◌, ◌+◌, ◌≤◌, ◌<◌, ◌++◌, ◌^◌, [], ℕ, List, drop, take, length, vec_len, IfOk, IfErr, IfNone, IfSome, OnOk};
+ghost use Rattle.std.specs.Prelude.{◌≡◌, ◌⊎◌, IsTrue, IsFalse, IsErrOf, ◌-◌, ◌+◌, ◌≤◌, ◌<◌, ◌++◌, ◌^◌, [], ℕ, List, drop, take, length, vec_len};
+ghost use Rattle.std.specs.Prelude.{IfOk, IfErr, IfNone, IfSome, OnOk};
 ghost use Rattle.std.specs.Io.KnownBytes.{Keeps, Consumes, IsAtEnd};
 ghost use Rattle.disco_values.specs.declared.fault.Fault.TheVariants.{HeadTooLarge, ReadFailed};
 ghost use Rattle.disco_reader.specs.Bodies.{EndsBefore};
@@ -24,7 +25,8 @@ impl<R: Source> Reader<R> {
         ensures looked { Looked self.old.limits.fields part (unread self.old) self.new.spans.items result }
         ensures ahead { Keeps (ahead R.remaining self.old) (ahead R.remaining self.new) }
         ensures unread { unread self.new ≡ unread self.old }
-        ensures same { (self.new.source ≡ self.old.source) × (self.new.start ≡ self.old.start) × (self.new.end ≡ self.old.end) × (self.new.limits ≡ self.old.limits) }
+        ensures same { (self.new.source ≡ self.old.source) × (self.new.start ≡ self.old.start) × (self.new.end ≡ self.old.end)
+            × (self.new.limits ≡ self.old.limits) }
     {
         look_at(part, &self.buffer[self.start..self.end], &mut self.spans)
     }
@@ -123,7 +125,8 @@ fn fill_behind<R: Source>(source: &mut R, body: &mut Vec<u8>, from: usize) -> Re
     ensures length { vec_len body.new ≡ vec_len body.old }
     ensures taken { OnOk result (Consumes (R.remaining source.old) (R.remaining source.new) (drop from body.new.items)) }
     ensures refused { IfErr result (λ fault. IfSome (R.remaining source.old) (EndsBefore (vec_len body.old - from) fault)) }
-    ensures broken { IsErrOf result ReadFailed → IfSome (R.remaining source.old) (λ input. Came (λ given. length given < vec_len body.old - from) input (R.remaining source.new)) }
+    ensures broken { IsErrOf result ReadFailed → IfSome (R.remaining source.old) (λ input.
+        Came (λ given. length given < vec_len body.old - from) input (R.remaining source.new)) }
     ensures fault { IfErr result (λ fault. IsTrue (is_of_reply fault)) }
     ensures cause { Cause ReadFailed (R.failed source.old) (R.failed source.new) result }
     ensures none_failed { OnOk result (R.failed source.new ≡ R.failed source.old) }
@@ -160,9 +163,11 @@ impl<R: Source> Reader<R> {
     /// Appends the next `size` bytes to a body.
     pub(crate) fn append(&mut self, body: &mut Vec<u8>, size: usize) -> Result<(), Fault>
         requires { vec_len body.old + size < 2 ^ 64 }
-        ensures taken { OnOk result ((piece : List ℕ) × (body.new.items ≡ body.old.items ++ piece) × (length piece ≡ size) × Consumes (ahead R.remaining self.old) (ahead R.remaining self.new) piece) }
+        ensures taken { OnOk result ((piece : List ℕ) × (body.new.items ≡ body.old.items ++ piece) × (length piece ≡ size)
+            × Consumes (ahead R.remaining self.old) (ahead R.remaining self.new) piece) }
         ensures refused { IfErr result (λ fault. IfSome (ahead R.remaining self.old) (EndsBefore size fault)) }
-        ensures broken { IsErrOf result ReadFailed → IfSome (ahead R.remaining self.old) (λ input. Came (λ given. length given < size) input (R.remaining self.new.source)) }
+        ensures broken { IsErrOf result ReadFailed → IfSome (ahead R.remaining self.old) (λ input.
+            Came (λ given. length given < size) input (R.remaining self.new.source)) }
         ensures limits { self.new.limits ≡ self.old.limits }
         ensures fault { IfErr result (λ fault. IsTrue (is_of_reply fault)) }
         ensures cause { Cause ReadFailed (R.failed self.old.source) (R.failed self.new.source) result }
@@ -182,9 +187,11 @@ impl<R: Source> Reader<R> {
     fn append_past(&mut self, body: &mut Vec<u8>, size: usize) -> Result<(), Fault>
         requires more { self.old.end - self.old.start < size }
         requires fits { vec_len body.old + size < 2 ^ 64 }
-        ensures taken { OnOk result ((piece : List ℕ) × (body.new.items ≡ body.old.items ++ piece) × (length piece ≡ size) × Consumes (ahead R.remaining self.old) (ahead R.remaining self.new) piece) }
+        ensures taken { OnOk result ((piece : List ℕ) × (body.new.items ≡ body.old.items ++ piece) × (length piece ≡ size)
+            × Consumes (ahead R.remaining self.old) (ahead R.remaining self.new) piece) }
         ensures refused { IfErr result (λ fault. IfSome (ahead R.remaining self.old) (EndsBefore size fault)) }
-        ensures broken { IsErrOf result ReadFailed → IfSome (ahead R.remaining self.old) (λ input. Came (λ given. length given < size) input (R.remaining self.new.source)) }
+        ensures broken { IsErrOf result ReadFailed → IfSome (ahead R.remaining self.old) (λ input.
+            Came (λ given. length given < size) input (R.remaining self.new.source)) }
         ensures limits { self.new.limits ≡ self.old.limits }
         ensures fault { IfErr result (λ fault. IsTrue (is_of_reply fault)) }
         ensures cause { Cause ReadFailed (R.failed self.old.source) (R.failed self.new.source) result }

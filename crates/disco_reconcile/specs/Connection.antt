@@ -31,7 +31,8 @@ form_name Compact = codes "compact"
 
 -- the request for a document (Eureka's REST operations, RFC 9112)
 unfoldable pub request_text : Bool → Form → List ℕ
-request_text delta f = codes "GET /eureka/v2/apps" ++ path_end delta ++ codes " HTTP/1.1\r\nHost: localhost\r\nX-Eureka-Accept: " ++ form_name f ++ codes "\r\n\r\n"
+request_text delta f = codes "GET /eureka/v2/apps" ++ path_end delta ++ codes " HTTP/1.1\r\nHost: localhost\r\nX-Eureka-Accept: "
+    ++ form_name f ++ codes "\r\n\r\n"
 
 -- its reader and its writer, how often it has failed, and whether nothing more is fetched
 abbrev pub reader_of : {R W : Type 0} → HttpFetch R W → Reader R
@@ -65,21 +66,27 @@ Fails remaining failed old fault new =
     ⊎ (((fault ≡ WriteFailed) × Raises (failed (sink_of (writer_of old))) (failed (sink_of (writer_of new))))
     ⊎ (IsTrue (is_of_reply fault) × IfSome (stream.ahead remaining (reader_of old)) (ReplyRefused (stream.reader_limits (reader_of old)) fault)))))
 
--- a failed read raised the count of the source, or found it at its end, and what had come holds no whole reply, but for one that goes on to the end of the input
+-- a failed read raised the count of the source, or found it at its end, and what had come holds no whole reply, but for one that goes on to the end
+-- of the input
 abbrev pub BreaksOff : {R W : Type 0} → (R → Option (List ℕ)) → (R → ℕ) → HttpFetch R W → Fault → HttpFetch R W → Type 0
 BreaksOff remaining failed old fault new =
     fault ≡ ReadFailed → Raises (failed (stream.source_of (reader_of old))) (failed (stream.source_of (reader_of new)))
-    × IfSome (stream.ahead remaining (reader_of old)) (λ bytes. stream.Came (HasNoReply (stream.reader_limits (reader_of old))) bytes (remaining (stream.source_of (reader_of new))))
+    × IfSome (stream.ahead remaining (reader_of old)) (λ bytes.
+    stream.Came (HasNoReply (stream.reader_limits (reader_of old))) bytes (remaining (stream.source_of (reader_of new))))
 
 -- the request was written and the reply taken, on a connection that isn't spent
-pub record Fetches {R W : Type 0} (remaining : R → Option (List ℕ)) (contents : W → Option (List ℕ)) (old : HttpFetch R W) (k : DocKey) (x : Fetched) (new : HttpFetch R W) : Type 0 where
+pub record Fetches {R W : Type 0} (remaining : R → Option (List ℕ)) (contents : W → Option (List ℕ)) (old : HttpFetch R W) (k : DocKey)
+    (x : Fetched) (new : HttpFetch R W) : Type 0 where
   pub unspent : is_fetch_spent old ≡ false
   pub asked : Appends (contents (sink_of (writer_of old))) (contents (sink_of (writer_of new))) (request_text (is_delta k.query) k.form)
-  pub reply : IfSome (stream.ahead remaining (reader_of old)) (λ bytes. IsFetchedReply (stream.reader_limits (reader_of old)) x bytes (stream.ahead remaining (reader_of new)) (is_fetch_spent new))
+  pub reply : IfSome (stream.ahead remaining (reader_of old)) (λ bytes.
+      IsFetchedReply (stream.reader_limits (reader_of old)) x bytes (stream.ahead remaining (reader_of new)) (is_fetch_spent new))
   pub limits : stream.reader_limits (reader_of new) ≡ stream.reader_limits (reader_of old)
   pub count : failures_of new ≡ failures_of old
 
 -- what a fetch comes to; one that fails spends the connection
-abbrev pub FetchesBy : {R W : Type 0} → (R → Option (List ℕ)) → (R → ℕ) → (W → Option (List ℕ)) → (W → ℕ) → HttpFetch R W → DocKey → Result Fetched Fault → HttpFetch R W → Type 0
+abbrev pub FetchesBy : {R W : Type 0} → (R → Option (List ℕ)) → (R → ℕ) → (W → Option (List ℕ)) → (W → ℕ) → HttpFetch R W → DocKey → Result Fetched Fault
+    → HttpFetch R W → Type 0
 FetchesBy remaining read_failed contents write_failed old k (Ok x) new = Fetches remaining contents old k x new
-FetchesBy remaining read_failed contents write_failed old k (Err e) new = (is_fetch_spent new ≡ true) × Fails remaining write_failed old e new × BreaksOff remaining read_failed old e new
+FetchesBy remaining read_failed contents write_failed old k (Err e) new = (is_fetch_spent new ≡ true) × Fails remaining write_failed old e new
+    × BreaksOff remaining read_failed old e new

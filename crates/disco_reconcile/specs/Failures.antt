@@ -12,7 +12,8 @@ IsFailure (Ok x) = ⊥
 IsFailure (Err e) = e ≢ OutOfMemory
 
 -- the fetcher may answer so, and counts its failures
-pub record Gave {S : Type 0} (gives : S → DocKey → Result Fetched Fault → S → Type 0) (failed : S → ℕ) (old : S) (k : DocKey) (answer : Result Fetched Fault) (new : S) : Type 0 where
+pub record Gave {S : Type 0} (gives : S → DocKey → Result Fetched Fault → S → Type 0) (failed : S → ℕ) (old : S) (k : DocKey)
+    (answer : Result Fetched Fault) (new : S) : Type 0 where
   pub given : gives old k answer new
   pub count : failed old ≤ failed new
   pub cause : IsFailure answer → Raises (failed old) (failed new)

@@ -17,6 +17,8 @@ GoOn hs later = (run : ℕ) → (more : List Entry) × (later run ≡ hs run ++ 
 abbrev pub GrowthLaw : Type 0
 GrowthLaw = (hs later : Histories) (f : Form) (held : Option CertifiedCopy) → GoOn hs later → IsExact hs f held → IsExact later f held
 
--- what a server serves of now, all apps or the delta, means what its certificate says while the history of its run goes on: what `IsExact` asks of documents is what a server promises of them
+-- what a server serves of now, all apps or the delta, means what its certificate says while the history of its run goes on: what `IsExact` asks of
+-- documents is what a server promises of them
 abbrev pub ServedLaw : Type 0
-ServedLaw = (hs : Histories) (run : ℕ) (d : Payload) (h more : List Entry) → IsTrue run d h → (kind d.key.query).kept ≡ false → hs run ≡ h ++ more → MeansAt hs d.key.query d.key.form (cert_of d) d.text
+ServedLaw = (hs : Histories) (run : ℕ) (d : Payload) (h more : List Entry) → IsTrue run d h → (kind d.key.query).kept ≡ false → hs run ≡ h ++ more
+    → MeansAt hs d.key.query d.key.form (cert_of d) d.text

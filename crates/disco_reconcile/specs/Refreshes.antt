@@ -44,7 +44,8 @@ HasFailed [] = ⊥
 HasFailed (x ∷ xs) = IsFailure x.answer ⊎ HasFailed xs
 
 -- some fetches were made, one after another; they came to this; and where the documents mean what they have to, the copy is known
-pub record Refreshes {S : Type 0} (gives : S → DocKey → Result Fetched Fault → S → Type 0) (failed : S → ℕ) (old : ClientState S) (result : Result Refreshed Fault) (new : ClientState S) : Type 0 where
+pub record Refreshes {S : Type 0} (gives : S → DocKey → Result Fetched Fault → S → Type 0) (failed : S → ℕ) (old : ClientState S)
+    (result : Result Refreshed Fault) (new : ClientState S) : Type 0 where
   pub form : new.form ≡ old.form
   pub log : List Exchange
   pub fetched : AreFetched (Gave gives failed) old.form old.fetcher log new.fetcher

@@ -21,19 +21,22 @@ abbrev pub told_document : Document → ToldDocument
 told_document d = record { meaning = wire_meaning d.wire; cert = d.cert }
 
 -- a document was asked for, and this is what the answer tells
-pub record IsAsked {S : Type 0} (gives : S → DocKey → Result Fetched Fault → S → Type 0) (q : Query) (f : Form) (old : S) (result : Result (Option Document) Fault) (new : S) : Type 0 where
+pub record IsAsked {S : Type 0} (gives : S → DocKey → Result Fetched Fault → S → Type 0) (q : Query) (f : Form) (old : S)
+    (result : Result (Option Document) Fault) (new : S) : Type 0 where
   pub answer : Result Fetched Fault
   pub given : gives old (doc_key_of q f) answer new
   pub told : Gives (option_map told_document) result (told_in_answer (is_delta q) answer)
 
 -- the fetches were made, and came to this
-pub record GoesThrough {S K : Type 0} (gives : S → DocKey → Result Fetched Fault → S → Type 0) (delta : OfDelta K) (full : OfFull K) (f : Form) (before : S) (held : Option K) (result : Result Refreshed Fault) (after : S) (kept : Option K) : Type 0 where
+pub record GoesThrough {S K : Type 0} (gives : S → DocKey → Result Fetched Fault → S → Type 0) (delta : OfDelta K) (full : OfFull K) (f : Form)
+    (before : S) (held : Option K) (result : Result Refreshed Fault) (after : S) (kept : Option K) : Type 0 where
   pub log : List Exchange
   pub fetched : AreFetched gives f before log after
   pub course : IsCourse delta full held log (outcome_of result kept)
 
 -- all apps were fetched
-pub record TakesFull {S K : Type 0} (gives : S → DocKey → Result Fetched Fault → S → Type 0) (full : OfFull K) (f : Form) (done : Refreshed) (before : S) (held : Option K) (result : Result Refreshed Fault) (after : S) (kept : Option K) : Type 0 where
+pub record TakesFull {S K : Type 0} (gives : S → DocKey → Result Fetched Fault → S → Type 0) (full : OfFull K) (f : Form) (done : Refreshed)
+    (before : S) (held : Option K) (result : Result Refreshed Fault) (after : S) (kept : Option K) : Type 0 where
   pub answer : Result Fetched Fault
   pub told : FetchAnswer
   pub fetched : IsFetched gives f before (exchange query.Apps answer told) after
@@ -51,7 +54,8 @@ StepTo delta k (Ok None) result l = (result ≡ Ok (Some Full)) × (l ≡ k)
 StepTo delta k (Ok (Some m)) result l = (result ≡ Ok (following ((delta k m).0))) × (l ≡ (delta k m).1)
 
 -- the delta was fetched
-pub record IsStep {S K : Type 0} (gives : S → DocKey → Result Fetched Fault → S → Type 0) (delta : OfDelta K) (f : Form) (before : S) (held : K) (result : Result (Option Refreshed) Fault) (after : S) (kept : K) : Type 0 where
+pub record IsStep {S K : Type 0} (gives : S → DocKey → Result Fetched Fault → S → Type 0) (delta : OfDelta K) (f : Form) (before : S) (held : K)
+    (result : Result (Option Refreshed) Fault) (after : S) (kept : K) : Type 0 where
   pub answer : Result Fetched Fault
   pub told : FetchAnswer
   pub fetched : IsFetched gives f before (exchange query.Delta answer told) after

@@ -52,7 +52,8 @@ Means hs (Some k) (Some s) = IsVersionIn (hs k.run) k s
 
 -- wherever the copy was known before, it is what it is known as after, where the documents mean what they have to
 abbrev pub FollowsTracks : Form → Option CopyRows → List Exchange → Option CopyRows → Type 0
-FollowsTracks f held log kept = (hs : Histories) (at : Option Known) (names : Query → Cert) → AreGood hs f names log → Means hs at held → Means hs (tracked f names at log) kept
+FollowsTracks f held log kept = (hs : Histories) (at : Option Known) (names : Query → Cert) → AreGood hs f names log → Means hs at held
+    → Means hs (tracked f names at log) kept
 
 -- ---- certified clients (this project's own rule)
 

@@ -72,9 +72,11 @@ impl<R: Source, W: Sink> HttpFetch<R, W> {
         ensures failures { self.new.failures ≡ self.old.failures }
         ensures limits { reader_limits self.new.reader ≡ reader_limits self.old.reader }
         ensures fresh { OnOk result (self.old.spent ≡ false) }
-        ensures asked { OnOk result (Appends (W.contents (sink_of self.old.writer)) (W.contents (sink_of self.new.writer)) (request_text (is_delta key.now.query) key.now.form)) }
+        ensures asked { OnOk result (Appends (W.contents (sink_of self.old.writer)) (W.contents (sink_of self.new.writer))
+            (request_text (is_delta key.now.query) key.now.form)) }
         ensures reply { IfOk result (λ reply. IfSome (ahead R.remaining self.old.reader) (λ stream.
-            (rest : List ℕ) × TakesReply (reader_limits self.old.reader) stream reply.head reply.body.items rest × (ahead R.remaining self.new.reader ≡ Some rest))) }
+            (rest : List ℕ) × TakesReply (reader_limits self.old.reader) stream reply.head reply.body.items rest
+            × (ahead R.remaining self.new.reader ≡ Some rest))) }
         ensures why { IfErr result (λ fault. Fails R.remaining W.failed self.old fault self.new) }
         ensures reads { IfErr result (λ fault. BreaksOff R.remaining R.failed self.old fault self.new) }
     {

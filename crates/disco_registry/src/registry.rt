@@ -1,5 +1,6 @@
 //! The registry.
-ghost use Rattle.std.specs.Prelude.{◌≡◌, ◌<◌, ◌^◌, ◌&&◌, not, nat_lt, List, [], map, IfOk, IfErr, IfSome, IsTrue, None, Some, Ok, OnOk, false, filter, option_map, true};
+ghost use Rattle.std.specs.Prelude.{◌≡◌, ◌<◌, ◌^◌, ◌&&◌, not, nat_lt, List, [], map, IfOk, IfErr, IfSome, IsTrue, None, Some, Ok, OnOk, false};
+ghost use Rattle.std.specs.Prelude.{filter, option_map, true};
 ghost use Rattle.std.specs.FinMap.{get, len, values};
 ghost use Rattle.std.specs.List.{filter_map, find};
 ghost use Rattle.disco_instance.specs.Instance.{Gives};

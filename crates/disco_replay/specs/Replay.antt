@@ -20,7 +20,8 @@ NamesBadEvent settings known fault = (events : List Event) × AreRead known even
 -- why events may get no answers, or not all: want of memory, a failed read or write, of which there has to be a sign, or an input that can't be run
 abbrev pub IsRunFault : Settings → Option (List ℕ) → Type 0 → Type 0 → Fault → Type 0
 IsRunFault settings known reads writes fault =
-    (fault ≡ OutOfMemory) ⊎ (((fault ≡ ReadFailed) × reads) ⊎ (((fault ≡ WriteFailed) × writes) ⊎ (NamesBadLine known fault ⊎ NamesBadEvent settings known fault)))
+    (fault ≡ OutOfMemory) ⊎ (((fault ≡ ReadFailed) × reads) ⊎ (((fault ≡ WriteFailed) × writes)
+    ⊎ (NamesBadLine known fault ⊎ NamesBadEvent settings known fault)))
 
 -- each event of the whole input is answered, and the answer lines are written
 pub record IsInputAnswered (settings : Settings) (known old new : Option (List ℕ)) : Type 0 where
@@ -34,8 +35,10 @@ IsReplayed words known old new = (settings : Settings) × NamedBy Replay words 0
 
 -- why a run of these words fails: want of memory, or what the run with their settings fails for
 abbrev pub IsFaultOf : List Text → Option (List ℕ) → Type 0 → Type 0 → Fault → Type 0
-IsFaultOf words known reads writes fault = (fault ≡ OutOfMemory) ⊎ ((settings : Settings) × NamedBy Replay words 0 settings × IsRunFault settings known reads writes fault)
+IsFaultOf words known reads writes fault = (fault ≡ OutOfMemory)
+    ⊎ ((settings : Settings) × NamedBy Replay words 0 settings × IsRunFault settings known reads writes fault)
 
 -- the run failed for a fault that was told, and nothing was answered, but where a write failed or memory was wanting
 abbrev pub IsFailed : {W : Type 0} → List Text → Option (List ℕ) → Type 0 → Type 0 → (Fault → Type 0) → W → W → Type 0
-IsFailed words known reads writes told old new = (fault : Fault) × IsFaultOf words known reads writes fault × told fault × (fault ≢ OutOfMemory → fault ≢ WriteFailed → new ≡ old)
+IsFailed words known reads writes told old new = (fault : Fault) × IsFaultOf words known reads writes fault × told fault
+    × (fault ≢ OutOfMemory → fault ≢ WriteFailed → new ≡ old)

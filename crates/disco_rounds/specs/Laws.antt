@@ -8,7 +8,8 @@ use Rattle.disco_rounds.specs.Rounds.{KeySet, Round, kept_keys, round_keys}
 
 -- a change leaves all in step
 abbrev pub ChangedLaw : Type 0
-ChangedLaw = (published pending : List Note) (edition : KeySet) (round : Option Round) (c : Entry) → IsInStep published pending edition round → IsInStep published (pending ++ change c ∷ []) edition round
+ChangedLaw = (published pending : List Note) (edition : KeySet) (round : Option Round) (c : Entry) → IsInStep published pending edition round
+    → IsInStep published (pending ++ change c ∷ []) edition round
 
 -- and so does the beginning of a round, of the keys that a round has
 abbrev pub BegunLaw : Type 0
@@ -17,13 +18,17 @@ BegunLaw = (published pending : List Note) (edition : KeySet) (kept : Docs) → 
 
 -- and so does a copy of the first key that is left
 abbrev pub CopiedLaw : Type 0
-CopiedLaw = (published pending : List Note) (edition : KeySet) (done : List (DocKey × Bool)) (k : DocKey) (kept : Bool) (left : List DocKey) (n : Note) → step n ≡ Some (k, kept) ∷ []
-    → IsInStep published pending edition (Some (record { done = done; left = k ∷ left })) → IsInStep published (pending ++ n ∷ []) edition (Some (record { done = done ++ (k, kept) ∷ []; left = left }))
+CopiedLaw = (published pending : List Note) (edition : KeySet) (done : List (DocKey × Bool)) (k : DocKey) (kept : Bool) (left : List DocKey) (n : Note)
+    → step n ≡ Some (k, kept) ∷ []
+    → IsInStep published pending edition (Some (record { done = done; left = k ∷ left }))
+    → IsInStep published (pending ++ n ∷ []) edition (Some (record { done = done ++ (k, kept) ∷ []; left = left }))
 
 -- with no key left all that was noted may be published
 abbrev pub PublishableLaw : Type 0
-PublishableLaw = (published pending : List Note) (edition : KeySet) (done : List (DocKey × Bool)) → IsInStep published pending edition (Some (record { done = done; left = [] })) → IsPublishable (published ++ pending)
+PublishableLaw = (published pending : List Note) (edition : KeySet) (done : List (DocKey × Bool))
+    → IsInStep published pending edition (Some (record { done = done; left = [] })) → IsPublishable (published ++ pending)
 
 -- and is in step then, with the keys that had a document
 abbrev pub ShownLaw : Type 0
-ShownLaw = (published pending : List Note) (edition : KeySet) (done : List (DocKey × Bool)) → IsInStep published pending edition (Some (record { done = done; left = [] })) → IsInStep (published ++ pending) [] (kept_keys done) None
+ShownLaw = (published pending : List Note) (edition : KeySet) (done : List (DocKey × Bool))
+    → IsInStep published pending edition (Some (record { done = done; left = [] })) → IsInStep (published ++ pending) [] (kept_keys done) None

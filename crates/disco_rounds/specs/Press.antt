@@ -105,7 +105,8 @@ pub record IsInStep (published pending : List Note) (edition : KeySet) (round : 
   pub steps : flat_map step pending ≡ steps_to round
   pub covers : IfSome round (λ r. (k : DocKey) → contains_key edition k ≡ true → is_in r k ≡ true)
 
--- what was noted in a run is legal and has these changes, what was published may be seen by readers, and all is in step with the keys of an edition and with a round
+-- what was noted in a run is legal and has these changes, what was published may be seen by readers, and all is in step with the keys of an edition
+-- and with a round
 pub record IsPressed (run : ℕ) (published pending : List Note) (h : List Entry) (edition : KeySet) (round : Option Round) : Type 0 where
   pub changes : changes_in (published ++ pending) ≡ h
   pub legal : IsLegal run (published ++ pending)

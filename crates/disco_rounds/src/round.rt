@@ -53,7 +53,8 @@ impl Model for Round {
 
     ghost view = { λ r. record { done = key_pairs r.done.items; left = r.left.items } };
 
-    ghost invariant = { λ r. (vec_len r.done + length r.left.items ≤ vec_capacity r.done) × (r.kept ≤ vec_len r.done) × (r.kept ≡ len (kept_keys (key_pairs r.done.items))) × AreNew (kept_keys (key_pairs r.done.items)) r.left.items };
+    ghost invariant = { λ r. (vec_len r.done + length r.left.items ≤ vec_capacity r.done) × (r.kept ≤ vec_len r.done)
+        × (r.kept ≡ len (kept_keys (key_pairs r.done.items))) × AreNew (kept_keys (key_pairs r.done.items)) r.left.items };
 }
 
 fn copies(alloc: Global, keys: &[&DocKey]) -> Result<VecDeque<DocKey>, AllocError>

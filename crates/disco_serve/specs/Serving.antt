@@ -6,7 +6,8 @@ use Rattle.disco_options.specs.Options.{AreGiven, AreMatches, number_given, port
 use Rattle.disco_options.specs.declared.subcommand.Subcommand.TheVariants.{Serve}
 use Rattle.disco_serve.specs.declared.service.Service.{Service}
 
--- the settings, of which the run is this one where none is given, the port, the workers (4 where none are given) and the connections (0, which is no end) are those given
+-- the settings, of which the run is this one where none is given, the port, the workers (4 where none are given) and the connections (0, which is no
+-- end) are those given
 pub record IsServicePlan (run : ℕ) (rows : List Row) (s : Service) : Type 0 where
   pub settings : AreGiven run rows s.settings
   pub port : s.port ≡ port_in rows

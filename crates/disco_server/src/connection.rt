@@ -28,7 +28,8 @@ pub fn serve_hub<R: Source, W: Sink, C: Clock>(
     // a moment of the clock, over what has happened before it. After a failed read these are the whole
     // requests that had come; at a failed write the last of them was answered in part.
     ensures answers { IfSome (ahead R.remaining reader.old) (λ stream.
-        AnswersAll (Serves C.ticks) (reader_limits reader.old) stream (left_by R.remaining reader.new) service.old service.new (W.contents (sink_of writer.old)) (W.contents (sink_of writer.new)) result) }
+        AnswersAll (Serves C.ticks) (reader_limits reader.old) stream (left_by R.remaining reader.new) service.old service.new
+        (W.contents (sink_of writer.old)) (W.contents (sink_of writer.new)) result) }
     // A connection ends by a failed read or write only where the count of failures rose.
     ensures read_cause { result.end ≡ end.Fault ReadFailed → Raises (R.failed (source_of reader.old)) (R.failed (source_of reader.new)) }
     ensures write_cause { result.end ≡ end.Fault WriteFailed → Raises (W.failed (sink_of writer.old)) (W.failed (sink_of writer.new)) }

@@ -18,7 +18,8 @@ fn read_more<R: Source>(
     bytes: &mut Vec<u8>,
 ) -> Result<bool, Fault>
     requires { 0 < length piece.old }
-    ensures more { OnOk result ((came : List ℕ) × (bytes.new.items ≡ bytes.old.items ++ came) × Consumes (R.remaining source.old) (R.remaining source.new) came) }
+    ensures more { OnOk result ((came : List ℕ) × (bytes.new.items ≡ bytes.old.items ++ came)
+        × Consumes (R.remaining source.old) (R.remaining source.new) came) }
     ensures grown { IfOk result (λ some. IsTrue some → vec_len bytes.old < vec_len bytes.new) }
     ensures bound { vec_len bytes.new < 2 ^ 64 }
     ensures length { length piece.new ≡ length piece.old }

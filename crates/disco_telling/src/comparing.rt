@@ -38,7 +38,8 @@ fn same_spans(one: Lease, other: Lease) -> bool
 }
 
 fn same_moments(one: Lease, other: Lease) -> bool
-    ensures { IsTrue result ↔ ((one.eviction ≡ other.eviction) × (one.last_renewal ≡ other.last_renewal) × (one.registration ≡ other.registration) × (one.service_up ≡ other.service_up)) }
+    ensures { IsTrue result ↔ ((one.eviction ≡ other.eviction) × (one.last_renewal ≡ other.last_renewal) × (one.registration ≡ other.registration)
+        × (one.service_up ≡ other.service_up)) }
 {
     one.eviction == other.eviction
         && one.last_renewal == other.last_renewal
@@ -74,7 +75,8 @@ fn same_entries(ones: &Entries, others: &Entries) -> bool
 }
 
 fn same_pages(one: &Record, other: &Record) -> bool
-    ensures { IsTrue result ↔ ((one.now.health_check_url ≡ other.now.health_check_url) × (one.now.home_page_url ≡ other.now.home_page_url) × (one.now.status_page_url ≡ other.now.status_page_url)) }
+    ensures { IsTrue result ↔ ((one.now.health_check_url ≡ other.now.health_check_url) × (one.now.home_page_url ≡ other.now.home_page_url)
+        × (one.now.status_page_url ≡ other.now.status_page_url)) }
 {
     same_texts(&one.health_check_url, &other.health_check_url)
         && same_texts(&one.home_page_url, &other.home_page_url)
@@ -82,7 +84,8 @@ fn same_pages(one: &Record, other: &Record) -> bool
 }
 
 fn same_addresses(one: &Record, other: &Record) -> bool
-    ensures { IsTrue result ↔ ((one.now.host_name ≡ other.now.host_name) × (one.now.ip_addr ≡ other.now.ip_addr) × (one.now.vip_address ≡ other.now.vip_address) × (one.now.secure_vip_address ≡ other.now.secure_vip_address)) }
+    ensures { IsTrue result ↔ ((one.now.host_name ≡ other.now.host_name) × (one.now.ip_addr ≡ other.now.ip_addr)
+        × (one.now.vip_address ≡ other.now.vip_address) × (one.now.secure_vip_address ≡ other.now.secure_vip_address)) }
 {
     same_texts(&one.host_name, &other.host_name)
         && same_texts(&one.ip_addr, &other.ip_addr)
@@ -91,7 +94,8 @@ fn same_addresses(one: &Record, other: &Record) -> bool
 }
 
 fn same_numbers(one: &Record, other: &Record) -> bool
-    ensures { IsTrue result ↔ ((one.now.country_id ≡ other.now.country_id) × (one.now.is_coordinating ≡ other.now.is_coordinating) × (one.now.last_dirty ≡ other.now.last_dirty) × (one.now.last_updated ≡ other.now.last_updated)) }
+    ensures { IsTrue result ↔ ((one.now.country_id ≡ other.now.country_id) × (one.now.is_coordinating ≡ other.now.is_coordinating)
+        × (one.now.last_dirty ≡ other.now.last_dirty) × (one.now.last_updated ≡ other.now.last_updated)) }
 {
     one.country_id == other.country_id
         && one.is_coordinating == other.is_coordinating
@@ -106,7 +110,8 @@ fn same_statuses(one: &Record, other: &Record) -> bool
 }
 
 fn same_places(one: &Record, other: &Record) -> bool
-    ensures { IsTrue result ↔ ((one.now.key ≡ other.now.key) × (one.now.data_center ≡ other.now.data_center) × (one.now.port ≡ other.now.port) × (one.now.secure_port ≡ other.now.secure_port)) }
+    ensures { IsTrue result ↔ ((one.now.key ≡ other.now.key) × (one.now.data_center ≡ other.now.data_center) × (one.now.port ≡ other.now.port)
+        × (one.now.secure_port ≡ other.now.secure_port)) }
 {
     same_keys(&one.key, &other.key)
         && same_data_centers(&one.data_center, &other.data_center)

@@ -30,7 +30,8 @@ fn turn<F: Fetch, W: Sink>(
     told: Told,
     out: &mut W,
 ) -> Result<Told, Fault>
-    ensures turn { IfOk result (λ now. (text : List ℕ) × IsTurn F.gives F.failed vip.now client.old told text client.new now × Appends (W.contents out.old) (W.contents out.new) text) }
+    ensures turn { IfOk result (λ now. (text : List ℕ) × IsTurn F.gives F.failed vip.now client.old told text client.new now
+        × Appends (W.contents out.old) (W.contents out.new) text) }
     ensures fault { IfErr result (λ e. (e ≡ OutOfMemory) ⊎ (e ≡ WriteFailed)) }
     ensures cause { Cause WriteFailed (W.failed out.old) (W.failed out.new) result }
     ensures none_failed { OnOk result (W.failed out.new ≡ W.failed out.old) }

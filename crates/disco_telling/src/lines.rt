@@ -37,7 +37,8 @@ fn write_all_reached<W: Write>(recs: &[&Record], out: &mut W) -> io::Result<()>
 
 /// The line of a vip under which these instances are up.
 fn write_vip<W: Write>(vip: &Text, up: &[&Record], out: &mut W) -> io::Result<()>
-    ensures { OnOk result (Appends (W.contents out.old) (W.contents out.new) (codes "vip " ++ vip.now ++ flat_map reached_at (map (λ r. row r.now) up.now) ++ codes "\n")) }
+    ensures { OnOk result (Appends (W.contents out.old) (W.contents out.new)
+        (codes "vip " ++ vip.now ++ flat_map reached_at (map (λ r. row r.now) up.now) ++ codes "\n")) }
 {
     let name = vip.as_str();
     write!(out, "vip {name}")?;

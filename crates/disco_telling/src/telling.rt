@@ -25,7 +25,8 @@ fn write_lines<W: Write>(
     up: &[u8],
     out: &mut W,
 ) -> io::Result<()>
-    ensures { OnOk result (Appends (W.contents out.old) (W.contents out.new) ((if is_news told.now changes.now then copy_line at.0 at.1 changes.now else []) ++ unless_told told.now.up up.now)) }
+    ensures { OnOk result (Appends (W.contents out.old) (W.contents out.new)
+        ((if is_news told.now changes.now then copy_line at.0 at.1 changes.now else []) ++ unless_told told.now.up up.now)) }
 {
     let (run, version) = at;
     write_copy(told.is_news(changes), run, version, changes, out)?;
@@ -53,7 +54,8 @@ fn lines_of(
     changes: &[u8],
     up: &[u8],
 ) -> Result<Vec<u8>, Fault>
-    ensures lines { IfOk result (λ v. v.items ≡ (if is_news told.now changes.now then copy_line at.0 at.1 changes.now else []) ++ unless_told told.now.up up.now) }
+    ensures lines { IfOk result (λ v. v.items ≡ (if is_news told.now changes.now then copy_line at.0 at.1 changes.now else [])
+        ++ unless_told told.now.up up.now) }
     ensures memory { IfErr result (λ e. e ≡ OutOfMemory) }
 {
     let mut text = Vec::new(alloc);
@@ -71,7 +73,8 @@ fn tell_copy<W: Sink>(
     copy: &Copy,
     out: &mut W,
 ) -> Result<Told, Fault>
-    ensures told { IfOk result (λ now. (text : List ℕ) × IsToldCopy vip.now told at.0 at.1 copy.now text now × Appends (W.contents out.old) (W.contents out.new) text) }
+    ensures told { IfOk result (λ now. (text : List ℕ) × IsToldCopy vip.now told at.0 at.1 copy.now text now
+        × Appends (W.contents out.old) (W.contents out.new) text) }
     ensures fault { IfErr result (λ e. (e ≡ OutOfMemory) ⊎ (e ≡ WriteFailed)) }
     ensures cause { Cause WriteFailed (W.failed out.old) (W.failed out.new) result }
     ensures none_failed { OnOk result (W.failed out.new ≡ W.failed out.old) }
@@ -125,7 +128,8 @@ pub(crate) fn tell<F: Fetch, W: Sink>(
     told: Told,
     out: &mut W,
 ) -> Result<Told, Fault>
-    ensures told { IfOk result (λ now. (text : List ℕ) × IsTold vip.now told came (known_in client.now.kept) (copy_of client.now.kept) text now × Appends (W.contents out.old) (W.contents out.new) text) }
+    ensures told { IfOk result (λ now. (text : List ℕ) × IsTold vip.now told came (known_in client.now.kept) (copy_of client.now.kept) text now
+        × Appends (W.contents out.old) (W.contents out.new) text) }
     ensures fault { IfErr result (λ e. (e ≡ OutOfMemory) ⊎ (e ≡ WriteFailed)) }
     ensures cause { Cause WriteFailed (W.failed out.old) (W.failed out.new) result }
     ensures none_failed { OnOk result (W.failed out.new ≡ W.failed out.old) }

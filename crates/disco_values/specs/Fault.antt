@@ -3,7 +3,10 @@ use Rattle.std.specs.Prelude.{ℕ, List, codes}
 use Rattle.disco_values.specs.declared.fault.Field.{Field}
 use Rattle.disco_values.specs.declared.fault.Field.TheVariants.{InstanceId, HostName, IpAddr, App, DataCenterInfo}
 use Rattle.disco_values.specs.declared.fault.Fault.{Fault}
-use Rattle.disco_values.specs.declared.fault.Fault.TheVariants.{OutOfMemory, BadJson, MissingField, MismatchedApp, NotFound, BadStatus, VersionsSpent, TooManyInstances, DeltaDisabled, NotAcceptable, HeadTooLarge, BodyTooLarge, BadRequest, BadMethod, UnsupportedCoding, RoundOpen, NoRound, KeysLeft, BadDocument, ReadFailed, WriteFailed, NotFetched, BadEvent, RunNotNew}
+use Rattle.disco_values.specs.declared.fault.Fault.TheVariants.{OutOfMemory, BadJson, MissingField, MismatchedApp, NotFound, BadStatus, VersionsSpent}
+use Rattle.disco_values.specs.declared.fault.Fault.TheVariants.{TooManyInstances, DeltaDisabled, NotAcceptable, HeadTooLarge, BodyTooLarge}
+use Rattle.disco_values.specs.declared.fault.Fault.TheVariants.{BadRequest, BadMethod, UnsupportedCoding, RoundOpen, NoRound, KeysLeft, BadDocument}
+use Rattle.disco_values.specs.declared.fault.Fault.TheVariants.{ReadFailed, WriteFailed, NotFetched, BadEvent, RunNotNew}
 
 -- the name of a member, as Eureka writes it
 abbrev pub field_name : Field → List ℕ

@@ -166,7 +166,8 @@ fn push_instances(
     within: Option<&str>,
     values: &[Value],
 ) -> Result<(), Fault>
-    ensures { Gives (λ _. tell_all out.new.items) result (told_on (tell_all out.old.items) (all_told (told_in (option_copied within.entry)) (map view values.now))) }
+    ensures { Gives (λ _. tell_all out.new.items) result (told_on (tell_all out.old.items)
+        (all_told (told_in (option_copied within.entry)) (map view values.now))) }
 {
     for value in values {
         push_instance(alloc, out, within, value)?;

@@ -21,13 +21,16 @@ use Rattle.disco_client.specs.declared.certified.CertifiedCopy.{CertifiedCopy}
 use Rattle.disco_world.specs.Certified.{IsGiven, given}
 use Rattle.disco_world.specs.Clients.{IsTakenReply, MeansVersion, summaries, client_after}
 use Rattle.disco_world.specs.declared.clients.Client.{Client}
-use Rattle.disco_world.specs.Events.{Effect, writes, loads, cleans, closes, expires, begins, copies, publishes, looks, takes, certifies, shows, shows_certified, restarts, bad, World, effect, done, history_of, world}
+use Rattle.disco_world.specs.Events.{Effect, writes, loads, cleans, closes, expires, begins, copies, publishes, looks, takes, certifies, shows}
+use Rattle.disco_world.specs.Events.{shows_certified, restarts, bad, World, effect, done, history_of, world}
 use Rattle.disco_world.specs.Rounds.{Press, all_of, left_in, seen_at, unfinished}
 use Rattle.disco_world.specs.declared.event.Event.{Event}
 use Rattle.disco_world.specs.declared.event.Reply.{Reply}
-use Rattle.disco_world.specs.declared.event.Reply.TheVariants.{Changed, Same, Doc, Cleaned, Closed, Expired, Begun, Copied, Done, Published, Missed, Taken, Certified, Held, Restarted, Refused}
+use Rattle.disco_world.specs.declared.event.Reply.TheVariants.{Changed, Same, Doc, Cleaned, Closed, Expired, Begun, Copied, Done, Published, Missed}
+use Rattle.disco_world.specs.declared.event.Reply.TheVariants.{Taken, Certified, Held, Restarted, Refused}
 
--- what a deed may answer after what has happened; a refused growth may be answered in place of anything but a cleaning, the closing of a minute, a publish and a restart, and stops a run that cancels instances, and nothing is answered to what can't be run
+-- what a deed may answer after what has happened; a refused growth may be answered in place of anything but a cleaning, the closing of a minute, a
+-- publish and a restart, and stops a run that cancels instances, and nothing is answered to what can't be run
 abbrev pub IsAnswer : Rules → World → Effect → Reply → Type 0
 IsAnswer rules w (writes now ask) (Changed v) = (c : Entry) × (done rules w.past now ask ≡ Ok (Some c)) × (v ≡ length (history w.past) + 1)
 IsAnswer rules w (writes now ask) Same = done rules w.past now ask ≡ Ok None
@@ -74,7 +77,8 @@ abbrev pub is_load : Effect → Bool
 is_load (loads asked) = true
 is_load _ = false
 
--- a document that is answered to an event may be served after the first so many events: a load's after all up to it, and a look's no earlier than the last published round began, or than the run did where it published none
+-- a document that is answered to an event may be served after the first so many events: a load's after all up to it, and a look's no earlier than the
+-- last published round began, or than the run did where it published none
 pub record IsServed (rules : Rules) (run : ℕ) (events : List Event) (replies : List Reply) (i : ℕ) (what : Effect) (d : Payload) : Type 0 where
   pub after : ℕ
   pub floor : (world rules run events replies (i + 1)).press.floor ≤ after
@@ -95,16 +99,19 @@ pub record IsPressState (run : ℕ) (s : Press) (h : List Entry) (edition : KeyS
 
 -- each client's copy that is known at a version of a run is exactly that version of the run's history, after any number of events
 abbrev pub AreKnown : Rules → ℕ → List Event → List Reply → Type 0
-AreKnown rules run events replies = (i : ℕ) (client : ℕ) (c : Client) → let w = world rules run events replies i in w.clients client ≡ Some c → MeansVersion (history_of w) c
+AreKnown rules run events replies = (i : ℕ) (client : ℕ) (c : Client) → let w = world rules run events replies i in w.clients client ≡ Some c
+    → MeansVersion (history_of w) c
 
 -- each certified client's copy is exactly the version that it shows of its run's history, in its form, after any number of events
 abbrev pub AreExact : Rules → ℕ → List Event → List Reply → Type 0
-AreExact rules run events replies = (i : ℕ) (client : ℕ) (k : CertifiedCopy) → let w = world rules run events replies i in w.certified client ≡ Some k → IsVersionIn (history_of w k.known.run) k.known k.copy
+AreExact rules run events replies = (i : ℕ) (client : ℕ) (k : CertifiedCopy) → let w = world rules run events replies i in w.certified client ≡ Some k
+    → IsVersionIn (history_of w k.known.run) k.known k.copy
 
 -- from one event to the next no certified client's copy goes, and while its run stays its version doesn't fall
 abbrev pub NeverFall : Rules → ℕ → List Event → List Reply → Type 0
 NeverFall rules run events replies = (i : ℕ) (client : ℕ) (k : CertifiedCopy) → (world rules run events replies i).certified client ≡ Some k
-    → (l : CertifiedCopy) × ((world rules run events replies (i + 1)).certified client ≡ Some l) × (l.known.run ≡ k.known.run → k.known.version ≤ l.known.version)
+    → (l : CertifiedCopy) × ((world rules run events replies (i + 1)).certified client ≡ Some l)
+    × (l.known.run ≡ k.known.run → k.known.version ≤ l.known.version)
 
 -- the fault names the first event that can't be run, by its number from 1: those before it are answered
 pub record IsFirstBadEvent (rules : Rules) (run : ℕ) (events : List Event) (fault : Fault) : Type 0 where

@@ -36,10 +36,14 @@ change_made (Err e) = None
 abbrev pub IsNext : Cache → copied.Copied → Type 0
 IsNext s c = IfSome s.rounds.round (λ r. IfSome (slice_get r.left 0) (λ k. (key_of_copy c ≡ k) × IsCopiedAsKept s.docs k c))
 
--- what a deed with that answer does to it: a change drops what it names, a load is answered as it is kept and keeps its document at most, a round begins with the keys that are due, each copy takes out the first that is left, a publish ends it, and after a restart nothing is kept and no round is open
+-- what a deed with that answer does to it: a change drops what it names, a load is answered as it is kept and keeps its document at most, a round
+-- begins with the keys that are due, each copy takes out the first that is left, a publish ends it, and after a restart nothing is kept and no round
+-- is open
 abbrev pub Caches : Rules → Past → Effect → Reply → Cache → Cache → Type 0
-Caches rules p (writes now asked) (Changed v) old new = Forgets (get (registry_of (history p))) (change_made (done rules p now asked)) old.docs new.docs × (new.rounds ≡ old.rounds)
-Caches rules p (loads asked) (Doc d) old new = IsAsKept old.docs d.value.key d.value × KeepsAtMost rules.delta d.value old.docs new.docs × (new.rounds ≡ old.rounds)
+Caches rules p (writes now asked) (Changed v) old new = Forgets (get (registry_of (history p))) (change_made (done rules p now asked)) old.docs new.docs
+    × (new.rounds ≡ old.rounds)
+Caches rules p (loads asked) (Doc d) old new = IsAsKept old.docs d.value.key d.value × KeepsAtMost rules.delta d.value old.docs new.docs
+    × (new.rounds ≡ old.rounds)
 Caches rules p (expires now) (Expired run) old new = ForgetsEach rules p now (taken_in p now) run.gone old.docs new.docs × (new.rounds ≡ old.rounds)
 Caches rules p begins (Begun n) old new = Begins (round_keys old.rounds.edition old.docs) n old.rounds new.rounds × (new.docs ≡ old.docs)
 Caches rules p copies (Copied c) old new = IsNext old c × Advances (is_doc c) old.rounds new.rounds × (new.docs ≡ old.docs)
@@ -47,10 +51,12 @@ Caches rules p publishes (Published n) old new = Ends n old.rounds new.rounds ×
 Caches rules p (restarts run) (Restarted r) old new = new ≡ new_cache old.docs.max
 Caches rules p _ _ old new = new ≡ old
 
--- what is kept and copied before each event and after the last one: nothing at first, then what each event leaves; and what was noted is in step with its rounds
+-- what is kept and copied before each event and after the last one: nothing at first, then what each event leaves; and what was noted is in step with
+-- its rounds
 pub record AreCached (most : ℕ) (rules : Rules) (run : ℕ) (events : List Event) (replies : List Reply) : Type 0 where
   pub caches : ℕ → Cache
   pub first : caches 0 ≡ new_cache most
   pub each : (i : ℕ) (event : Event) (reply : Reply) → slice_get events i ≡ Some event → slice_get replies i ≡ Some reply
       → let w = world rules run events replies i in Caches rules w.past (effect rules w event) reply (caches i) (caches (i + 1))
-  pub pressed : (i : ℕ) → i ≤ length replies → let w = world rules run events replies i in IsPressState w.past.run w.press (history w.past) (caches i).rounds.edition (caches i).rounds.round
+  pub pressed : (i : ℕ) → i ≤ length replies → let w = world rules run events replies i in
+      IsPressState w.past.run w.press (history w.past) (caches i).rounds.edition (caches i).rounds.round

@@ -1,5 +1,6 @@
 -- What events are for, and what has happened after them.
-use Rattle.std.specs.Prelude.{ℕ, zero, suc, ◌+◌, ◌==◌, List, [], ◌∷◌, ◌++◌, drop, length, map, Bool, true, false, if◌then◌else◌, Option, Some, None, Result, Ok, Err, slice_get}
+use Rattle.std.specs.Prelude.{ℕ, zero, suc, ◌+◌, ◌==◌, List, [], ◌∷◌, ◌++◌, drop, length, map, Bool, true, false, if◌then◌else◌, Option, Some, None}
+use Rattle.std.specs.Prelude.{Result, Ok, Err, slice_get}
 use Rattle.disco_instance.specs.Row.{Row}
 use Rattle.disco_values.specs.Text.{in_upper_case}
 use Rattle.disco_values.specs.declared.fault.Fault.{Fault}
@@ -30,11 +31,13 @@ use Rattle.disco_world.specs.Rounds.{Press, all_of, press_from}
 use Rattle.disco_world.specs.declared.clients.Client.{Client}
 use Rattle.disco_world.specs.declared.event.Event.{Event}
 use Rattle.disco_world.specs.declared.event.Event.TheVariants.{Step, Take, Certify}
-use Rattle.disco_world.specs.declared.event.Step.TheVariants.{Register, Cancel, Renew, SetStatus, DropStatus, Metadata, Load, LoadById, Clean, Minute, Expire, Begin, Copy, Publish, Look, LookById, Show, ShowCertified, Restart}
+use Rattle.disco_world.specs.declared.event.Step.TheVariants.{Register, Cancel, Renew, SetStatus, DropStatus, Metadata, Load, LoadById, Clean, Minute}
+use Rattle.disco_world.specs.declared.event.Step.TheVariants.{Expire, Begin, Copy, Publish, Look, LookById, Show, ShowCertified, Restart}
 use Rattle.disco_world.specs.declared.event.Reply.{Reply}
 use Rattle.disco_world.specs.declared.event.Reply.TheVariants.{Doc, Expired, Begun, Copied, Published, Restarted, Refused}
 
--- what has happened: to the registry in the run that is running, the histories of the runs that ended, what each event answered, the plain and the certified clients that have a copy, and what was noted for readers
+-- what has happened: to the registry in the run that is running, the histories of the runs that ended, what each event answered, the plain and the
+-- certified clients that have a copy, and what was noted for readers
 pub record World : Type 0 where
   pub past : Past
   pub ended : Histories
@@ -43,7 +46,10 @@ pub record World : Type 0 where
   pub certified : ℕ → Option CertifiedCopy
   pub press : Press
 
--- what an event is for: an operation at a moment in milliseconds, or why it is none; a document, or why it isn't served; a cleaning at a moment; the closing of a minute; a run at a moment that cancels instances whose leases ran out; the beginning of a round, a copy in it, and its publish; a look for a document, if readers can see one of its kind; a document for a client, and one for a certified client; a look at a client's copy, and at a certified client's; a restart of the server in a run; nothing that can be run
+-- what an event is for: an operation at a moment in milliseconds, or why it is none; a document, or why it isn't served; a cleaning at a moment; the
+-- closing of a minute; a run at a moment that cancels instances whose leases ran out; the beginning of a round, a copy in it, and its publish; a look
+-- for a document, if readers can see one of its kind; a document for a client, and one for a certified client; a look at a client's copy, and at a
+-- certified client's; a restart of the server in a run; nothing that can be run
 pub data Effect : Type 0 where
   writes : ℕ → Result Ask Fault → Effect
   loads : Result DocKey Fault → Effect

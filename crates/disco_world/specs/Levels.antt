@@ -28,12 +28,14 @@ pub record AreLevelsOf (s : CacheLevels) (w : World) : Type 0 where
 
 -- they answer a deed, and are then those of what has happened with it
 abbrev pub Turns : CacheLevels → CacheLevels → (World → Effect) → Reply → Type 0
-Turns old new what reply = (w : World) → AreLevelsOf old w → IsAnswer (rules_of old.hub) w (what w) reply × AreLevelsOf new (after (rules_of old.hub) w (what w) reply) × Caches (rules_of old.hub) w.past (what w) reply (cache_of old.hub) (cache_of new.hub)
+Turns old new what reply = (w : World) → AreLevelsOf old w → IsAnswer (rules_of old.hub) w (what w) reply
+    × AreLevelsOf new (after (rules_of old.hub) w (what w) reply) × Caches (rules_of old.hub) w.past (what w) reply (cache_of old.hub) (cache_of new.hub)
 
 -- they and the clients answer an event, and are then those of what has happened with it
 abbrev pub AnswersEvent : Rules → World → Event → Reply → HubState → CacheLevels → Holders → Type 0
 AnswersEvent rules w e r old new held = let what = effect rules w e in
-    IsAnswer rules w what r × AreLevelsOf new (after rules w what r) × AreHeld held (with_clients w what r) × Caches rules w.past what r (cache_of old) (cache_of new.hub)
+    IsAnswer rules w what r × AreLevelsOf new (after rules w what r) × AreHeld held (with_clients w what r)
+    × Caches rules w.past what r (cache_of old) (cache_of new.hub)
 
 -- the first key that was left was copied so, and put in or taken out
 pub record Copies (old new : CacheLevels) (c : Copied) : Type 0 where

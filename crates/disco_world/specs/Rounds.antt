@@ -8,7 +8,8 @@ use Rattle.disco_query.specs.declared.key.DocKey.{DocKey}
 use Rattle.disco_cache.specs.declared.payload.Payload.{Payload}
 use Rattle.disco_rounds.specs.Press.{Note, edition_of, step}
 
--- of the run that is running: the notes that were published, those since, how many keys the round has that began last, and how many events there were up to its beginning, and up to that of the round published last, or up to the run's where there is none
+-- of the run that is running: the notes that were published, those since, how many keys the round has that began last, and how many events there were
+-- up to its beginning, and up to that of the round published last, or up to the run's where there is none
 pub record Press : Type 0 where
   pub published : List Note
   pub pending : List Note

@@ -60,7 +60,8 @@ cache_of s = record { docs = s.docs; rounds = s.rounds }
 -- a hub answers a deed, then stands for what has happened with it, and keeps what it leaves
 abbrev pub Performs : HubState → HubState → (World → Effect) → Reply → Type 0
 Performs old new what reply = (w : World) → HubStandsFor old w.past
-    → IsAnswer (rules_of old) w (what w) reply × HubStandsFor new (past_after (rules_of old) w.past (what w) reply) × Caches (rules_of old) w.past (what w) reply (cache_of old) (cache_of new)
+    → IsAnswer (rules_of old) w (what w) reply × HubStandsFor new (past_after (rules_of old) w.past (what w) reply)
+    × Caches (rules_of old) w.past (what w) reply (cache_of old) (cache_of new)
 
 -- the document means that, which is of many apps
 abbrev pub IsMeant : Payload → Meaning → Type 0

@@ -52,7 +52,8 @@ pub fn run_to<W, T: Tell<W>>(
     teller: &mut T,
     out: &mut W,
 ) -> Result<(), Fault>
-    ensures told { OnOk result (AreTold settings.now.entries (rules settings.now) settings.now.run steps.entry.events.now T.text (T.told teller.old out.old) (T.told teller.new out.new)) }
+    ensures told { OnOk result (AreTold settings.now.entries (rules settings.now) settings.now.run steps.entry.events.now T.text (T.told teller.old out.old)
+        (T.told teller.new out.new)) }
     ensures fault { IfErr result (λ e. (e ≡ WriteFailed) ⊎ (e ≡ OutOfMemory)) }
 {
     let mut levels = CacheLevels::new(alloc, settings);
@@ -76,7 +77,8 @@ fn tell_all<W, T: Tell<W>>(
     requires published { levels.old.published ≡ empty }
     requires plain { tree.IsEmpty clients.now.plain }
     requires certified { tree.IsEmpty clients.now.certified }
-    ensures told { OnOk result (AreTold settings.now.entries (rules settings.now) settings.now.run steps.entry.events.now T.text (T.told teller.old out.old) (T.told teller.new out.new)) }
+    ensures told { OnOk result (AreTold settings.now.entries (rules settings.now) settings.now.run steps.entry.events.now T.text (T.told teller.old out.old)
+        (T.told teller.new out.new)) }
     ensures fault { IfErr result (λ e. (e ≡ WriteFailed) ⊎ (e ≡ OutOfMemory)) }
 {
     for event in steps.events {

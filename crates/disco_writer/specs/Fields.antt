@@ -20,8 +20,10 @@ abbrev pub center_fields : DataCenter → Fields
 center_fields c = (codes "@class", string c.class) ∷ (codes "name", string c.name) ∷ []
 
 abbrev pub lease_fields : Lease → Fields
-lease_fields l = (codes "durationInSecs", whole l.duration_secs) ∷ (codes "evictionTimestamp", whole l.eviction) ∷ (codes "lastRenewalTimestamp", whole l.last_renewal)
-    ∷ (codes "registrationTimestamp", whole l.registration) ∷ (codes "renewalIntervalInSecs", whole l.renewal_interval_secs) ∷ (codes "serviceUpTimestamp", whole l.service_up) ∷ []
+lease_fields l = (codes "durationInSecs", whole l.duration_secs) ∷ (codes "evictionTimestamp", whole l.eviction) ∷
+    (codes "lastRenewalTimestamp", whole l.last_renewal)
+    ∷ (codes "registrationTimestamp", whole l.registration) ∷ (codes "renewalIntervalInSecs", whole l.renewal_interval_secs) ∷
+    (codes "serviceUpTimestamp", whole l.service_up) ∷ []
 
 abbrev pub entry_fields : List (List ℕ × List ℕ) → Fields
 entry_fields es = map (λ e. (e.0, string e.1)) es
@@ -46,7 +48,8 @@ abbrev pub moment_fields : Row → Fields
 moment_fields r = (codes "lastDirtyTimestamp", digits_text r.last_dirty) ∷ (codes "lastUpdatedTimestamp", digits_text r.last_updated) ∷ []
 
 abbrev pub state_fields : Row → Fields
-state_fields r = (codes "overriddenStatus", string (status_name r.overridden_status)) ∷ (codes "port", port_tree r.port) ∷ (codes "securePort", port_tree r.secure_port)
+state_fields r = (codes "overriddenStatus", string (status_name r.overridden_status)) ∷ (codes "port", port_tree r.port) ∷
+    (codes "securePort", port_tree r.secure_port)
     ∷ (codes "secureVipAddress", string r.secure_vip_address) ∷ (codes "status", string (status_name r.status)) ∷ []
 
 abbrev pub vip_field : Row → Fields
@@ -55,7 +58,8 @@ vip_field r = (codes "vipAddress", string r.vip_address) ∷ []
 -- ---- the full form
 
 abbrev pub to_urls : Row → Fields
-to_urls r = app_field r ++ ((codes "countryId", whole r.country_id) ∷ (center_field r ++ ((codes "healthCheckUrl", string r.health_check_url) ∷ (codes "homePageUrl", string r.home_page_url) ∷ [])))
+to_urls r = app_field r ++ ((codes "countryId", whole r.country_id) ∷
+    (center_field r ++ ((codes "healthCheckUrl", string r.health_check_url) ∷ (codes "homePageUrl", string r.home_page_url) ∷ [])))
 
 abbrev pub to_moments : Row → Fields
 to_moments r = host_fields r ++ ((codes "isCoordinatingDiscoveryServer", truth r.is_coordinating) ∷ moment_fields r)

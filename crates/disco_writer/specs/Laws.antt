@@ -19,7 +19,8 @@ SameKeptLaw = (f : Form) (old new : Kept) (held : FinMap key_cmp Entry) → IsSa
 
 -- with the text of a mention that is put they are those of the registry with it
 abbrev pub PutKeptLaw : Type 0
-PutKeptLaw = (f : Form) (old new : Kept) (held : FinMap key_cmp Entry) (e : Entry) (text : List ℕ) → IsTextOf f text (mention_of e) → SetsText (key_of e) (Some text) old new → AreKept f old held → AreKept f new (insert held (key_of e) e)
+PutKeptLaw = (f : Form) (old new : Kept) (held : FinMap key_cmp Entry) (e : Entry) (text : List ℕ) → IsTextOf f text (mention_of e)
+    → SetsText (key_of e) (Some text) old new → AreKept f old held → AreKept f new (insert held (key_of e) e)
 
 -- without that of one that is taken out they are those of the registry without it
 abbrev pub GoneKeptLaw : Type 0
@@ -27,4 +28,5 @@ GoneKeptLaw = (f : Form) (old new : Kept) (held : FinMap key_cmp Entry) (k : Key
 
 -- what is kept of a key that a delta names is the text of its entry there where that puts, and nothing where it went
 abbrev pub DeltaKeptLaw : Type 0
-DeltaKeptLaw = (f : Form) (v : Kept) (h : List Entry) (base : ℕ) (q : Key) (e : Entry) → AreKept f v (mentions_of h (registry_of h)) → get (delta h base) q ≡ Some e → AreTied f (kept_text_at v q) (put_of e)
+DeltaKeptLaw = (f : Form) (v : Kept) (h : List Entry) (base : ℕ) (q : Key) (e : Entry) → AreKept f v (mentions_of h (registry_of h))
+    → get (delta h base) q ≡ Some e → AreTied f (kept_text_at v q) (put_of e)

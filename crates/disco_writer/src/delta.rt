@@ -44,7 +44,8 @@ pub(crate) fn write_delta(
 ) -> Result<Vec<u8>, Fault>
     requires counts { counts.now ≡ tally_in registry.now.held }
     requires kept { AreKept form texts.now registry.now.held }
-    ensures written { IfOk result (λ v. (h : List Timed) → StandsFor registry.now (changes h) → KeepsHistory queue.now h → IsWritten form query.Delta (changes h) queue.now.base (Some v.items)) }
+    ensures written { IfOk result (λ v. (h : List Timed) → StandsFor registry.now (changes h) → KeepsHistory queue.now h
+        → IsWritten form query.Delta (changes h) queue.now.base (Some v.items)) }
     ensures memory { IfErr result (λ e. e ≡ OutOfMemory) }
 {
     let last = queue.last_changes(alloc)?;

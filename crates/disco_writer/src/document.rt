@@ -58,7 +58,8 @@ pub fn write_document(
     ensures written { IfOk result (λ o. is_delta query.now ≡ false
         → (h : List Entry) → StandsFor registry.now h → IsWritten form query.now h (length h) (option_map (λ v. v.items) o)) }
     ensures delta { IfOk result (λ o. is_delta query.now ≡ true
-        → (h : List Timed) → StandsFor registry.now (changes h) → KeepsHistory queue.now h → IsWritten form query.now (changes h) queue.now.base (option_map (λ v. v.items) o)) }
+        → (h : List Timed) → StandsFor registry.now (changes h) → KeepsHistory queue.now h
+        → IsWritten form query.now (changes h) queue.now.base (option_map (λ v. v.items) o)) }
     ensures memory { IfErr result (λ e. e ≡ OutOfMemory) }
 {
     match query {
@@ -91,7 +92,8 @@ pub fn write_full(
     ensures written { IfOk result (λ o. is_delta query.now ≡ false
         → (h : List Entry) → StandsFor registry.now h → IsWritten Full query.now h (length h) (option_map (λ v. v.items) o)) }
     ensures delta { IfOk result (λ o. is_delta query.now ≡ true
-        → (h : List Timed) → StandsFor registry.now (changes h) → KeepsHistory queue.now h → IsWritten Full query.now (changes h) queue.now.base (option_map (λ v. v.items) o)) }
+        → (h : List Timed) → StandsFor registry.now (changes h) → KeepsHistory queue.now h
+        → IsWritten Full query.now (changes h) queue.now.base (option_map (λ v. v.items) o)) }
     ensures memory { IfErr result (λ e. e ≡ OutOfMemory) }
 {
     write_document(
@@ -131,7 +133,8 @@ fn write_app(
     name: &Text,
 ) -> Result<Option<Vec<u8>>, Fault>
     requires { AreKept form texts.now registry.now.held }
-    ensures written { IfOk result (λ o. (h : List Entry) → StandsFor registry.now h → IsWritten form (query.App name.now) h (length h) (option_map (λ v. v.items) o)) }
+    ensures written { IfOk result (λ o. (h : List Entry) → StandsFor registry.now h
+        → IsWritten form (query.App name.now) h (length h) (option_map (λ v. v.items) o)) }
     ensures memory { IfErr result (λ e. e ≡ OutOfMemory) }
 {
     let held = registry.of_app(alloc, name)?;
@@ -171,7 +174,8 @@ fn write_vip(
 ) -> Result<Option<Vec<u8>>, Fault>
     requires index { IsIndexOf vips.now registry.now.held }
     requires kept { AreKept form texts.now registry.now.held }
-    ensures written { IfOk result (λ o. (h : List Entry) → StandsFor registry.now h → IsWritten form (query.Vip vip.now) h (length h) (option_map (λ v. v.items) o)) }
+    ensures written { IfOk result (λ o. (h : List Entry) → StandsFor registry.now h
+        → IsWritten form (query.Vip vip.now) h (length h) (option_map (λ v. v.items) o)) }
     ensures memory { IfErr result (λ e. e ≡ OutOfMemory) }
 {
     let held = held_under_vip(alloc, registry, vips, vip)?;
@@ -186,7 +190,8 @@ fn write_svip(
     svip: &Text,
 ) -> Result<Option<Vec<u8>>, Fault>
     requires { AreKept form texts.now registry.now.held }
-    ensures written { IfOk result (λ o. (h : List Entry) → StandsFor registry.now h → IsWritten form (query.Svip svip.now) h (length h) (option_map (λ v. v.items) o)) }
+    ensures written { IfOk result (λ o. (h : List Entry) → StandsFor registry.now h
+        → IsWritten form (query.Svip svip.now) h (length h) (option_map (λ v. v.items) o)) }
     ensures memory { IfErr result (λ e. e ≡ OutOfMemory) }
 {
     let held = held_under_svip(alloc, registry, svip)?;
@@ -201,7 +206,8 @@ fn write_instance(
     key: &Key,
 ) -> Result<Option<Vec<u8>>, Fault>
     requires { AreKept form texts.now registry.now.held }
-    ensures written { IfOk result (λ o. (h : List Entry) → StandsFor registry.now h → IsWritten form (query.Instance key.now) h (length h) (option_map (λ v. v.items) o)) }
+    ensures written { IfOk result (λ o. (h : List Entry) → StandsFor registry.now h
+        → IsWritten form (query.Instance key.now) h (length h) (option_map (λ v. v.items) o)) }
     ensures memory { IfErr result (λ e. e ≡ OutOfMemory) }
 {
     match registry.held(key) {

@@ -6,7 +6,8 @@ ghost use Rattle.disco_instance.specs.Row.{row};
 ghost use Rattle.disco_values.specs.declared.fault.Fault.TheVariants.{OutOfMemory};
 ghost use Rattle.disco_values.specs.declared.form.Form.TheVariants.{Full, Compact};
 ghost use Rattle.disco_wire.specs.Wire.{tell};
-ghost use Rattle.disco_writer.specs.Fields.{done_fields, from_moments, host_fields, moment_fields, state_fields, to_hosts, to_metadata, to_moments, to_urls, to_vips};
+ghost use Rattle.disco_writer.specs.Fields.{done_fields, from_moments, host_fields, moment_fields, state_fields, to_hosts, to_metadata, to_moments};
+ghost use Rattle.disco_writer.specs.Fields.{to_urls, to_vips};
 ghost use Rattle.disco_writer.specs.Kept.{IsTextOf, mention_tree};
 ghost use Rattle.disco_writer.specs.Tokens.{AddsTokens, WritesMembers};
 

@@ -9,7 +9,8 @@ ghost use Rattle.disco_wire.specs.Documents.{document_of};
 ghost use Rattle.disco_wire.specs.Meaning.{meant};
 ghost use Rattle.disco_wire.specs.declared.wire.Shape.TheVariants.{App, Many, One};
 ghost use Rattle.disco_writer.specs.Kept.{IsTextOf};
-ghost use Rattle.disco_writer.specs.Joined.{AreTextsOf, Pushes, after_last, app_close, app_joined, app_open, before_next, in_apps, in_commas, many_close, many_joined, many_open, one_joined, shown_by};
+ghost use Rattle.disco_writer.specs.Joined.{AreTextsOf, Pushes, after_last, app_close, app_joined, app_open, before_next, in_apps, in_commas};
+ghost use Rattle.disco_writer.specs.Joined.{many_close, many_joined, many_open, one_joined, shown_by};
 ghost use Rattle.disco_documents.specs.Rows.{mentions_in};
 ghost use Rattle.disco_documents.specs.Trees.{app_document, document_tree, instance_document};
 
@@ -220,8 +221,10 @@ pub(crate) fn join_many(
     hash: &Text,
     version: u64,
 ) -> Result<Vec<u8>, AllocError>
-    ensures text { IfOk result (λ v. (f : Form) (es : List Entry) → AreTextsOf f (shown_by pieces.now) es → v.items ≡ compact_text (document_tree f es hash.now version)) }
-    ensures means { IfOk result (λ v. (f : Form) (es : List Entry) → AreTextsOf f (shown_by pieces.now) es → document_of v.items ≡ Ok (meant Many (Some hash.now) (Some version) (mentions_in f es))) }
+    ensures text { IfOk result (λ v. (f : Form) (es : List Entry) → AreTextsOf f (shown_by pieces.now) es
+        → v.items ≡ compact_text (document_tree f es hash.now version)) }
+    ensures means { IfOk result (λ v. (f : Form) (es : List Entry) → AreTextsOf f (shown_by pieces.now) es
+        → document_of v.items ≡ Ok (meant Many (Some hash.now) (Some version) (mentions_in f es))) }
 {
     // For the proof alone: a hash code is UTF-8.
     let _hash = hash.as_str();
@@ -236,8 +239,10 @@ pub(crate) fn join_app(
     name: &Text,
     pieces: &[Piece<'_>],
 ) -> Result<Vec<u8>, AllocError>
-    ensures text { IfOk result (λ v. (f : Form) (es : List Entry) → AreTextsOf f (shown_by pieces.now) es → v.items ≡ compact_text (app_document f name.now es)) }
-    ensures means { IfOk result (λ v. (f : Form) (es : List Entry) → AreTextsOf f (shown_by pieces.now) es → document_of v.items ≡ Ok (meant App None None (mentions_in f es))) }
+    ensures text { IfOk result (λ v. (f : Form) (es : List Entry) → AreTextsOf f (shown_by pieces.now) es
+        → v.items ≡ compact_text (app_document f name.now es)) }
+    ensures means { IfOk result (λ v. (f : Form) (es : List Entry) → AreTextsOf f (shown_by pieces.now) es
+        → document_of v.items ≡ Ok (meant App None None (mentions_in f es))) }
 {
     // For the proof alone: a name is UTF-8.
     let _name = name.as_str();
@@ -249,7 +254,8 @@ pub(crate) fn join_app(
 /// The document of the instance of this text.
 pub(crate) fn join_one(alloc: Global, text: &[u8]) -> Result<Vec<u8>, AllocError>
     ensures text { IfOk result (λ v. (f : Form) (e : Entry) → IsTextOf f text.now (mention_of e) → v.items ≡ compact_text (instance_document f (e ∷ []))) }
-    ensures means { IfOk result (λ v. (f : Form) (e : Entry) → IsTextOf f text.now (mention_of e) → document_of v.items ≡ Ok (meant One None None (mentions_in f (e ∷ [])))) }
+    ensures means { IfOk result (λ v. (f : Form) (e : Entry) → IsTextOf f text.now (mention_of e)
+        → document_of v.items ≡ Ok (meant One None None (mentions_in f (e ∷ [])))) }
 {
     let mut out = Vec::with_capacity(alloc, text.len().saturating_add(ROUND))?;
     push_one(&mut out, text)?;

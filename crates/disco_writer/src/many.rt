@@ -26,8 +26,10 @@ pub(crate) fn many_text(
     hash: &Text,
     version: u64,
 ) -> Result<Vec<u8>, Fault>
-    ensures text { IfOk result (λ v. AllAgree form texts.now (held_entries held.now) → v.items ≡ compact_text (document_tree form (held_entries held.now) hash.now version)) }
-    ensures means { IfOk result (λ v. AllAgree form texts.now (held_entries held.now) → document_of v.items ≡ Ok (meant Many (Some hash.now) (Some version) (mentions_in form (held_entries held.now)))) }
+    ensures text { IfOk result (λ v. AllAgree form texts.now (held_entries held.now)
+        → v.items ≡ compact_text (document_tree form (held_entries held.now) hash.now version)) }
+    ensures means { IfOk result (λ v. AllAgree form texts.now (held_entries held.now)
+        → document_of v.items ≡ Ok (meant Many (Some hash.now) (Some version) (mentions_in form (held_entries held.now)))) }
     ensures memory { IfErr result (λ e. e ≡ OutOfMemory) }
 {
     let pieces = pieces_of(alloc, form, texts, held)?;
@@ -42,8 +44,10 @@ pub(crate) fn app_text(
     name: &Text,
     held: &[Held],
 ) -> Result<Vec<u8>, Fault>
-    ensures text { IfOk result (λ v. AllAgree form texts.now (held_entries held.now) → v.items ≡ compact_text (app_document form name.now (held_entries held.now))) }
-    ensures means { IfOk result (λ v. AllAgree form texts.now (held_entries held.now) → document_of v.items ≡ Ok (meant App None None (mentions_in form (held_entries held.now)))) }
+    ensures text { IfOk result (λ v. AllAgree form texts.now (held_entries held.now)
+        → v.items ≡ compact_text (app_document form name.now (held_entries held.now))) }
+    ensures means { IfOk result (λ v. AllAgree form texts.now (held_entries held.now)
+        → document_of v.items ≡ Ok (meant App None None (mentions_in form (held_entries held.now)))) }
     ensures memory { IfErr result (λ e. e ≡ OutOfMemory) }
 {
     let pieces = pieces_of(alloc, form, texts, held)?;
@@ -58,7 +62,8 @@ pub(crate) fn one_text(
     held: &Held,
 ) -> Result<Vec<u8>, Fault>
     ensures text { IfOk result (λ v. Agrees form texts.now (entry_of held.now) → v.items ≡ compact_text (instance_document form (entry_of held.now ∷ []))) }
-    ensures means { IfOk result (λ v. Agrees form texts.now (entry_of held.now) → document_of v.items ≡ Ok (meant One None None (mentions_in form (entry_of held.now ∷ [])))) }
+    ensures means { IfOk result (λ v. Agrees form texts.now (entry_of held.now)
+        → document_of v.items ≡ Ok (meant One None None (mentions_in form (entry_of held.now ∷ [])))) }
     ensures memory { IfErr result (λ e. e ≡ OutOfMemory) }
 {
     let piece = piece_of(alloc, form, texts, held)?;
