@@ -70,7 +70,7 @@ fn answer<W: Sink, S: Service>(
 ) -> Step
     requires { IsFalse (sinks.is_writer_spent writer.old) }
     ensures step { AnswersOne S.answers service.old service.new (W.contents (sink_of writer.old)) (W.contents (sink_of writer.new)) request.now last result }
-    ensures cause { Fails WriteFailed result → Raises (W.failed (sink_of writer.old)) (W.failed (sink_of writer.new)) }
+    ensures cause { EndsByFault WriteFailed result → Raises (W.failed (sink_of writer.old)) (W.failed (sink_of writer.new)) }
     ensures none_failed { result ≡ Step.Goes → W.failed (sink_of writer.new) ≡ W.failed (sink_of writer.old) }
     ensures goes { result ≡ Step.Goes → IsFalse last }
     ensures fresh { result ≡ Step.Goes → IsFalse (sinks.is_writer_spent writer.new) }
@@ -96,7 +96,7 @@ fn refuse<W: Sink, D: Document + Drop>(writer: &mut Writer<W>, fault: Fault) -> 
     requires not_written { fault ≢ WriteFailed }
     requires fresh { IsFalse (sinks.is_writer_spent writer.old) }
     ensures step { RefusesRequest (W.contents (sink_of writer.old)) (W.contents (sink_of writer.new)) fault result }
-    ensures cause { Fails WriteFailed result → Raises (W.failed (sink_of writer.old)) (W.failed (sink_of writer.new)) }
+    ensures cause { EndsByFault WriteFailed result → Raises (W.failed (sink_of writer.old)) (W.failed (sink_of writer.new)) }
     ensures no_read { EndsByFault ReadFailed result → ⊥ }
     ensures stops { result ≢ Step.Goes }
 {
@@ -127,8 +127,8 @@ fn exchange<R: Source, W: Sink, S: Service>(
     ensures limits { reader_limits reader.new ≡ reader_limits reader.old }
     ensures goes { result ≡ Step.Goes → IsFalse last }
     ensures fresh { result ≡ Step.Goes → IsFalse (is_spent reader.new) × IsFalse (sinks.is_writer_spent writer.new) }
-    ensures read_cause { Fails ReadFailed result → Raises (R.failed (source_of reader.old)) (R.failed (source_of reader.new)) }
-    ensures write_cause { Fails WriteFailed result → Raises (W.failed (sink_of writer.old)) (W.failed (sink_of writer.new)) }
+    ensures read_cause { EndsByFault ReadFailed result → Raises (R.failed (source_of reader.old)) (R.failed (source_of reader.new)) }
+    ensures write_cause { EndsByFault WriteFailed result → Raises (W.failed (sink_of writer.old)) (W.failed (sink_of writer.new)) }
     ensures none_failed { result ≡ Step.Goes → (R.failed (source_of reader.new) ≡ R.failed (source_of reader.old))
         × (W.failed (sink_of writer.new) ≡ W.failed (sink_of writer.old)) }
 {
