@@ -79,14 +79,22 @@ def run(folder, log):
     return gate.returncode, seen
 
 
+def row(name, minutes):
+    """A row of the table, with nothing where nothing was spent."""
+    cells = ["%.1f" % count if count > 0 else "" for count in (*minutes, sum(minutes))]
+    return "| %s | %s |" % (name, " | ".join(cells))
+
+
 def print_crates(seen):
+    """Prints the minutes of processors by crate, as the table of docs/PROOFS.md."""
     spent = collections.Counter()
     for (_, crate, kind), seconds in seen.items():
-        spent[crate, kind] += seconds
-    print("%-16s%8s%8s%8s" % ("minutes of", *KINDS))
+        spent[crate, kind] += seconds / 60
+    print("| Crate | Proof | Tests | Edits | All |")
+    print("|---|---|---|---|---|")
     for crate in sorted({crate for crate, _ in spent}):
-        print("%-16s%8.1f%8.1f%8.1f" % (crate, *(spent[crate, kind] / 60 for kind in KINDS)))
-    print("%-16s%8.1f%8.1f%8.1f" % ("all", *(sum(s for (_, k), s in spent.items() if k == kind) / 60 for kind in KINDS)))
+        print(row("`%s`" % crate, [spent[crate, kind] for kind in KINDS]))
+    print(row("all", [sum(m for (_, k), m in spent.items() if k == kind) for kind in KINDS]))
 
 
 def main():
