@@ -58,7 +58,7 @@ Sets k l old new = (q : Key) → lease_at new q ≡ (if same_key q k then l else
 abbrev pub marked : ℕ → ℕ → Lease
 marked duration_secs now = record { duration_secs = duration_secs; mark = now }
 
--- the lease with its mark one duration from now
+-- the lease with its mark one duration from now. So a renewed lease lasts two durations: Eureka's own quirk, which is kept as it is
 abbrev pub extended : ℕ → Lease → Lease
 extended now l = record { duration_secs = l.duration_secs; mark = now + l.duration_secs * 1000 }
 

@@ -31,7 +31,7 @@ impl Lease {
         u128::from(self.duration_secs) * 1000
     }
 
-    /// The lease with its mark one duration from now.
+    /// The lease with its mark one duration from now. It lasts two durations then, as Eureka's do.
     pub(crate) fn extended(self, now: u64) -> Lease
         ensures { plain_lease result ≡ extended now (plain_lease self) }
     {

@@ -1,4 +1,5 @@
--- What a registration makes of the posted and of the held record (this project's own rule).
+-- What a registration makes of the posted and of the held record (after Eureka's rules for dirty records and for overrides; that an override belongs to
+-- an app and an id together is this project's own rule).
 use Rattle.std.specs.Prelude.{ℕ, Bool, ◌||◌, nat_lt, if◌then◌else◌, Option, Some, None}
 use Rattle.disco_instance.specs.Moments.{registered_at}
 use Rattle.disco_instance.specs.Row.{Row}
@@ -28,7 +29,8 @@ abbrev pub held_or : Option Row → Status → Status
 held_or None own = own
 held_or (Some held) own = if is_open held.status then held.status else own
 
--- the status: the first that applies of the registrant's, where it is not open, the override, the held one, where it is open, and the registrant's
+-- the status, by the order of Eureka's rules for overrides: the first that applies of the registrant's, where it is not open, the override, the held
+-- one, where it is open, and the registrant's
 abbrev pub settled_status : Option Row → Status → Status → Status
 settled_status held overridden own = if is_open own then known_or overridden (held_or held own) else own
 
