@@ -16,13 +16,13 @@ use Rattle.disco_core.specs.Past.{Past, history, with_done}
 use Rattle.disco_core.specs.Refusals.{doc_of_id, doc_of_key}
 use Rattle.disco_hub.specs.State.{MayServe, HubStandsFor, HubState, rules_of}
 use Rattle.disco_hub.specs.Transitions.{Declines, IsDocOf, IsDocOfId, Withholds, WithholdsId, Writes}
-use Rattle.disco_message.specs.ReplyText.{Answer}
+use Rattle.disco_message.specs.ReplyText.{ReplyView}
 use Rattle.disco_registry.specs.Commit.{done_by}
-use Rattle.disco_registry.specs.Op.{Ask}
+use Rattle.disco_registry.specs.Op.{OpView}
 use Rattle.disco_registry.specs.declared.op.Applied.{Applied}
 use Rattle.disco_registry.proofs.Histories.{accepts_after}
 use Rattle.disco_message.specs.declared.status_line.Allow.{Allow}
-use Rattle.disco_calls.specs.Calls.{Asks, loads, shows, shows_id, writes, lacks}
+use Rattle.disco_calls.specs.Calls.{CallView, loads, shows, shows_id, writes, lacks}
 use Rattle.disco_answers.specs.Replies.{IsAnswered, IsReply, Replies, ShowsDocument, IsDone, document_asked, document_of_id, unless_refused, plain, refusal_answer, success_of, with_document, lacking}
 
 memory_or : (e : Fault) → (e ≡ OutOfMemory) ⊎ (e ≢ OutOfMemory)
@@ -30,10 +30,10 @@ memory_or OutOfMemory = inl refl
 memory_or e = inr (λ is. let bad : fault_number e ≡ 1 = ap fault_number is in omega (arith, bad))
 
 -- a reply, with the changes that come behind what has happened
-abbrev pub Follows : HubState → HubState → Result Asks Fault → ℕ → Answer → List Entry → Type 0
+abbrev pub Follows : HubState → HubState → Result CallView Fault → ℕ → ReplyView → List Entry → Type 0
 Follows old new asked now y cs = (p : Past) → HubStandsFor old p → (q : Past) × IsReply (rules_of old) p asked now y q × (history q ≡ history p ++ cs) × HubStandsFor new q
 
-pub answered_so : (old new : HubState) (asked : Result Asks Fault) (now : ℕ) (y : Answer) (cs : List Entry) → Follows old new asked now y cs → IsAnswered old new asked now y
+pub answered_so : (old new : HubState) (asked : Result CallView Fault) (now : ℕ) (y : ReplyView) (cs : List Entry) → Follows old new asked now y cs → IsAnswered old new asked now y
 answered_so old new asked now y cs follows = λ p stands. let r = follows p stands in (r.0, r.1, r.3)
 
 -- the changes of an operation
@@ -45,13 +45,13 @@ abbrev pub changes_by : Result Applied Fault → List Entry
 changes_by (Ok a) = changes_of (done_by a)
 changes_by (Err e) = []
 
-history_done : (most : ℕ) (p : Past) (now : ℕ) (ask : Ask) (o : Option Entry) → history (with_done most p now ask o) ≡ history p ++ changes_of o
+history_done : (most : ℕ) (p : Past) (now : ℕ) (ask : OpView) (o : Option Entry) → history (with_done most p now ask o) ≡ history p ++ changes_of o
 history_done most p now ask None = sym (append-nil (history p))
 history_done most p now ask (Some c) = map-append (λ (t : Timed). t.0) p.timed ((c, now) ∷ [])
 
-module _ (old new : HubState) (now : ℕ) (y : Answer) where
+module _ (old new : HubState) (now : ℕ) (y : ReplyView) where
   -- a document that was asked for: `asked` is it, or why it isn't served, by what has happened
-  module _ (want : Asks) (asked : Past → Result DocKey Fault) (row : (p q : Past) → ShowsDocument p (asked p) y × (q ≡ p) → Replies (rules_of old) p (Ok want) now y q) (on : (p : Past) → HubStandsFor old p → HubStandsFor new p) where
+  module _ (want : CallView) (asked : Past → Result DocKey Fault) (row : (p q : Past) → ShowsDocument p (asked p) y × (q ≡ p) → Replies (rules_of old) p (Ok want) now y q) (on : (p : Past) → HubStandsFor old p → HubStandsFor new p) where
     told : (p : Past) → HubStandsFor old p → ShowsDocument p (asked p) y → (q : Past) × IsReply (rules_of old) p (Ok want) now y q × HubStandsFor new q
     told p stands is = (p, inl (row p p (is, refl)), on p stands)
 
@@ -64,7 +64,7 @@ module _ (old new : HubState) (now : ℕ) (y : Answer) where
     ]
 
   -- an operation
-  pub written : (ask : Ask) (r : Result Applied Fault) → IfOk r (λ a. Writes old new ask now (done_by a)) → IfErr r (Declines old new ask now)
+  pub written : (ask : OpView) (r : Result Applied Fault) → IfOk r (λ a. Writes old new ask now (done_by a)) → IfErr r (Declines old new ask now)
       → MatchResult r (λ a. y ≡ plain (success_of ask)) (λ e. y ≡ refusal_answer e) → Follows old new (Ok (writes ask)) now y (changes_by r)
   written ask (Ok a) done why is = λ p stands.
       let accepted = sym (accepts_after old.core.registry (history p) stands.core.registry ask now) ∙ done.accepted in
@@ -81,11 +81,11 @@ module _ (old new : HubState) (now : ℕ) (y : Answer) where
       ]
 
 -- a path that lacks the method
-pub lacked : (s : HubState) (allow : Allow) (now : ℕ) (y : Answer) → y ≡ lacking allow → IsAnswered s s (Ok (lacks allow)) now y
+pub lacked : (s : HubState) (allow : Allow) (now : ℕ) (y : ReplyView) → y ≡ lacking allow → IsAnswered s s (Ok (lacks allow)) now y
 lacked s allow now y is = λ p stands. (p, inl (is, refl), stands)
 
 -- a request that is refused for itself
-pub refused_so : (s : HubState) (asked : Result Asks Fault) (e : Fault) (now : ℕ) (y : Answer) → (e ≢ OutOfMemory → asked ≡ Err e) → y ≡ refusal_answer e → Follows s s asked now y []
+pub refused_so : (s : HubState) (asked : Result CallView Fault) (e : Fault) (now : ℕ) (y : ReplyView) → (e ≢ OutOfMemory → asked ≡ Err e) → y ≡ refusal_answer e → Follows s s asked now y []
 refused_so s asked e now y why is = λ p stands.
     let none = sym (append-nil (history p)) in
     elim (memory_or e) [
@@ -94,7 +94,7 @@ refused_so s asked e now y why is = λ p stands.
     ]
 
 -- a load of a key
-pub load_so : (old new : HubState) (key : DocKey) (now : ℕ) (y : Answer) (r : Result (Arc Payload Global) Fault) → IfOk r (λ d. IsDocOf old (rules_of old).delta key d.value) → IfErr r (Withholds old (rules_of old).delta key)
+pub load_so : (old new : HubState) (key : DocKey) (now : ℕ) (y : ReplyView) (r : Result (Arc Payload Global) Fault) → IfOk r (λ d. IsDocOf old (rules_of old).delta key d.value) → IfErr r (Withholds old (rules_of old).delta key)
     → MatchResult r (λ d. y ≡ with_document d.value) (λ e. y ≡ refusal_answer e) → ((p : Past) → HubStandsFor old p → HubStandsFor new p) → IsAnswered old new (Ok (loads key)) now y
 load_so old new key now y (Ok d) may why shown on =
     served old new now y (loads key) (λ p. document_asked (rules_of old).delta key (history p)) (λ p q so. so) on (Ok d) (λ p stands. ap (unless_refused (Some key)) (may.allowed p stands) ∙ ap (λ k. Ok k) (sym may.key)) may.served tt shown
@@ -102,7 +102,7 @@ load_so old new key now y (Err e) may why shown on =
     served old new now y (loads key) (λ p. document_asked (rules_of old).delta key (history p)) (λ p q so. so) on (Err e) tt tt (λ other p stands. ap (unless_refused (Some key)) (why other p stands)) shown
 
 -- the document of an instance
-pub instance_so : (s : HubState) (key : Key) (form : Form) (now : ℕ) (y : Answer) (r : Result (Arc Payload Global) Fault) → IfOk r (λ d. IsDocOf s true (doc_of_key key form) d.value) → IfErr r (Withholds s true (doc_of_key key form))
+pub instance_so : (s : HubState) (key : Key) (form : Form) (now : ℕ) (y : ReplyView) (r : Result (Arc Payload Global) Fault) → IfOk r (λ d. IsDocOf s true (doc_of_key key form) d.value) → IfErr r (Withholds s true (doc_of_key key form))
     → MatchResult r (λ d. y ≡ with_document d.value) (λ e. y ≡ refusal_answer e) → IsAnswered s s (Ok (shows key form)) now y
 instance_so s key form now y (Ok d) may why shown =
     served s s now y (shows key form) (λ p. document_asked true (doc_of_key key form) (history p)) (λ p q so. so) (λ p stands. stands) (Ok d) (λ p stands. ap (unless_refused (Some (doc_of_key key form))) (may.allowed p stands) ∙ ap (λ k. Ok k) (sym may.key)) may.served tt shown
@@ -110,7 +110,7 @@ instance_so s key form now y (Err e) may why shown =
     served s s now y (shows key form) (λ p. document_asked true (doc_of_key key form) (history p)) (λ p q so. so) (λ p stands. stands) (Err e) tt tt (λ other p stands. ap (unless_refused (Some (doc_of_key key form))) (why other p stands)) shown
 
 -- the document of the instance of an id
-pub by_id_so : (s : HubState) (id : List ℕ) (form : Form) (now : ℕ) (y : Answer) (r : Result (Arc Payload Global) Fault) → IfOk r (λ d. IsDocOfId s id form d.value) → IfErr r (WithholdsId s id)
+pub by_id_so : (s : HubState) (id : List ℕ) (form : Form) (now : ℕ) (y : ReplyView) (r : Result (Arc Payload Global) Fault) → IfOk r (λ d. IsDocOfId s id form d.value) → IfErr r (WithholdsId s id)
     → MatchResult r (λ d. y ≡ with_document d.value) (λ e. y ≡ refusal_answer e) → IsAnswered s s (Ok (shows_id id form)) now y
 by_id_so s id form now y (Ok d) may why shown =
     served s s now y (shows_id id form) (λ p. document_of_id id form (history p)) (λ p q so. so) (λ p stands. stands) (Ok d) (λ p stands. ap (unless_refused (doc_of_id id form (history p))) (may.allowed p stands) ∙ ap (λ k. unless_refused k None) (may.key p stands)) may.served tt shown

@@ -11,8 +11,8 @@ use Rattle.disco_core.specs.Past.{Past, history}
 use Rattle.disco_core.specs.State.{Rules}
 use Rattle.disco_rounds.specs.Press.{Note, change}
 use Rattle.disco_hub.specs.State.{rules_of}
-use Rattle.disco_message.specs.ReplyText.{Answer}
-use Rattle.disco_calls.specs.Calls.{Asks, loads, shows, shows_id, writes, lacks, call_view}
+use Rattle.disco_message.specs.ReplyText.{ReplyView}
+use Rattle.disco_calls.specs.Calls.{CallView, loads, shows, shows_id, writes, lacks, call_view}
 use Rattle.disco_calls.specs.declared.call.Call.{Call}
 use Rattle.disco_press.specs.Desks.{CountsBySeat, DeskState, Notes, NotesNothing, note_done, notes_of}
 use Rattle.disco_press.specs.Seats.{SeatState}
@@ -22,11 +22,11 @@ use Rattle.disco_answers.proofs.Answering.{changes_by, changes_of, refused_so}
 
 -- ---- what asks for no operation
 
-abbrev pub IsQuiet : Result Asks Fault → Type 0
+abbrev pub IsQuiet : Result CallView Fault → Type 0
 IsQuiet (Ok (writes ask)) = ⊥
 IsQuiet _ = Unit {0}
 
-still_by : (rules : Rules) (p q : Past) (asked : Result Asks Fault) (now : ℕ) (y : Answer) → IsQuiet asked → Replies rules p asked now y q → q ≡ p
+still_by : (rules : Rules) (p q : Past) (asked : Result CallView Fault) (now : ℕ) (y : ReplyView) → IsQuiet asked → Replies rules p asked now y q → q ≡ p
 still_by rules p q (Err fault) now y quiet is = is.1
 still_by rules p q (Ok (lacks allow)) now y quiet is = is.1
 still_by rules p q (Ok (loads key)) now y quiet is = is.1
@@ -34,11 +34,11 @@ still_by rules p q (Ok (shows key form)) now y quiet is = is.1
 still_by rules p q (Ok (shows_id id form)) now y quiet is = is.1
 still_by rules p q (Ok (writes ask)) now y quiet is = absurd quiet
 
-still : (rules : Rules) (p q : Past) (asked : Result Asks Fault) (now : ℕ) (y : Answer) → IsQuiet asked → IsReply rules p asked now y q → q ≡ p
+still : (rules : Rules) (p q : Past) (asked : Result CallView Fault) (now : ℕ) (y : ReplyView) → IsQuiet asked → IsReply rules p asked now y q → q ≡ p
 still rules p q asked now y quiet (inl is) = still_by rules p q asked now y quiet is
 still rules p q asked now y quiet (inr none) = none.1
 
-pub quiet_on : (old new : DeskState) (before after : SeatState) (asked : Result Asks Fault) (now : ℕ) (y : Answer) → IsQuiet asked → NotesNothing old new → after.changes ≡ before.changes → IsAnswered old.hub new.hub asked now y
+pub quiet_on : (old new : DeskState) (before after : SeatState) (asked : Result CallView Fault) (now : ℕ) (y : ReplyView) → IsQuiet asked → NotesNothing old new → after.changes ≡ before.changes → IsAnswered old.hub new.hub asked now y
     → IsAnsweredOn old new before after asked now y
 quiet_on old new before after asked now y quiet nothing same is = record {
   changes = [];
@@ -77,13 +77,13 @@ counts before after (Err e) counted same = omega (arith, ap (λ (s : SeatState).
 
 -- ---- a request that was read
 
-pub call_on : (old new : DeskState) (before after : SeatState) (called : Result Call Fault) (call : Call) → called ≡ Ok call → (now : ℕ) (y : Answer) → IsAnsweredOn old new before after (Ok (call_view call)) now y → (asked : Result Asks Fault) → Gives call_view called asked → IsAnsweredOn old new before after asked now y
+pub call_on : (old new : DeskState) (before after : SeatState) (called : Result Call Fault) (call : Call) → called ≡ Ok call → (now : ℕ) (y : ReplyView) → IsAnsweredOn old new before after (Ok (call_view call)) now y → (asked : Result CallView Fault) → Gives call_view called asked → IsAnsweredOn old new before after asked now y
 call_on old new before after called call is now y so asked gives =
     let wanted = subst (λ r. Gives call_view r asked) is gives in
     subst (λ a. IsAnsweredOn old new before after a now y) (sym wanted) so
 
 -- a request that is refused for itself
-pub refused_on : (d : DeskState) (s : SeatState) (called : Result Call Fault) (e : Fault) → called ≡ Err e → (now : ℕ) (y : Answer) → y ≡ refusal_answer e → (asked : Result Asks Fault) → Gives call_view called asked → IsAnsweredOn d d s s asked now y
+pub refused_on : (d : DeskState) (s : SeatState) (called : Result Call Fault) (e : Fault) → called ≡ Err e → (now : ℕ) (y : ReplyView) → y ≡ refusal_answer e → (asked : Result CallView Fault) → Gives call_view called asked → IsAnsweredOn d d s s asked now y
 refused_on d s called e is now y shown asked gives = record {
   changes = [];
   noted = (refl, sym (append-nil d.pending));
@@ -95,7 +95,7 @@ refused_on d s called e is now y shown asked gives = record {
 -- ---- before and after
 
 -- the seat learns, and then learns again
-pub learnt : (old new new' : DeskState) (before mid after after' : SeatState) (asked : Result Asks Fault) (now : ℕ) (y : Answer) → IsAnsweredOn old new mid after asked now y → mid.changes ≡ before.changes → new' ≡ new → after'.changes ≡ after.changes
+pub learnt : (old new new' : DeskState) (before mid after after' : SeatState) (asked : Result CallView Fault) (now : ℕ) (y : ReplyView) → IsAnsweredOn old new mid after asked now y → mid.changes ≡ before.changes → new' ≡ new → after'.changes ≡ after.changes
     → IsAnsweredOn old new' before after' asked now y
 learnt old new new' before mid after after' asked now y so first stays same = subst (λ (d : DeskState). IsAnsweredOn old d before after' asked now y) (sym stays) (record {
   changes = so.changes;
@@ -106,7 +106,7 @@ learnt old new new' before mid after after' asked now y so first stays same = su
 })
 
 -- a look came before
-pub looked_before : (before mid after : SeatState) (asked : Result Asks Fault) (now : ℕ) (y : Answer) → mid.changes ≡ before.changes → IsPrefix before.known mid.known → mid.heard ≡ before.heard → IsAnsweredBySome mid after asked now y → IsAnsweredBySome before after asked now y
+pub looked_before : (before mid after : SeatState) (asked : Result CallView Fault) (now : ℕ) (y : ReplyView) → mid.changes ≡ before.changes → IsPrefix before.known mid.known → mid.heard ≡ before.heard → IsAnsweredBySome mid after asked now y → IsAnsweredBySome before after asked now y
 looked_before before mid after asked now y same knew heard so =
     let was = so.by in
     record {
@@ -130,6 +130,6 @@ looked_before before mid after asked now y same knew heard so =
     }
 
 -- something that gives this was asked for
-pub some_asked : (called : Result Call Fault) → (asked : Result Asks Fault) × Gives call_view called asked
+pub some_asked : (called : Result Call Fault) → (asked : Result CallView Fault) × Gives call_view called asked
 some_asked (Ok call) = (Ok (call_view call), refl)
 some_asked (Err e) = (Err e, λ other. refl)

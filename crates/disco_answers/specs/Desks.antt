@@ -15,13 +15,13 @@ use Rattle.disco_editions.specs.Looks.{Shows}
 use Rattle.disco_editions.specs.Logs.{notes_in}
 use Rattle.disco_press.specs.Seats.{SeatState}
 use Rattle.disco_editions.specs.declared.looking.Looked.TheVariants.{Doc}
-use Rattle.disco_message.specs.ReplyText.{Answer}
-use Rattle.disco_calls.specs.Calls.{Asks, loads}
+use Rattle.disco_message.specs.ReplyText.{ReplyView}
+use Rattle.disco_calls.specs.Calls.{CallView, loads}
 use Rattle.disco_answers.specs.Replies.{IsReply, with_document}
 
 -- these changes are noted, and counted by the seat and as a seat's; whatever has happened before, this is a reply to it, they come behind it, and the
 -- desk stands for what has happened after
-pub record IsAnsweredOn (old new : DeskState) (before after : SeatState) (asked : Result Asks Fault) (now : ℕ) (y : Answer) : Type 0 where
+pub record IsAnsweredOn (old new : DeskState) (before after : SeatState) (asked : Result CallView Fault) (now : ℕ) (y : ReplyView) : Type 0 where
   pub changes : List Entry
   pub noted : Notes (map change changes) old new
   pub counted : after.changes ≡ before.changes + length changes
@@ -31,7 +31,7 @@ pub record IsAnsweredOn (old new : DeskState) (before after : SeatState) (asked 
 
 -- and the desk had no fewer changes than the seat, had published what the seat knew, and had noted what the seat had heard of; then the seat knows
 -- what it has published, and all that it has noted
-pub record IsAnsweredBy (old new : DeskState) (before after : SeatState) (asked : Result Asks Fault) (now : ℕ) (y : Answer) : Type 0 where
+pub record IsAnsweredBy (old new : DeskState) (before after : SeatState) (asked : Result CallView Fault) (now : ℕ) (y : ReplyView) : Type 0 where
   pub valid : IsValid old
   pub bound : before.changes ≤ version_of old.hub
   pub knew : IsPrefix before.known old.published
@@ -41,13 +41,13 @@ pub record IsAnsweredBy (old new : DeskState) (before after : SeatState) (asked 
   pub hears : after.heard ≡ notes_of new
 
 -- some desk has answered so, of the seat's name: by what the seat had heard of and hears then, its notes are those of that name
-pub record IsAnsweredBySome (before after : SeatState) (asked : Result Asks Fault) (now : ℕ) (y : Answer) : Type 0 where
+pub record IsAnsweredBySome (before after : SeatState) (asked : Result CallView Fault) (now : ℕ) (y : ReplyView) : Type 0 where
   pub old : DeskState
   pub new : DeskState
   pub by : IsAnsweredBy old new before after asked now y
 
 -- a document is asked for, and is shown by what the seat knows then; nothing is counted
-pub record IsLooked (before after : SeatState) (asked : Result Asks Fault) (y : Answer) : Type 0 where
+pub record IsLooked (before after : SeatState) (asked : Result CallView Fault) (y : ReplyView) : Type 0 where
   pub key : DocKey
   pub doc : Arc Payload Global
   pub asks : asked ≡ Ok (loads key)
@@ -57,5 +57,5 @@ pub record IsLooked (before after : SeatState) (asked : Result Asks Fault) (y : 
   pub heard : after.heard ≡ before.heard
 
 -- a look of the seat is the reply, or that of some desk
-abbrev pub IsLookOrCall : SeatState → SeatState → Result Asks Fault → ℕ → Answer → Type 0
+abbrev pub IsLookOrCall : SeatState → SeatState → Result CallView Fault → ℕ → ReplyView → Type 0
 IsLookOrCall before after asked now y = IsLooked before after asked y ⊎ IsAnsweredBySome before after asked now y

@@ -3,10 +3,10 @@ ghost use Rattle.std.specs.Prelude.{◌≡◌, Ok, Result};
 ghost use Rattle.disco_instance.specs.Instance.{Gives};
 ghost use Rattle.disco_values.specs.declared.fault.Fault.{Fault};
 ghost use Rattle.disco_hub.specs.Transitions.{KeepsRest};
-ghost use Rattle.disco_message.specs.ReplyText.{answer_of};
-ghost use Rattle.disco_calls.specs.Calls.{Asks, call, loads, call_view, shows, shows_id, writes};
+ghost use Rattle.disco_message.specs.ReplyText.{reply_view};
+ghost use Rattle.disco_calls.specs.Calls.{CallView, call, loads, call_view, shows, shows_id, writes};
 ghost use Rattle.disco_press.specs.Desks.{NotesNothing};
-ghost use Rattle.disco_registry.specs.Op.{ask_of};
+ghost use Rattle.disco_registry.specs.Op.{op_view};
 ghost use Rattle.disco_answers.specs.Desks.{IsAnsweredBy, IsAnsweredOn};
 ghost use Rattle.disco_answers.specs.Replies.{IsAnswered, shared_text};
 
@@ -24,7 +24,7 @@ use std::alloc::Global;
 
 /// Serves the document of a key.
 fn load<J: Naming>(desk: &mut Desk<J>, key: &DocKey, now: u64) -> Reply<Shared>
-    ensures answered { IsAnswered desk.old.hub desk.new.hub (Ok (loads key.now)) now (answer_of shared_text result) }
+    ensures answered { IsAnswered desk.old.hub desk.new.hub (Ok (loads key.now)) now (reply_view shared_text result) }
     ensures noted { NotesNothing desk.old desk.new }
     ensures rest { KeepsRest desk.old.hub desk.new.hub }
 {
@@ -33,21 +33,21 @@ fn load<J: Naming>(desk: &mut Desk<J>, key: &DocKey, now: u64) -> Reply<Shared>
 
 /// Serves the document of an instance.
 fn instance<J: Naming>(desk: &Desk<J>, key: &Key, form: Form, now: u64) -> Reply<Shared>
-    ensures { IsAnswered desk.now.hub desk.now.hub (Ok (shows key.now form)) now (answer_of shared_text result) }
+    ensures { IsAnswered desk.now.hub desk.now.hub (Ok (shows key.now form)) now (reply_view shared_text result) }
 {
     showing(desk.instance(key, form))
 }
 
 /// Serves the document of the instance of an id.
 fn by_id<J: Naming>(desk: &Desk<J>, id: &Text, form: Form, now: u64) -> Reply<Shared>
-    ensures { IsAnswered desk.now.hub desk.now.hub (Ok (shows_id id.now form)) now (answer_of shared_text result) }
+    ensures { IsAnswered desk.now.hub desk.now.hub (Ok (shows_id id.now form)) now (reply_view shared_text result) }
 {
     showing(desk.by_id(id.as_str(), form))
 }
 
 /// Does an operation for a seat.
 fn write<J: Naming>(desk: &mut Desk<J>, seat: &mut Seat<J>, op: Op, now: u64) -> Reply<Shared>
-    ensures answered { IsAnsweredOn desk.old desk.new seat.old seat.new (Ok (writes (ask_of op))) now (answer_of shared_text result) }
+    ensures answered { IsAnsweredOn desk.old desk.new seat.old seat.new (Ok (writes (op_view op))) now (reply_view shared_text result) }
     ensures rest { KeepsRest desk.old.hub desk.new.hub }
 {
     let success = success_of(&op);
@@ -61,7 +61,7 @@ fn answer_call<J: Naming>(
     call: Call,
     now: u64,
 ) -> Reply<Shared>
-    ensures answered { IsAnsweredOn desk.old desk.new seat.old seat.new (Ok (call_view call)) now (answer_of shared_text result) }
+    ensures answered { IsAnsweredOn desk.old desk.new seat.old seat.new (Ok (call_view call)) now (reply_view shared_text result) }
     ensures rest { KeepsRest desk.old.hub desk.new.hub }
 {
     match call {
@@ -80,8 +80,8 @@ fn answer_called<J: Naming>(
     called: Result<Call, Fault>,
     now: u64,
 ) -> Reply<Shared>
-    ensures answered { (asked : Result Asks Fault) → Gives call_view called asked
-        → IsAnsweredOn desk.old desk.new seat.old seat.new asked now (answer_of shared_text result) }
+    ensures answered { (asked : Result CallView Fault) → Gives call_view called asked
+        → IsAnsweredOn desk.old desk.new seat.old seat.new asked now (reply_view shared_text result) }
     ensures rest { KeepsRest desk.old.hub desk.new.hub }
 {
     match called {
@@ -97,8 +97,8 @@ pub(crate) fn answer_read<J: Naming>(
     called: Result<Call, Fault>,
     now: u64,
 ) -> Reply<Shared>
-    ensures answered { (asked : Result Asks Fault) → Gives call_view called asked
-        → IsAnsweredBy desk.old desk.new seat.old seat.new asked now (answer_of shared_text result) }
+    ensures answered { (asked : Result CallView Fault) → Gives call_view called asked
+        → IsAnsweredBy desk.old desk.new seat.old seat.new asked now (reply_view shared_text result) }
     ensures rest { KeepsRest desk.old.hub desk.new.hub }
 {
     // For the proof alone: what holds of every desk.
@@ -121,7 +121,7 @@ pub fn answer_on<J: Naming>(
     request: &Request,
     now: u64,
 ) -> Reply<Shared>
-    ensures answered { IsAnsweredBy desk.old desk.new seat.old seat.new (call request.now) now (answer_of shared_text result) }
+    ensures answered { IsAnsweredBy desk.old desk.new seat.old seat.new (call request.now) now (reply_view shared_text result) }
     ensures rest { KeepsRest desk.old.hub desk.new.hub }
 {
     answer_read(desk, seat, call_of(alloc, routes, request), now)

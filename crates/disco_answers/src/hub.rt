@@ -1,9 +1,9 @@
 //! Answers over a hub.
 ghost use Rattle.std.specs.Prelude.{◌≡◌, Ok};
 ghost use Rattle.disco_hub.specs.Transitions.{KeepsRest};
-ghost use Rattle.disco_message.specs.ReplyText.{answer_of};
+ghost use Rattle.disco_message.specs.ReplyText.{reply_view};
 ghost use Rattle.disco_calls.specs.Calls.{call, loads, call_view, shows, shows_id, writes};
-ghost use Rattle.disco_registry.specs.Op.{ask_of};
+ghost use Rattle.disco_registry.specs.Op.{op_view};
 ghost use Rattle.disco_answers.specs.Replies.{IsAnswered, shared_text};
 
 use crate::replies::{lacking, refused, showing, success_of, wrote};
@@ -19,7 +19,7 @@ use std::alloc::Global;
 
 /// Serves the document of a key.
 fn load(hub: &mut Hub, key: &DocKey, now: u64) -> Reply<Shared>
-    ensures answered { IsAnswered hub.old hub.new (Ok (loads key.now)) now (answer_of shared_text result) }
+    ensures answered { IsAnswered hub.old hub.new (Ok (loads key.now)) now (reply_view shared_text result) }
     ensures rest { KeepsRest hub.old hub.new }
 {
     showing(hub.load(key))
@@ -27,7 +27,7 @@ fn load(hub: &mut Hub, key: &DocKey, now: u64) -> Reply<Shared>
 
 /// Serves the document of an instance.
 fn instance(hub: &mut Hub, key: &Key, form: Form, now: u64) -> Reply<Shared>
-    ensures answered { IsAnswered hub.old hub.new (Ok (shows key.now form)) now (answer_of shared_text result) }
+    ensures answered { IsAnswered hub.old hub.new (Ok (shows key.now form)) now (reply_view shared_text result) }
     ensures same { hub.new ≡ hub.old }
 {
     showing(hub.instance(key, form))
@@ -35,7 +35,7 @@ fn instance(hub: &mut Hub, key: &Key, form: Form, now: u64) -> Reply<Shared>
 
 /// Serves the document of the instance of an id.
 fn by_id(hub: &mut Hub, id: &Text, form: Form, now: u64) -> Reply<Shared>
-    ensures answered { IsAnswered hub.old hub.new (Ok (shows_id id.now form)) now (answer_of shared_text result) }
+    ensures answered { IsAnswered hub.old hub.new (Ok (shows_id id.now form)) now (reply_view shared_text result) }
     ensures same { hub.new ≡ hub.old }
 {
     showing(hub.by_id(id.as_str(), form))
@@ -43,7 +43,7 @@ fn by_id(hub: &mut Hub, id: &Text, form: Form, now: u64) -> Reply<Shared>
 
 /// Does an operation.
 fn write(hub: &mut Hub, op: Op, now: u64) -> Reply<Shared>
-    ensures answered { IsAnswered hub.old hub.new (Ok (writes (ask_of op))) now (answer_of shared_text result) }
+    ensures answered { IsAnswered hub.old hub.new (Ok (writes (op_view op))) now (reply_view shared_text result) }
     ensures rest { KeepsRest hub.old hub.new }
 {
     let success = success_of(&op);
@@ -52,7 +52,7 @@ fn write(hub: &mut Hub, op: Op, now: u64) -> Reply<Shared>
 
 /// Does what is called for.
 fn answer_call(hub: &mut Hub, call: Call, now: u64) -> Reply<Shared>
-    ensures answered { IsAnswered hub.old hub.new (Ok (call_view call)) now (answer_of shared_text result) }
+    ensures answered { IsAnswered hub.old hub.new (Ok (call_view call)) now (reply_view shared_text result) }
     ensures rest { KeepsRest hub.old hub.new }
 {
     match call {
@@ -74,7 +74,7 @@ pub fn answer_hub(
     request: &Request,
     now: u64,
 ) -> Reply<Shared>
-    ensures answered { IsAnswered hub.old hub.new (call request.now) now (answer_of shared_text result) }
+    ensures answered { IsAnswered hub.old hub.new (call request.now) now (reply_view shared_text result) }
     ensures rest { KeepsRest hub.old hub.new }
 {
     match call_of(alloc, routes, request) {

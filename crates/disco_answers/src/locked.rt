@@ -3,8 +3,8 @@ ghost use Rattle.std.specs.Prelude.{◌≡◌, IfSome, Result};
 ghost use mathlib.Core.List.{IsPrefix};
 ghost use Rattle.disco_instance.specs.Instance.{Gives};
 ghost use Rattle.disco_values.specs.declared.fault.Fault.{Fault};
-ghost use Rattle.disco_message.specs.ReplyText.{answer_of};
-ghost use Rattle.disco_calls.specs.Calls.{Asks, call, call_view};
+ghost use Rattle.disco_message.specs.ReplyText.{reply_view};
+ghost use Rattle.disco_calls.specs.Calls.{CallView, call, call_view};
 ghost use Rattle.disco_answers.specs.Desks.{IsAnsweredBySome, IsLooked, IsLookOrCall};
 ghost use Rattle.disco_answers.specs.Replies.{shared_text};
 
@@ -22,8 +22,8 @@ use std::sync::{Mutex, MutexGuard, Wait};
 
 /// The document that is called for, where a look finds it.
 fn looked<J: Naming>(seat: &mut Seat<J>, called: &Result<Call, Fault>) -> Option<Reply<Shared>>
-    ensures looked { IfSome result (λ reply. (asked : Result Asks Fault) → Gives call_view called.now asked
-        → IsLooked seat.old seat.new asked (answer_of shared_text reply)) }
+    ensures looked { IfSome result (λ reply. (asked : Result CallView Fault) → Gives call_view called.now asked
+        → IsLooked seat.old seat.new asked (reply_view shared_text reply)) }
     ensures known { IsPrefix seat.old.known seat.new.known }
     ensures heard { seat.new.heard ≡ seat.old.heard }
     ensures count { seat.new.changes ≡ seat.old.changes }
@@ -45,8 +45,8 @@ fn answer_locked<J: Naming, R: Wait>(
     called: Result<Call, Fault>,
     now: u64,
 ) -> Reply<Shared>
-    ensures answered { (asked : Result Asks Fault) → Gives call_view called asked
-        → IsAnsweredBySome seat.old seat.new asked now (answer_of shared_text result) }
+    ensures answered { (asked : Result CallView Fault) → Gives call_view called asked
+        → IsAnsweredBySome seat.old seat.new asked now (reply_view shared_text result) }
     ensures known { IsPrefix seat.old.known seat.new.known }
 {
     let mut guard = desk.lock(rt);
@@ -67,7 +67,7 @@ pub fn answer<J: Naming, R: Wait>(
     request: &Request,
     now: u64,
 ) -> Reply<Shared>
-    ensures told { IsLookOrCall seat.old seat.new (call request.now) now (answer_of shared_text result) }
+    ensures told { IsLookOrCall seat.old seat.new (call request.now) now (reply_view shared_text result) }
     ensures known { IsPrefix seat.old.known seat.new.known }
 {
     let called = call_of(alloc, routes, request);

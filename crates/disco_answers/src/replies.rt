@@ -1,7 +1,7 @@
 //! Replies by what was done.
 ghost use Rattle.std.specs.Prelude.{◌≡◌, MatchResult};
-ghost use Rattle.disco_registry.specs.Op.{ask_of};
-ghost use Rattle.disco_message.specs.ReplyText.{answer_of};
+ghost use Rattle.disco_registry.specs.Op.{op_view};
+ghost use Rattle.disco_message.specs.ReplyText.{reply_view};
 ghost use Rattle.disco_answers.specs.Replies.{lacking, plain, refusal_answer, success_of, shared_text, with_document};
 
 use crate::shared::Shared;
@@ -14,7 +14,7 @@ use std::sync::Arc;
 
 /// The reply of a status alone.
 fn plain(status: StatusLine) -> Reply<Shared>
-    ensures { answer_of shared_text result ≡ plain status }
+    ensures { reply_view shared_text result ≡ plain status }
 {
     Reply {
         status,
@@ -26,14 +26,14 @@ fn plain(status: StatusLine) -> Reply<Shared>
 
 /// The reply to what is refused.
 pub(crate) fn refused(fault: Fault) -> Reply<Shared>
-    ensures { answer_of shared_text result ≡ refusal_answer fault }
+    ensures { reply_view shared_text result ≡ refusal_answer fault }
 {
     plain(refusal(fault))
 }
 
 /// The reply where a path has other methods.
 pub(crate) fn lacking(allow: Allow) -> Reply<Shared>
-    ensures { answer_of shared_text result ≡ lacking allow }
+    ensures { reply_view shared_text result ≡ lacking allow }
 {
     Reply {
         status: StatusLine::MethodNotAllowed,
@@ -45,7 +45,7 @@ pub(crate) fn lacking(allow: Allow) -> Reply<Shared>
 
 /// The reply to the load of a document, with the certificate of that.
 pub(crate) fn showing(loaded: Result<Arc<Payload, Global>, Fault>) -> Reply<Shared>
-    ensures { MatchResult loaded (λ d. answer_of shared_text result ≡ with_document d.value) (λ e. answer_of shared_text result ≡ refusal_answer e) }
+    ensures { MatchResult loaded (λ d. reply_view shared_text result ≡ with_document d.value) (λ e. reply_view shared_text result ≡ refusal_answer e) }
 {
     match loaded {
         Ok(payload) => Reply {
@@ -60,7 +60,7 @@ pub(crate) fn showing(loaded: Result<Arc<Payload, Global>, Fault>) -> Reply<Shar
 
 /// The status of an operation that was accepted.
 pub(crate) fn success_of(op: &Op) -> StatusLine
-    ensures { result ≡ success_of (ask_of op.now) }
+    ensures { result ≡ success_of (op_view op.now) }
 {
     match op {
         Op::Register(_) => StatusLine::NoContent,
@@ -70,7 +70,7 @@ pub(crate) fn success_of(op: &Op) -> StatusLine
 
 /// The reply to an operation, which has this status where it was accepted.
 pub(crate) fn wrote(applied: Result<Applied, Fault>, success: StatusLine) -> Reply<Shared>
-    ensures { MatchResult applied (λ _. answer_of shared_text result ≡ plain success) (λ e. answer_of shared_text result ≡ refusal_answer e) }
+    ensures { MatchResult applied (λ _. reply_view shared_text result ≡ plain success) (λ e. reply_view shared_text result ≡ refusal_answer e) }
 {
     match applied {
         Ok(_) => plain(success),

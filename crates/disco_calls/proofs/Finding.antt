@@ -7,11 +7,11 @@ use Rattle.disco_values.specs.declared.fault.Fault.TheVariants.{BadRequest}
 use Rattle.disco_message.specs.Asked.{RequestView}
 use Rattle.disco_routes.specs.Paths.{path_place}
 use Rattle.disco_routes.specs.declared.place.Place.{Place}
-use Rattle.disco_calls.specs.Calls.{Asks, call, called_in}
+use Rattle.disco_calls.specs.Calls.{CallView, call, called_in}
 use Rattle.disco_calls.specs.Methods.{method_of}
 use Rattle.disco_calls.specs.Query.{path_in, query_in}
 
-if_not : (b : Bool) (one other : Result Asks Fault) → (b ≡ true → ⊥) → cond b one other ≡ other
+if_not : (b : Bool) (one other : Result CallView Fault) → (b ≡ true → ⊥) → cond b one other ≡ other
 if_not true one other refute = absurd (refute refl)
 if_not false one other refute = refl
 

@@ -9,7 +9,7 @@ use Rattle.disco_values.specs.declared.form.Form.{Form}
 use Rattle.disco_values.specs.declared.key.Key.{Key}
 use Rattle.disco_message.specs.Asked.{RequestView}
 use Rattle.disco_message.specs.declared.status_line.Allow.{Allow}
-use Rattle.disco_registry.specs.Op.{Ask, ask_of, cancel, renew, set_status, drop_status, add_metadata}
+use Rattle.disco_registry.specs.Op.{OpView, op_view, cancel, renew, set_status, drop_status, add_metadata}
 use Rattle.disco_routes.specs.Paths.{path_place}
 use Rattle.disco_routes.specs.declared.place.Place.{Place}
 use Rattle.disco_routes.specs.declared.place.Place.TheVariants as place
@@ -29,26 +29,26 @@ use Rattle.disco_calls.specs.declared.method.Method.TheVariants.{Get, Post, Put,
 
 -- what is asked for: a document that readers may share, that of an instance, that of the instance of an id, an operation, or nothing, since the path
 -- has these methods alone
-pub data Asks : Type 0 where
-  loads : DocKey → Asks
-  shows : Key → Form → Asks
-  shows_id : List ℕ → Form → Asks
-  writes : Ask → Asks
-  lacks : Allow → Asks
+pub data CallView : Type 0 where
+  loads : DocKey → CallView
+  shows : Key → Form → CallView
+  shows_id : List ℕ → Form → CallView
+  writes : OpView → CallView
+  lacks : Allow → CallView
 
 -- a call as plain data
-abbrev pub call_view : Call → Asks
+abbrev pub call_view : Call → CallView
 call_view (calls.Load key) = loads key
 call_view (calls.Instance key form) = shows key form
 call_view (calls.ById id form) = shows_id id form
-call_view (calls.Write op) = writes (ask_of op)
+call_view (calls.Write op) = writes (op_view op)
 call_view (calls.Lacks allow) = lacks allow
 
-abbrev pub document : Query → Form → Result Asks Fault
+abbrev pub document : Query → Form → Result CallView Fault
 document q form = Ok (loads (record { query = q; form = form }))
 
 -- GET: the document of a place, in a form
-abbrev pub read_of : Place (List ℕ) → Form → Result Asks Fault
+abbrev pub read_of : Place (List ℕ) → Form → Result CallView Fault
 read_of place.Apps form = document query.Apps form
 read_of place.Delta form = document query.Delta form
 read_of (place.App app) form = document (query.App (in_upper_case app)) form
@@ -59,38 +59,38 @@ read_of (place.Id id) form = Ok (shows_id id form)
 read_of _ form = Err BadMethod
 
 -- GET, by a reader that takes JSON
-abbrev pub call_of_get : Place (List ℕ) → RequestView → Result Asks Fault
+abbrev pub call_of_get : Place (List ℕ) → RequestView → Result CallView Fault
 call_of_get place a = if takes_json a.fields then read_of place (form_of a.fields) else Err NotAcceptable
 
 -- POST, with a registration as its body
-abbrev pub post_of : Place (List ℕ) → List ℕ → Result Ask Fault
+abbrev pub post_of : Place (List ℕ) → List ℕ → Result OpView Fault
 post_of (place.App app) body = registers app (registration_of body)
 post_of _ body = Err BadMethod
 
 -- a change of status to the value of a query: one that isn't given is no status
-abbrev pub sets : Key → Option (List ℕ) → Result Ask Fault
+abbrev pub sets : Key → Option (List ℕ) → Result OpView Fault
 sets key None = Err BadStatus
 sets key (Some value) = Ok (set_status key value)
 
 -- PUT, with a query
-abbrev pub put_call : Place (List ℕ) → List ℕ → Result Ask Fault
+abbrev pub put_call : Place (List ℕ) → List ℕ → Result OpView Fault
 put_call (place.Instance app id) q = Ok (renew (key_named app id))
 put_call (place.Status app id) q = sets (key_named app id) (value_of q)
 put_call (place.Metadata app id) q = Ok (add_metadata (key_named app id) (entries_of_query q))
 put_call _ q = Err BadMethod
 
 -- DELETE, with a query
-abbrev pub delete_of : Place (List ℕ) → List ℕ → Result Ask Fault
+abbrev pub delete_of : Place (List ℕ) → List ℕ → Result OpView Fault
 delete_of (place.Instance app id) q = Ok (cancel (key_named app id))
 delete_of (place.Status app id) q = Ok (drop_status (key_named app id) (value_of q))
 delete_of _ q = Err BadMethod
 
-abbrev pub writing : Result Ask Fault → Result Asks Fault
+abbrev pub writing : Result OpView Fault → Result CallView Fault
 writing (Err e) = Err e
 writing (Ok ask) = Ok (writes ask)
 
 -- what a method asks for at a place
-abbrev pub call_by : Method → Place (List ℕ) → RequestView → List ℕ → Result Asks Fault
+abbrev pub call_by : Method → Place (List ℕ) → RequestView → List ℕ → Result CallView Fault
 call_by Get place a q = call_of_get place a
 call_by Post place a q = writing (post_of place a.body)
 call_by Put place a q = writing (put_call place q)
@@ -98,18 +98,18 @@ call_by Delete place a q = writing (delete_of place q)
 call_by Other place a q = Err BadMethod
 
 -- the same where the place's names are text
-abbrev pub call_with : Method → Option (Place (List ℕ)) → RequestView → List ℕ → Result Asks Fault
+abbrev pub call_with : Method → Option (Place (List ℕ)) → RequestView → List ℕ → Result CallView Fault
 call_with method None a q = Err BadRequest
 call_with method (Some place) a q = call_by method place a q
 
 -- what a method asks for at a place whose names are still encoded: the method is looked at first
-abbrev pub called : Method → Place (List ℕ) → RequestView → List ℕ → Result Asks Fault
+abbrev pub called : Method → Place (List ℕ) → RequestView → List ℕ → Result CallView Fault
 called method place a q = if lists_method (allow_of place) method then call_with method (decoded place) a q else Ok (lacks (allow_of place))
 
-abbrev pub called_in : Method → Option (Place (List ℕ)) → RequestView → List ℕ → Result Asks Fault
+abbrev pub called_in : Method → Option (Place (List ℕ)) → RequestView → List ℕ → Result CallView Fault
 called_in method None a q = Err NotFound
 called_in method (Some place) a q = called method place a q
 
 -- what a request asks for, or why it is refused
-abbrev pub call : RequestView → Result Asks Fault
+abbrev pub call : RequestView → Result CallView Fault
 call a = if is_utf8 (path_in a.target) then called_in (method_of a.method) (path_place (path_in a.target)) a (query_in a.target) else Err BadRequest

@@ -1,6 +1,6 @@
 //! From a request to what it asks for.
 ghost use Rattle.disco_instance.specs.Instance.{Gives};
-ghost use Rattle.disco_registry.specs.Op.{ask_of};
+ghost use Rattle.disco_registry.specs.Op.{op_view};
 ghost use Rattle.disco_routes.specs.Places.{place_view};
 ghost use Rattle.disco_calls.specs.Calls.{call, call_by, call_of_get, called, delete_of, post_of, put_call, read_of, call_view};
 
@@ -52,7 +52,7 @@ fn call_of_get(alloc: Global, place: Place<Text>, request: &Request) -> Result<C
 
 /// What a POST with a body asks for.
 fn post_of(alloc: Global, place: Place<Text>, body: &[u8]) -> Result<Op, Fault>
-    ensures { Gives ask_of result (post_of place body.now) }
+    ensures { Gives op_view result (post_of place body.now) }
 {
     match place {
         Place::App { app } => register(alloc, &app, body),
@@ -62,7 +62,7 @@ fn post_of(alloc: Global, place: Place<Text>, body: &[u8]) -> Result<Op, Fault>
 
 /// What a PUT with a query asks for.
 fn put_of(alloc: Global, place: Place<Text>, query: &[u8]) -> Result<Op, Fault>
-    ensures { Gives ask_of result (put_call place query.now) }
+    ensures { Gives op_view result (put_call place query.now) }
 {
     match place {
         Place::Instance { app, id } => renew(alloc, &app, id),
@@ -79,7 +79,7 @@ fn put_of(alloc: Global, place: Place<Text>, query: &[u8]) -> Result<Op, Fault>
 
 /// What a DELETE with a query asks for.
 fn delete_of(alloc: Global, place: Place<Text>, query: &[u8]) -> Result<Op, Fault>
-    ensures { Gives ask_of result (delete_of place query.now) }
+    ensures { Gives op_view result (delete_of place query.now) }
 {
     match place {
         Place::Instance { app, id } => cancel(alloc, &app, id),

@@ -26,7 +26,7 @@ use Rattle.disco_registry.specs.Accept.{Limits, accepts, change_asked, cancel_ac
 use Rattle.disco_queue.specs.Queue.{Queue}
 use Rattle.disco_queue.specs.Timed.{Timed}
 use Rattle.disco_registry.specs.Commit as commit
-use Rattle.disco_registry.specs.Op.{Ask, asked_key, register, cancel, renew, set_status, drop_status, add_metadata}
+use Rattle.disco_registry.specs.Op.{OpView, op_key, register, cancel, renew, set_status, drop_status, add_metadata}
 use Rattle.disco_registry.specs.Settle.{settle}
 use Rattle.disco_registry.specs.State as registry
 use Rattle.disco_core.specs.Past.{Past, duration_at, history, marks_after, nothing, renewals_after, with_change, with_done}
@@ -207,7 +207,7 @@ module _ (s : registry.RegistryState) (v w : Leases) (p : Past) (now : ℕ) (c :
       let follows = subst (λ (x : Option Entry). Moves x j renewal now v w) gone.change moves in
       out_mark k v w p.marks (subst (λ (x : Key). Sets x None v w) (own k gone.row gone.there) follows.leases) agree.marks
 
-  marks_on : (ask : Ask) → change_asked (limits_of s) (record_at s.held) (len s.held) ask now ≡ Ok c → Moves c (asked_key ask) renewal now v w → (q : Key) → mark_of (lease_at w q) ≡ get (marks_after p now ask) q
+  marks_on : (ask : OpView) → change_asked (limits_of s) (record_at s.held) (len s.held) ask now ≡ Ok c → Moves c (op_key ask) renewal now v w → (q : Key) → mark_of (lease_at w q) ≡ get (marks_after p now ask) q
   marks_on (register posted) is moves = comes_mark posted.key posted.key (registers (limits_of s) s.held posted now c (own posted.key) is) moves
   marks_on (cancel k) is moves = goes_mark k k (goes (record_at s.held k) now c is) moves
   marks_on (renew k) is moves = let r = renews (record_at s.held k) c is in goes_on_mark k r.0 r.1 (subst (λ (x : Option Entry). Moves x k renewal now v w) r.2 moves)
@@ -229,7 +229,7 @@ module _ (s : registry.RegistryState) (v w : Leases) (p : Past) (now : ℕ) (c :
       let goes = subst (λ (x : Option Entry). Moves x k renewal now v w) none moves in
       goes.renewals (has_lease r.lease.duration_secs (lease_at v k) (lasting k r there)) ∙ ap (λ x. counted_by x v.renewals) renewal_accepted
 
-  count_on : (ask : Ask) → change_asked (limits_of s) (record_at s.held) (len s.held) ask now ≡ Ok c → renewal ≡ is_renewal ask → Moves c (asked_key ask) renewal now v w → w.renewals ≡ renewals_after v.renewals ask
+  count_on : (ask : OpView) → change_asked (limits_of s) (record_at s.held) (len s.held) ask now ≡ Ok c → renewal ≡ is_renewal ask → Moves c (op_key ask) renewal now v w → w.renewals ≡ renewals_after v.renewals ask
   count_on (register posted) is renewal_is moves = let comes = registers (limits_of s) s.held posted now c (own posted.key) is in change_count (comes.row, Added) posted.key comes.change moves
   count_on (cancel k) is renewal_is moves = let gone = goes (record_at s.held k) now c is in change_count (cancelled_at gone.row gone.moment, Deleted) k gone.change moves
   count_on (renew k) is renewal_is moves = let r = renews (record_at s.held k) c is in renew_count k r.0 r.1 r.2 renewal_is moves
@@ -242,7 +242,7 @@ module _ (s : registry.RegistryState) (v w : Leases) (p : Past) (now : ℕ) (c :
   closed_on (Some e) k moves = moves.closed
 
   -- an operation closes no minute
-  same_closed : (most : ℕ) (ask : Ask) → p.closed ≡ (with_done most p now ask c).closed
+  same_closed : (most : ℕ) (ask : OpView) → p.closed ≡ (with_done most p now ask c).closed
   same_closed most ask = change_closed most c
     where
       change_closed : (most : ℕ) (o : Option Entry) → p.closed ≡ (with_change most p now o).closed
@@ -250,7 +250,7 @@ module _ (s : registry.RegistryState) (v w : Leases) (p : Past) (now : ℕ) (c :
       change_closed most (Some e) = refl
 
   -- the leases are those of what has happened with what was change_asked
-  pub leases_on : (most : ℕ) (ask : Ask) (k : Key) (t : registry.RegistryState) → registry.StandsFor t (history (with_done most p now ask c)) → AreLeased t.held w → accepts s ask now ≡ Ok c → k ≡ asked_key ask → renewal ≡ is_renewal ask → Moves c k renewal now v w
+  pub leases_on : (most : ℕ) (ask : OpView) (k : Key) (t : registry.RegistryState) → registry.StandsFor t (history (with_done most p now ask c)) → AreLeased t.held w → accepts s ask now ≡ Ok c → k ≡ op_key ask → renewal ≡ is_renewal ask → Moves c k renewal now v w
       → AreLeasesOf w (with_done most p now ask c)
   leases_on most ask k t after leased is key renewal_is moves =
       let does = left (limits_of s) s.version (change_asked (limits_of s) (record_at s.held) (len s.held) ask now) c is in
@@ -264,15 +264,15 @@ module _ (s : registry.RegistryState) (v w : Leases) (p : Past) (now : ℕ) (c :
 
 -- ---- a hub after what was asked
 
-longer : (most : ℕ) (p : Past) (now : ℕ) (ask : Ask) (c : Option Entry) → commit.appended (history p) c ≡ history (with_done most p now ask c)
+longer : (most : ℕ) (p : Past) (now : ℕ) (ask : OpView) (c : Option Entry) → commit.appended (history p) c ≡ history (with_done most p now ask c)
 longer most p now ask None = refl
 longer most p now ask (Some c) = sym (map-append (λ (t : Timed). t.0) p.timed ((c, now) ∷ []))
 
-remembers : (q : Queue) (most : ℕ) (p : Past) (now : ℕ) (ask : Ask) (c : Option Entry) → Remembers q (with_change most p now c) → Remembers q (with_done most p now ask c)
+remembers : (q : Queue) (most : ℕ) (p : Past) (now : ℕ) (ask : OpView) (c : Option Entry) → Remembers q (with_change most p now c) → Remembers q (with_done most p now ask c)
 remembers q most p now ask c is = record { kept = is.kept; base = is.base }
 
 -- a hub that has done what was ready stands for what has happened with it
-pub stands_on : (old new : CoreState) (ready : Prepared) (p : Past) (ask : Ask) (kept : Option Entry) → new.run ≡ old.run → IsFor old ready ask → CoreStandsFor old p → registry.StandsFor new.registry (commit.appended (history p) ready.change)
+pub stands_on : (old new : CoreState) (ready : Prepared) (p : Past) (ask : OpView) (kept : Option Entry) → new.run ≡ old.run → IsFor old ready ask → CoreStandsFor old p → registry.StandsFor new.registry (commit.appended (history p) ready.change)
     → Remembers new.queue (with_change old.queue.max p ready.moment kept) → kept ≡ ready.change → AreLeased new.registry.held new.leases
     → Moves ready.change ready.key ready.renewal ready.moment old.leases new.leases → CoreStandsFor new (with_done old.queue.max p ready.moment ask ready.change)
 stands_on old new ready p ask kept run_is is stands held recent kept_is leased moves =

@@ -133,13 +133,13 @@ few_taken old new c takes few = let l = ap len takes.held in let v = takes.versi
 -- what follows a change stays tied
 pub tied_after : (old new : RegistryState) (c : Option Entry) (t : Tally) (i : VipKeys) (v₀ v : Leases) (q₀ q : Queue) (w₀ w : KeptTexts) → len old.held ≤ old.version → AreLeased old.held v₀ → version q₀ ≡ old.version → Takes old c new → t ≡ tally_in (held_after old.held c)
     → IsIndexOf i (held_after old.held c) → (AreLeased old.held v₀ → AreLeased (held_after old.held c) v) → version q ≡ version_after (version q₀) c → AreWritten w₀ old.held → (AreWritten w₀ old.held → AreWritten w (held_after old.held c)) → IsTied new t i v q w
-tied_after old new c t i v₀ v q₀ q w₀ w few leased change_view takes counted indexed moves recent written follows = record {
+tied_after old new c t i v₀ v q₀ q w₀ w few leased said takes counted indexed moves recent written follows = record {
   counts = counted ∙ ap tally_in (sym takes.held);
   indexed = subst (λ m. IsIndexOf i m) (sym takes.held) indexed;
   leased = subst (λ m. AreLeased m v) (sym takes.held) (moves leased);
   written = subst (λ m. AreWritten w m) (sym takes.held) (follows written);
   few = few_taken old new c takes few;
-  follows = recent ∙ ap (λ n. version_after n c) change_view ∙ sym takes.version;
+  follows = recent ∙ ap (λ n. version_after n c) said ∙ sym takes.version;
 }
 
 -- what gets more places stays tied

@@ -12,7 +12,7 @@ use Rattle.disco_lease.specs.Leases.{counted, no_minute}
 use Rattle.disco_lease.specs.declared.minute.Minute.{Minute}
 use Rattle.disco_queue.specs.Base.{base_after_change, base_after_cleaning}
 use Rattle.disco_queue.specs.Timed.{Timed, changes}
-use Rattle.disco_registry.specs.Op.{Ask, register, cancel, renew, set_status, drop_status, add_metadata}
+use Rattle.disco_registry.specs.Op.{OpView, register, cancel, renew, set_status, drop_status, add_metadata}
 
 -- the number of the run, the accepted changes with their moments, how many leading ones the queue dropped, the mark of each lease, how many renewals
 -- were accepted since the last closing of a minute, and what that closing kept
@@ -42,7 +42,7 @@ abbrev pub duration_at : Past → Key → ℕ
 duration_at p k = option_map_or (λ r. r.lease.duration_secs * 1000) (get (registry_of (history p)) k) 0
 
 -- the marks after an accepted operation: of what registers it is now, of what is kept going one duration from now, and what is cancelled has none
-abbrev pub marks_after : Past → ℕ → Ask → FinMap key_cmp ℕ
+abbrev pub marks_after : Past → ℕ → OpView → FinMap key_cmp ℕ
 marks_after p now (register posted) = insert p.marks posted.key now
 marks_after p now (add_metadata k entries) = insert p.marks k now
 marks_after p now (renew k) = insert p.marks k (now + duration_at p k)
@@ -51,16 +51,16 @@ marks_after p now (drop_status k text) = insert p.marks k (now + duration_at p k
 marks_after p now (cancel k) = remove p.marks k
 
 -- a renewal counts one, and nothing else does
-abbrev pub renewals_after : ℕ → Ask → ℕ
+abbrev pub renewals_after : ℕ → OpView → ℕ
 renewals_after n (renew k) = counted n
 renewals_after n _ = n
 
 -- what has happened after an accepted operation at a moment, which made a change or none
-abbrev pub with_done : ℕ → Past → ℕ → Ask → Option Entry → Past
+abbrev pub with_done : ℕ → Past → ℕ → OpView → Option Entry → Past
 with_done most p now ask c = record (with_change most p now c) { marks = marks_after p now ask; renewals = renewals_after p.renewals ask }
 
 -- what has happened after an operation that was accepted, with its change if it made one, or that was refused
-abbrev pub after_ask : ℕ → Past → ℕ → Ask → Result (Option Entry) Fault → Past
+abbrev pub after_ask : ℕ → Past → ℕ → OpView → Result (Option Entry) Fault → Past
 after_ask most p now ask (Ok change) = with_done most p now ask change
 after_ask most p now ask (Err e) = p
 

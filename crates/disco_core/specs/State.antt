@@ -14,7 +14,7 @@ use Rattle.disco_queue.specs.Queue.{HasRoom, KeepsHistory, Queue}
 use Rattle.disco_registry.specs.Commit as commit
 use Rattle.disco_registry.specs.State as registry
 use Rattle.disco_registry.specs.Accept.{Limits, accepts, limits_of}
-use Rattle.disco_registry.specs.Op.{Ask, asked_key, renew}
+use Rattle.disco_registry.specs.Op.{OpView, op_key, renew}
 use Rattle.disco_core.specs.Past.{Past, history}
 use Rattle.disco_core.specs.Written.{HasTextsFor, IsSameWritten, OpensNoText, KeptTexts}
 use Rattle.disco_settings.specs.declared.settings.Settings.{Settings}
@@ -114,7 +114,7 @@ AddsNoPlaces old new = vips.KeepsVipPlaces new.vips old.vips × leases.KeepsPlac
     × (new.queue.places ≡ old.queue.places)
 
 -- whether an operation is a renewal
-abbrev pub is_renewal : Ask → Bool
+abbrev pub is_renewal : OpView → Bool
 is_renewal (renew k) = true
 is_renewal _ = false
 
@@ -130,7 +130,7 @@ abbrev pub IsCoreReady : CoreState → Prepared → Type 0
 IsCoreReady s r = commit.IsReady s.registry r.change × HasPlacesFor s.vips s.leases r.change × HasRoomFor s.queue r.change × HasTextsFor s.texts r.change
 
 -- what is ready is what was asked of the core, which accepts it
-pub record IsFor (s : CoreState) (r : Prepared) (ask : Ask) : Type 0 where
+pub record IsFor (s : CoreState) (r : Prepared) (ask : OpView) : Type 0 where
   pub accepted : accepts s.registry ask r.moment ≡ Ok r.change
-  pub key : r.key ≡ asked_key ask
+  pub key : r.key ≡ op_key ask
   pub renewal : r.renewal ≡ is_renewal ask

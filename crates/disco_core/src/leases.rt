@@ -2,7 +2,7 @@
 ghost use Rattle.std.specs.Prelude.{◌≡◌, None, Some};
 ghost use Rattle.disco_history.specs.Change.{key_of, change_view};
 ghost use Rattle.disco_lease.specs.Leases.{HasPlace, IsFilled, Sets, extended, lease_at, marked};
-ghost use Rattle.disco_registry.specs.Op.{ask_of};
+ghost use Rattle.disco_registry.specs.Op.{op_view};
 ghost use Rattle.disco_core.specs.Moves.{FollowsChange, GoesOn};
 ghost use Rattle.disco_core.specs.State.{is_renewal};
 
@@ -14,7 +14,7 @@ use disco_values::{Action, Key};
 
 /// Whether an operation is a renewal.
 pub(crate) fn is_renewal(op: &Op) -> bool
-    ensures { result ≡ is_renewal (ask_of op.now) }
+    ensures { result ≡ is_renewal (op_view op.now) }
 {
     matches!(op, Op::Renew(_))
 }

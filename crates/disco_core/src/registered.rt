@@ -15,7 +15,7 @@ ghost use Rattle.disco_queue.specs.Queue as recent;
 ghost use Rattle.disco_registry.specs.Accept.{MayRefuse, accepts};
 ghost use Rattle.disco_registry.specs.Commit as commit;
 ghost use Rattle.disco_registry.specs.Commit.{Takes, changes_properly, done_by, held_after};
-ghost use Rattle.disco_registry.specs.Op.{Ask, ask_of, asked_key};
+ghost use Rattle.disco_registry.specs.Op.{OpView, op_view, op_key};
 ghost use Rattle.disco_registry.specs.State as registry;
 ghost use Rattle.disco_documents.specs.Documents.{IsWritten, asked_by};
 ghost use Rattle.disco_query.specs.Query.{is_delta};
@@ -160,10 +160,10 @@ fn with_kept(
 /// Makes the registry ready for an operation. Refused as the operation is, and as `OutOfMemory`.
 fn accept(held: &mut Registry, op: Op, now: u64) -> Result<Ready, Fault>
     ensures same { registry.IsSameRegistry held.old held.new }
-    ensures ready { IfOk result (λ r. accepts held.old (ask_of op) now ≡ Ok r.change × commit.IsReady held.new r.change) }
+    ensures ready { IfOk result (λ r. accepts held.old (op_view op) now ≡ Ok r.change × commit.IsReady held.new r.change) }
     ensures moment { IfOk result (λ r. r.moment ≡ now) }
-    ensures asked { IfOk result (λ r. (r.key ≡ asked_key (ask_of op)) × (r.renewal ≡ is_renewal (ask_of op))) }
-    ensures refused { IfErr result (MayRefuse held.old (ask_of op) now) }
+    ensures asked { IfOk result (λ r. (r.key ≡ op_key (op_view op)) × (r.renewal ≡ is_renewal (op_view op))) }
+    ensures refused { IfErr result (MayRefuse held.old (op_view op) now) }
 {
     let renewal = is_renewal(&op);
     let key = op.key().clone()?;
@@ -336,10 +336,10 @@ impl Core {
     /// or a recent change stays that was not there.
     pub fn ready(&mut self, op: Op, now: u64) -> Result<Ready, Fault>
         ensures same { IsSameCore self.old self.new }
-        ensures ready { IfOk result (λ r. accepts self.old.registry (ask_of op) now ≡ Ok r.change × IsCoreReady self.new r) }
+        ensures ready { IfOk result (λ r. accepts self.old.registry (op_view op) now ≡ Ok r.change × IsCoreReady self.new r) }
         ensures moment { IfOk result (λ r. r.moment ≡ now) }
-        ensures asked { IfOk result (λ r. IsFor self.new r (ask_of op)) }
-        ensures refused { IfErr result (MayRefuse self.old.registry (ask_of op) now) }
+        ensures asked { IfOk result (λ r. IsFor self.new r (op_view op)) }
+        ensures refused { IfErr result (MayRefuse self.old.registry (op_view op) now) }
         ensures given_back { OnErr result (AddsNoPlaces self.old self.new) }
     {
         let ready = accept(&mut self.registry, op, now)?;
@@ -362,7 +362,7 @@ impl Core {
         ensures takes { Takes self.old.registry ready.change self.new.registry }
         ensures swept { IsSweptAfter self.old.registry.held ready.change self.new.vips self.new.leases }
         ensures empty { recent.AddsNoneEmpty self.old.queue self.new.queue }
-        ensures history { (p : Past) (ask : Ask) → IsFor self.old ready ask → CoreStandsFor self.old p
+        ensures history { (p : Past) (ask : OpView) → IsFor self.old ready ask → CoreStandsFor self.old p
             → CoreStandsFor self.new (with_done self.old.queue.max p ready.moment ask (done_by result)) }
         ensures rules { core_rules self.new ≡ core_rules self.old }
     {

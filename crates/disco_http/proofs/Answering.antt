@@ -4,7 +4,7 @@ use Rattle.std.proofs.lemmas.Bool.Decides.{nat_tests}
 use Rattle.std.proofs.lemmas.List.{map_push}
 use Rattle.disco_message.specs.declared.limits.Limits.{Limits}
 use Rattle.disco_message.specs.Asked as message
-use Rattle.disco_message.specs.ReplyText.{Answer, reply_text}
+use Rattle.disco_message.specs.ReplyText.{ReplyView, reply_text}
 use Rattle.disco_reader.specs.Requests.{TakesRequest}
 use Rattle.disco_http.specs.declared.serving.End.{End}
 use Rattle.disco_http.specs.declared.serving.End.TheVariants.{Closed, Limit, Fault}
@@ -16,18 +16,18 @@ use Rattle.disco_reader.proofs.Chunking.{joined-more, known_is}
 use Rattle.disco_http.proofs.Appended.{Appends-then, Appends-none}
 use Rattle.disco_http.proofs.Breaking.{written_one, written_then}
 
-chain-then : {S : Type 0} (answers : S → message.RequestView → Answer → S → Type 0) (old mid new : S) (asks more : List message.RequestView) (replies rs : List Answer) → Chain answers old asks replies mid → Chain answers mid more rs new → Chain answers old (asks ++ more) (replies ++ rs) new
+chain-then : {S : Type 0} (answers : S → message.RequestView → ReplyView → S → Type 0) (old mid new : S) (asks more : List message.RequestView) (replies rs : List ReplyView) → Chain answers old asks replies mid → Chain answers mid more rs new → Chain answers old (asks ++ more) (replies ++ rs) new
 chain-then answers old mid new [] more [] rs h k = rw (sym h) k
 chain-then answers old mid new (a ∷ asks) more (r ∷ replies) rs h k = (h.0, h.1, chain-then answers h.0 mid new asks more replies rs h.2 k)
 chain-then answers old mid new [] more (r ∷ replies) rs h k = elim h [ ]
 chain-then answers old mid new (a ∷ asks) more [] rs h k = elim h [ ]
 
-texts-shut : (replies rs : List Answer) (end : End) → is_last rs end ≡ false → texts (replies ++ rs) end ≡ open_texts replies ++ texts rs end
+texts-shut : (replies rs : List ReplyView) (end : End) → is_last rs end ≡ false → texts (replies ++ rs) end ≡ open_texts replies ++ texts rs end
 texts-shut [] rs end shut = refl
 texts-shut (r ∷ []) rs end shut = ap (λ b. reply_text r b ∷ texts rs end) shut
 texts-shut (r ∷ s ∷ replies) rs end shut = ap (λ xs. reply_text r false ∷ xs) (texts-shut (s ∷ replies) rs end shut)
 
-open-more : (replies : List Answer) (r : Answer) → bytes_in_chunks (open_texts (replies ++ r ∷ [])) ≡ bytes_in_chunks (open_texts replies) ++ reply_text r false
+open-more : (replies : List ReplyView) (r : ReplyView) → bytes_in_chunks (open_texts (replies ++ r ∷ [])) ≡ bytes_in_chunks (open_texts replies) ++ reply_text r false
 open-more replies r = ap bytes_in_chunks (map_push (λ r. reply_text r false) replies r) ∙ joined-more (open_texts replies) (reply_text r false)
 
 -- nothing is written behind a last reply
@@ -65,14 +65,14 @@ last_ask limits most stream now rest at asks a count end None few all takes stay
 one_more : (xs : List message.RequestView) (a : message.RequestView) (count : ℕ) → length xs ≡ count → length (xs ++ a ∷ []) ≡ count + 1
 one_more xs a count h = length-append xs (a ∷ []) ∙ ap (λ n. n + 1) h
 
-pub begun : {S : Type 0} (answers : S → message.RequestView → Answer → S → Type 0) (limits : Limits) (most : ℕ) (first : Option (List ℕ)) (old : S) (before : Option (List ℕ))
+pub begun : {S : Type 0} (answers : S → message.RequestView → ReplyView → S → Type 0) (limits : Limits) (most : ℕ) (first : Option (List ℕ)) (old : S) (before : Option (List ℕ))
     → IfSome first (λ stream. SoFar answers limits most stream old old before before first 0)
 begun answers limits most None old before = tt
 begun answers limits most (Some stream) old before =
     let all : most - 0 ≡ most = omega arith in
     ([], [], stream, refl, λ at more end h. subst (λ n. Requests limits n stream at more end) all h, refl, refl, Appends-none before)
 
-pub goes_on : {S : Type 0} (answers : S → message.RequestView → Answer → S → Type 0) (limits : Limits) (most : ℕ) (first : Option (List ℕ)) (old mid new : S) (before b c left : Option (List ℕ)) (next : Left) (count : ℕ) → count < most
+pub goes_on : {S : Type 0} (answers : S → message.RequestView → ReplyView → S → Type 0) (limits : Limits) (most : ℕ) (first : Option (List ℕ)) (old mid new : S) (before b c left : Option (List ℕ)) (next : Left) (count : ℕ) → count < most
     → IfSome first (λ stream. SoFar answers limits most stream old mid before b left count)
     → IfSome left (λ stream. Exchanged answers limits stream next mid new b c (count + 1 == most) Goes)
     → IfSome first (λ stream. SoFar answers limits most stream old new before c next.ahead (count + 1))
@@ -94,7 +94,7 @@ goes_on answers limits most (Some stream) old mid new before b c left next count
       rw (open-more replies r) (Appends-then before b c (bytes_in_chunks (open_texts replies)) (reply_text r false) so.7 x.4.2),
     )
 
-pub ends_with : {S : Type 0} (answers : S → message.RequestView → Answer → S → Type 0) (limits : Limits) (first : Option (List ℕ)) (old mid new : S) (before b c left : Option (List ℕ)) (next : Left) (count : ℕ) (at : End) → count < limits.requests
+pub ends_with : {S : Type 0} (answers : S → message.RequestView → ReplyView → S → Type 0) (limits : Limits) (first : Option (List ℕ)) (old mid new : S) (before b c left : Option (List ℕ)) (next : Left) (count : ℕ) (at : End) → count < limits.requests
     → IfSome first (λ stream. SoFar answers limits limits.requests stream old mid before b left count)
     → IfSome left (λ stream. Exchanged answers limits stream next mid new b c (count + 1 == limits.requests) (Last at))
     → IfSome first (λ stream. AnswersAll answers limits stream next old new before c (record { requests = count + 1; end = at }))
@@ -125,7 +125,7 @@ not_asked limits stream left (Fault f) h = refl
 not_asked limits stream left End.Asked h = elim h [ ]
 not_asked limits stream left Limit h = elim h [ ]
 
-pub stops_with : {S : Type 0} (answers : S → message.RequestView → Answer → S → Type 0) (limits : Limits) (first : Option (List ℕ)) (old mid new : S) (before b c left : Option (List ℕ)) (next : Left) (count : ℕ) (at : End)
+pub stops_with : {S : Type 0} (answers : S → message.RequestView → ReplyView → S → Type 0) (limits : Limits) (first : Option (List ℕ)) (old mid new : S) (before b c left : Option (List ℕ)) (next : Left) (count : ℕ) (at : End)
     → IfSome first (λ stream. SoFar answers limits limits.requests stream old mid before b left count)
     → IfSome left (λ stream. Exchanged answers limits stream next mid new b c (count + 1 == limits.requests) (Stops at))
     → IfSome first (λ stream. AnswersAll answers limits stream next old new before c (record { requests = count; end = at }))

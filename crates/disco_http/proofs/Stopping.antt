@@ -4,7 +4,7 @@ use Rattle.disco_values.specs.declared.fault.Fault.TheVariants.{ReadFailed, Writ
 use Rattle.disco_values.specs.declared.fault.Fault as fault
 use Rattle.disco_message.specs.declared.limits.Limits.{Limits}
 use Rattle.disco_message.specs.Asked as message
-use Rattle.disco_message.specs.ReplyText.{Answer, reply_text}
+use Rattle.disco_message.specs.ReplyText.{ReplyView, reply_text}
 use Rattle.disco_reader.specs.Requests.{HasNone, Refused}
 use Rattle.disco_reader.specs.Streams.{Came}
 use Rattle.disco_http.specs.declared.serving.End.TheVariants.{Fault}
@@ -19,7 +19,7 @@ other : Fault ReadFailed ≢ Fault WriteFailed
 other e = cc e
 
 -- a read failed
-pub read_failed : {S : Type 0} (answers : S → message.RequestView → Answer → S → Type 0) (limits : Limits) (first : Option (List ℕ)) (left : Left) (old : S) (before : Option (List ℕ)) (last : Bool)
+pub read_failed : {S : Type 0} (answers : S → message.RequestView → ReplyView → S → Type 0) (limits : Limits) (first : Option (List ℕ)) (left : Left) (old : S) (before : Option (List ℕ)) (last : Bool)
     → IfSome first (λ stream. Came (HasNone limits) stream left.source) → IfSome first (λ stream. Exchanged answers limits stream left old old before before last (Stops (Fault ReadFailed)))
 read_failed answers limits None left old before last came = tt
 read_failed answers limits (Some stream) left old before last came = (Fault ReadFailed, refl, came, inl (refl, other, Appends-none before))
@@ -39,7 +39,7 @@ by_reply ReadFailed read = absurd (read refl)
 by_reply f read = refl
 
 -- a request was refused
-pub refused_stops : {S : Type 0} (answers : S → message.RequestView → Answer → S → Type 0) (limits : Limits) (first : Option (List ℕ)) (left : Left) (old : S) (before after : Option (List ℕ)) (last : Bool) (f : fault.Fault) (step : Step)
+pub refused_stops : {S : Type 0} (answers : S → message.RequestView → ReplyView → S → Type 0) (limits : Limits) (first : Option (List ℕ)) (left : Left) (old : S) (before after : Option (List ℕ)) (last : Bool) (f : fault.Fault) (step : Step)
     → f ≢ ReadFailed → f ≢ WriteFailed → IfSome first (Refused limits f) → RefusesRequest before after f step → IfSome first (λ stream. Exchanged answers limits stream left old old before after last step)
 refused_stops answers limits None left old before after last f step read wrote refused stopped = tt
 refused_stops answers limits (Some stream) left old before after last f Goes read wrote refused stopped = elim stopped [ ]

@@ -5,7 +5,7 @@ use Rattle.disco_values.specs.declared.fault.Fault.TheVariants.{WriteFailed}
 use Rattle.disco_values.specs.declared.fault.Fault as fault
 use Rattle.disco_message.specs.declared.limits.Limits.{Limits}
 use Rattle.disco_message.specs.Asked as message
-use Rattle.disco_message.specs.ReplyText.{Answer, reply_text}
+use Rattle.disco_message.specs.ReplyText.{ReplyView, reply_text}
 use Rattle.disco_reader.specs.Chunks.{bytes_in_chunks}
 use Rattle.disco_reader.specs.Requests.{TakesRequest}
 use Rattle.disco_http.specs.declared.serving.End.{End}
@@ -32,11 +32,11 @@ WrittenOne at end before after text = ((at ≡ end) × (at ≢ Fault WriteFailed
     ⊎ ((at ≡ Fault WriteFailed) × AppendsProperFront before after text)
 
 -- a request was given to the service
-abbrev pub AnswersOne : {S : Type 0} → (S → message.RequestView → Answer → S → Type 0) → S → S → Option (List ℕ) → Option (List ℕ) → message.RequestView
+abbrev pub AnswersOne : {S : Type 0} → (S → message.RequestView → ReplyView → S → Type 0) → S → S → Option (List ℕ) → Option (List ℕ) → message.RequestView
     → Bool → Step → Type 0
-AnswersOne answers old new before after a last Goes = (r : Answer) × answers old a r new × Appends before after (reply_text r false)
+AnswersOne answers old new before after a last Goes = (r : ReplyView) × answers old a r new × Appends before after (reply_text r false)
     × (end_behind a.closes last ≡ None)
-AnswersOne answers old new before after a last (Last at) = (r : Answer) × (end : End) × answers old a r new × Closing (end_behind a.closes last) end
+AnswersOne answers old new before after a last (Last at) = (r : ReplyView) × (end : End) × answers old a r new × Closing (end_behind a.closes last) end
     × WrittenOne at end before after (reply_text r (is_last [] end))
 AnswersOne answers old new before after a last (Stops at) = ⊥
 
@@ -47,7 +47,7 @@ RefusesRequest before after f (Last at) = ⊥
 RefusesRequest before after f (Stops at) = WrittenOne at (Fault f) before after (reply_text (refused f) true)
 
 -- a request was read and answered, or there was none
-abbrev pub Exchanged : {S : Type 0} → (S → message.RequestView → Answer → S → Type 0) → Limits → List ℕ → Left → S → S → Option (List ℕ) → Option (List ℕ)
+abbrev pub Exchanged : {S : Type 0} → (S → message.RequestView → ReplyView → S → Type 0) → Limits → List ℕ → Left → S → S → Option (List ℕ) → Option (List ℕ)
     → Bool → Step → Type 0
 Exchanged answers limits stream left old new before after last (Stops at) = (end : End) × (new ≡ old) × EndsStream limits stream left end
     × Written at end before after (end_texts end)
@@ -56,14 +56,14 @@ Exchanged answers limits stream left old new before after last step =
     × AnswersOne answers old new before after a last step
 
 -- the texts of replies behind which others come
-abbrev pub open_texts : List Answer → List (List ℕ)
+abbrev pub open_texts : List ReplyView → List (List ℕ)
 open_texts replies = map (λ r. reply_text r false) replies
 
 -- After so many answered requests: what stands before them with what stands ahead is what stands in the stream
-abbrev pub SoFar : {S : Type 0} → (S → message.RequestView → Answer → S → Type 0) → Limits → ℕ → List ℕ → S → S → Option (List ℕ) → Option (List ℕ)
+abbrev pub SoFar : {S : Type 0} → (S → message.RequestView → ReplyView → S → Type 0) → Limits → ℕ → List ℕ → S → S → Option (List ℕ) → Option (List ℕ)
     → Option (List ℕ) → ℕ → Type 0
 SoFar answers limits most stream old new before after left count =
-    (asks : List message.RequestView) × (replies : List Answer) × (now : List ℕ)
+    (asks : List message.RequestView) × (replies : List ReplyView) × (now : List ℕ)
     × (left ≡ Some now)
     × ((at : Left) (more : List message.RequestView) (end : End) → Requests limits (most - count) now at more end
     → Requests limits most stream at (asks ++ more) end)

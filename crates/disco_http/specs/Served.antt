@@ -5,7 +5,7 @@ use Rattle.disco_values.specs.declared.fault.Fault.TheVariants.{ReadFailed, Writ
 use Rattle.disco_values.specs.declared.fault.Fault as fault
 use Rattle.disco_message.specs.declared.limits.Limits.{Limits}
 use Rattle.disco_message.specs.Asked as message
-use Rattle.disco_message.specs.ReplyText.{Answer, reply_text}
+use Rattle.disco_message.specs.ReplyText.{ReplyView, reply_text}
 use Rattle.disco_message.specs.StatusLine.{refusal}
 use Rattle.disco_reader.specs.Chunks.{bytes_in_chunks}
 use Rattle.disco_reader.specs.Requests.{HasNone, TakesRequest, Refused}
@@ -50,14 +50,14 @@ Requests limits most stream left (a ∷ asks) end =
     (Requests limits (most - 1) rest left asks end) rest left asks end
 
 -- the answers answer the requests, each from the state that the one before left
-abbrev pub Chain : {S : Type 0} → (S → message.RequestView → Answer → S → Type 0) → S → List message.RequestView → List Answer → S → Type 0
+abbrev pub Chain : {S : Type 0} → (S → message.RequestView → ReplyView → S → Type 0) → S → List message.RequestView → List ReplyView → S → Type 0
 Chain answers old [] [] new = new ≡ old
 Chain {S} answers old (a ∷ asks) (r ∷ replies) new = (mid : S) × answers old a r mid × Chain answers mid asks replies new
 Chain answers old [] (r ∷ replies) new = ⊥
 Chain answers old (a ∷ asks) [] new = ⊥
 
 -- the answer to a request that was refused
-abbrev pub refused : fault.Fault → Answer
+abbrev pub refused : fault.Fault → ReplyView
 refused f = record { status = refusal f; allow = None; document = None; cert = None }
 
 -- what is written at the end, behind all replies: the refusal of a request, and nothing where a read or a write failed
@@ -70,7 +70,7 @@ end_texts (Fault WriteFailed) = []
 end_texts (Fault f) = reply_text (refused f) true ∷ []
 
 -- the connection ends behind a reply with no other behind it
-abbrev pub is_last : List Answer → End → Bool
+abbrev pub is_last : List ReplyView → End → Bool
 is_last [] Asked = true
 is_last [] Limit = true
 is_last [] Closed = false
@@ -78,7 +78,7 @@ is_last [] (Fault f) = false
 is_last (r ∷ replies) end = false
 
 -- the text of each reply, in order; the last one says where the connection ends behind it
-abbrev pub texts : List Answer → End → List (List ℕ)
+abbrev pub texts : List ReplyView → End → List (List ℕ)
 texts [] end = end_texts end
 texts (r ∷ replies) end = reply_text r (is_last replies end) ∷ texts replies end
 
@@ -100,10 +100,10 @@ Written at end before after texts = ((at ≡ end) × (at ≢ Fault WriteFailed) 
     ⊎ ((at ≡ Fault WriteFailed) × IsTrue (ends_by_reply end) × Breaks before after texts)
 
 -- the connection's replies are exactly the answers to the stream's requests
-abbrev pub AnswersAll : {S : Type 0} → (S → message.RequestView → Answer → S → Type 0) → Limits → List ℕ → Left → S → S → Option (List ℕ) → Option (List ℕ)
+abbrev pub AnswersAll : {S : Type 0} → (S → message.RequestView → ReplyView → S → Type 0) → Limits → List ℕ → Left → S → S → Option (List ℕ) → Option (List ℕ)
     → Served → Type 0
 AnswersAll answers limits stream left old new before after served =
-    (asks : List message.RequestView) × (replies : List Answer) × (end : End)
+    (asks : List message.RequestView) × (replies : List ReplyView) × (end : End)
     × Requests limits limits.requests stream left asks end
     × Chain answers old asks replies new
     × (length asks ≡ served.requests)

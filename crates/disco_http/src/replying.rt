@@ -2,7 +2,7 @@
 ghost use Rattle.std.specs.Prelude.{◌≡◌, is_err, IfErr, IsFalse, OnOk, OnErr, length, option_map};
 ghost use Rattle.std.specs.Io.KnownBytes.{Appends};
 ghost use Rattle.disco_values.specs.declared.fault.Fault.TheVariants.{WriteFailed};
-ghost use Rattle.disco_message.specs.ReplyText.{answer_of, reply_text, reply_body};
+ghost use Rattle.disco_message.specs.ReplyText.{reply_view, reply_text, reply_body};
 ghost use Rattle.disco_reader.specs.Causes.{Raises};
 ghost use Rattle.disco_http.specs.Sinks.{AppendsProperFront, is_writer_spent, sink_of};
 
@@ -57,9 +57,9 @@ fn send_reply<W: Sink, D: Document>(
     last: bool,
 ) -> Result<(), Failed>
     ensures written { OnOk result (Appends (W.contents (sink_of writer.old)) (W.contents (sink_of writer.new))
-        (reply_text (answer_of D.content reply.now) last)) }
+        (reply_text (reply_view D.content reply.now) last)) }
     ensures front { OnErr result (AppendsProperFront (W.contents (sink_of writer.old)) (W.contents (sink_of writer.new))
-        (reply_text (answer_of D.content reply.now) last)) }
+        (reply_text (reply_view D.content reply.now) last)) }
     ensures cause { OnErr result (Raises (W.failed (sink_of writer.old)) (W.failed (sink_of writer.new))) }
     ensures none_failed { OnOk result (W.failed (sink_of writer.new) ≡ W.failed (sink_of writer.old)) }
     ensures spent { is_writer_spent writer.new ≡ is_writer_spent writer.old }
@@ -88,9 +88,9 @@ pub fn write_reply<W: Sink, D: Document>(
 ) -> Result<(), Fault>
     requires { IsFalse (is_writer_spent writer.old) }
     ensures written { OnOk result (Appends (W.contents (sink_of writer.old)) (W.contents (sink_of writer.new))
-        (reply_text (answer_of D.content reply.now) last)) }
+        (reply_text (reply_view D.content reply.now) last)) }
     ensures front { OnErr result (AppendsProperFront (W.contents (sink_of writer.old)) (W.contents (sink_of writer.new))
-        (reply_text (answer_of D.content reply.now) last)) }
+        (reply_text (reply_view D.content reply.now) last)) }
     ensures fault { IfErr result (λ fault. fault ≡ WriteFailed) }
     ensures cause { OnErr result (Raises (W.failed (sink_of writer.old)) (W.failed (sink_of writer.new))) }
     ensures none_failed { OnOk result (W.failed (sink_of writer.new) ≡ W.failed (sink_of writer.old)) }

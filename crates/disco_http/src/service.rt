@@ -1,6 +1,6 @@
 //! What answers requests.
 ghost use Rattle.disco_message.specs.Asked.{RequestView};
-ghost use Rattle.disco_message.specs.ReplyText.{Answer, answer_of};
+ghost use Rattle.disco_message.specs.ReplyText.{ReplyView, reply_view};
 
 use disco_message::{Document, Reply, Request};
 
@@ -10,9 +10,9 @@ pub trait Service {
     type Body: Document + Drop;
 
     // From the first state the reply answers what is asked, and leaves the second state.
-    ghost answers: { Self → RequestView → Answer → Self → Type 0 };
+    ghost answers: { Self → RequestView → ReplyView → Self → Type 0 };
 
     /// The reply to a request.
     fn call(&mut self, request: &Request) -> Reply<Self::Body>
-        ensures { answers self.old request.now (answer_of Self.Body.content result) self.new };
+        ensures { answers self.old request.now (reply_view Self.Body.content result) self.new };
 }

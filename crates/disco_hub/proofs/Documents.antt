@@ -22,7 +22,7 @@ use Rattle.disco_history.specs.Registry.{put_of, registry_of, mentions_of}
 use Rattle.disco_history.proofs.Sets.{get-said_reg}
 use Rattle.disco_history.proofs.Untouched.{untouched_law}
 use Rattle.disco_queue.specs.Timed.{Timed}
-use Rattle.disco_registry.specs.Op.{Ask}
+use Rattle.disco_registry.specs.Op.{OpView}
 use Rattle.disco_registry.specs.State as registry
 use Rattle.disco_documents.specs.Documents.{IsTrueFor, MeansFor, asked_by, hash_of, if_many, kind, meaning_for, mentioned, told}
 use Rattle.disco_query.specs.Query.{is_delta}
@@ -173,7 +173,7 @@ module _ (on : Bool) (p q : Past) (c : Entry) (old new : Docs) (forgets : Forget
   changed = record { keys = λ k d is. kept.keys k d (before k d is).1; served = served_on }
 
 -- what is kept after an operation
-pub docs_after : (on : Bool) (p : Past) (most now : ℕ) (ask : Ask) (o : Option Entry) (old new : Docs) → Forgets (get (registry_of (history p))) o old new → AreServable on old.docs p → AreServable on new.docs (with_done most p now ask o)
+pub docs_after : (on : Bool) (p : Past) (most now : ℕ) (ask : OpView) (o : Option Entry) (old new : Docs) → Forgets (get (registry_of (history p))) o old new → AreServable on old.docs p → AreServable on new.docs (with_done most p now ask o)
 docs_after on p most now ask None old new is kept = moved_on on new.docs p (with_done most p now ask None) refl refl (omega arith) (subst (λ (v : Docs). AreServable on v.docs p) (sym is) kept)
 docs_after on p most now ask (Some c) old new forgets kept =
     changed on p (with_done most p now ask (Some c)) c old new forgets refl (map-append (λ (t : Timed). t.0) p.timed ((c, now) ∷ [])) (omega arith) kept

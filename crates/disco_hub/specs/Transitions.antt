@@ -7,7 +7,7 @@ use Rattle.std.specs.FinMap.{get}
 use Rattle.disco_history.specs.Change.{Entry}
 use Rattle.disco_history.specs.Registry.{registry_of}
 use Rattle.disco_registry.specs.Accept.{MayRefuse, accepts}
-use Rattle.disco_registry.specs.Op.{Ask}
+use Rattle.disco_registry.specs.Op.{OpView}
 use Rattle.disco_lease.specs.declared.minute.Minute.{Minute}
 use Rattle.disco_query.specs.declared.key.DocKey.{DocKey}
 use Rattle.disco_cache.specs.declared.payload.Payload.{Payload}
@@ -30,14 +30,14 @@ pub record KeepsRest (old new : HubState) : Type 0 where
 
 -- an operation is accepted at a moment, with this change or none: it has happened then, no place of what it found stands empty, and just the kept
 -- documents that it names are dropped
-pub record Writes (old new : HubState) (ask : Ask) (now : ℕ) (change : Option Entry) : Type 0 where
+pub record Writes (old new : HubState) (ask : OpView) (now : ℕ) (change : Option Entry) : Type 0 where
   pub accepted : accepts old.core.registry ask now ≡ Ok change
   pub docs : (p : Past) → HubStandsFor old p → Forgets (get (registry_of (history p))) change old.docs new.docs
   pub history : (p : Past) → HubStandsFor old p → HubStandsFor new (with_done (rules_of old).queue p now ask change)
   pub swept : IsSweptAfter old.core.registry.held change new.core.vips new.core.leases
 
 -- an operation is refused at a moment: nothing has happened, no place is there that was not, and what was kept is
-pub record Declines (old new : HubState) (ask : Ask) (now : ℕ) (e : Fault) : Type 0 where
+pub record Declines (old new : HubState) (ask : OpView) (now : ℕ) (e : Fault) : Type 0 where
   pub cause : MayRefuse old.core.registry ask now e
   pub history : (p : Past) → HubStandsFor old p → HubStandsFor new p
   pub given_back : AddsNoPlaces old.core new.core

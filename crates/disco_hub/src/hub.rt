@@ -4,7 +4,7 @@ ghost use Rattle.std.specs.Prelude.{slice_get, true};
 ghost use Rattle.disco_values.specs.declared.fault.Fault.TheVariants.{NoRound, OutOfMemory};
 ghost use Rattle.disco_registry.specs.Accept.{MayRefuse, accepts};
 ghost use Rattle.disco_registry.specs.Commit.{Takes, changes_properly, done_by};
-ghost use Rattle.disco_registry.specs.Op.{Ask, ask_of};
+ghost use Rattle.disco_registry.specs.Op.{OpView, op_view};
 ghost use Rattle.disco_registry.specs.State as registry;
 ghost use Rattle.disco_query.specs.Query.{is_delta};
 ghost use Rattle.disco_core.specs.Past.{Past, history, taken_in, with_done};
@@ -95,10 +95,10 @@ impl Hub {
     /// that was not there.
     pub fn ready(&mut self, op: Op, now: u64) -> Result<Ready, Fault>
         ensures same { IsSameHub self.old self.new }
-        ensures ready { IfOk result (λ r. accepts self.old.core.registry (ask_of op) now ≡ Ok r.change × IsCoreReady self.new.core r) }
+        ensures ready { IfOk result (λ r. accepts self.old.core.registry (op_view op) now ≡ Ok r.change × IsCoreReady self.new.core r) }
         ensures moment { IfOk result (λ r. r.moment ≡ now) }
-        ensures asked { IfOk result (λ r. IsFor self.new.core r (ask_of op)) }
-        ensures refused { IfErr result (MayRefuse self.old.core.registry (ask_of op) now) }
+        ensures asked { IfOk result (λ r. IsFor self.new.core r (op_view op)) }
+        ensures refused { IfErr result (MayRefuse self.old.core.registry (op_view op) now) }
         ensures given_back { OnErr result (AddsNoPlaces self.old.core self.new.core) }
     {
         self.core.ready(op, now)
@@ -115,7 +115,7 @@ impl Hub {
         ensures swept { IsSweptAfter self.old.core.registry.held ready.change self.new.core.vips self.new.core.leases }
         ensures empty { AddsNoneEmpty self.old.core.queue self.new.core.queue }
         ensures docs { (p : Past) → HubStandsFor self.old p → Forgets (get (registry_of (history p))) ready.change self.old.docs self.new.docs }
-        ensures history { (p : Past) (ask : Ask) → IsFor self.old.core ready ask → HubStandsFor self.old p
+        ensures history { (p : Past) (ask : OpView) → IsFor self.old.core ready ask → HubStandsFor self.old p
             → HubStandsFor self.new (with_done (rules_of self.old).queue p ready.moment ask (done_by result)) }
         ensures rest { KeepsRest self.old self.new }
     {
@@ -131,9 +131,9 @@ impl Hub {
     /// What the registry refuses the operation as, and `OutOfMemory`. Places of vips and leases
     /// that it leaves empty are given back then too.
     pub fn write(&mut self, op: Op, now: u64) -> Result<Applied, Fault>
-        ensures done { IfOk result (λ a. Writes self.old self.new (ask_of op) now (done_by a)) }
+        ensures done { IfOk result (λ a. Writes self.old self.new (op_view op) now (done_by a)) }
         ensures proper { IfOk result (λ a. changes_properly a ≡ true) }
-        ensures refused { IfErr result (Declines self.old self.new (ask_of op) now) }
+        ensures refused { IfErr result (Declines self.old self.new (op_view op) now) }
         ensures rest { KeepsRest self.old self.new }
     {
         let ready = self.ready(op, now)?;

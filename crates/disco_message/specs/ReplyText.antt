@@ -9,15 +9,15 @@ use Rattle.disco_message.specs.declared.status_line.StatusLine.TheVariants.{NoCo
 use Rattle.disco_message.specs.StatusLine.{status_line, allowed}
 
 -- a reply as plain data: its status, what `Allow` lists, the bytes of its document, and the certificate of that
-pub record Answer : Type 0 where
+pub record ReplyView : Type 0 where
   pub status : StatusLine
   pub allow : Option Allow
   pub document : Option (List ℕ)
   pub cert : Option Cert
 
 -- the same of a reply whose document has these bytes
-abbrev pub answer_of : {D : Type 0} → (D → List ℕ) → Reply D → Answer
-answer_of bytes r = record { status = r.status; allow = r.allow; document = option_map bytes r.document; cert = r.cert }
+abbrev pub reply_view : {D : Type 0} → (D → List ℕ) → Reply D → ReplyView
+reply_view bytes r = record { status = r.status; allow = r.allow; document = option_map bytes r.document; cert = r.cert }
 
 -- a number in decimal digits
 abbrev pub number_text : ℕ → List ℕ
@@ -65,5 +65,5 @@ reply_body status None = []
 reply_body status (Some bytes) = bytes
 
 -- all bytes of a reply
-abbrev pub reply_text : Answer → Bool → List ℕ
+abbrev pub reply_text : ReplyView → Bool → List ℕ
 reply_text a last = reply_head a.status a.allow (option_map length a.document) a.cert last ++ reply_body a.status a.document

@@ -3,7 +3,7 @@ ghost use Rattle.std.specs.Prelude.{◌≡◌, IfOk, IfErr, Ok};
 ghost use Rattle.disco_instance.specs.Instance.{Gives};
 ghost use Rattle.disco_values.specs.declared.fault.Fault.TheVariants.{OutOfMemory};
 ghost use Rattle.disco_registry.specs.Op as asking;
-ghost use Rattle.disco_registry.specs.Op.{ask_of};
+ghost use Rattle.disco_registry.specs.Op.{op_view};
 ghost use Rattle.disco_wire.specs.Registration.{registration_of};
 ghost use Rattle.disco_operations.specs.Operations.{key_named, registers};
 
@@ -32,7 +32,7 @@ pub fn key_named(alloc: Global, app: &Text, id: Text) -> Result<Key, Fault>
 /// `BadJson` and `MissingField` where the body is no registration, `MismatchedApp` where it is one
 /// of another app, and `OutOfMemory`.
 pub fn register(alloc: Global, app: &Text, body: &[u8]) -> Result<Op, Fault>
-    ensures { Gives ask_of result (registers app.now (registration_of body.now)) }
+    ensures { Gives op_view result (registers app.now (registration_of body.now)) }
 {
     let posted = read_registration(alloc, body)?;
     if upper(alloc, app.as_str())? != posted.key.app {
@@ -47,7 +47,7 @@ pub fn register(alloc: Global, app: &Text, body: &[u8]) -> Result<Op, Fault>
 ///
 /// `OutOfMemory` alone.
 pub fn cancel(alloc: Global, app: &Text, id: Text) -> Result<Op, Fault>
-    ensures { Gives ask_of result (Ok (asking.cancel (key_named app.now id))) }
+    ensures { Gives op_view result (Ok (asking.cancel (key_named app.now id))) }
 {
     Ok(Op::Cancel(key_named(alloc, app, id)?))
 }
@@ -58,7 +58,7 @@ pub fn cancel(alloc: Global, app: &Text, id: Text) -> Result<Op, Fault>
 ///
 /// `OutOfMemory` alone.
 pub fn renew(alloc: Global, app: &Text, id: Text) -> Result<Op, Fault>
-    ensures { Gives ask_of result (Ok (asking.renew (key_named app.now id))) }
+    ensures { Gives op_view result (Ok (asking.renew (key_named app.now id))) }
 {
     Ok(Op::Renew(key_named(alloc, app, id)?))
 }
@@ -69,7 +69,7 @@ pub fn renew(alloc: Global, app: &Text, id: Text) -> Result<Op, Fault>
 ///
 /// `OutOfMemory` alone: the registry refuses a text that is no status.
 pub fn set_status(alloc: Global, app: &Text, id: Text, status: Text) -> Result<Op, Fault>
-    ensures { Gives ask_of result (Ok (asking.set_status (key_named app.now id) status)) }
+    ensures { Gives op_view result (Ok (asking.set_status (key_named app.now id) status)) }
 {
     Ok(Op::SetStatus(key_named(alloc, app, id)?, status))
 }
@@ -80,7 +80,7 @@ pub fn set_status(alloc: Global, app: &Text, id: Text, status: Text) -> Result<O
 ///
 /// `OutOfMemory` alone.
 pub fn drop_status(alloc: Global, app: &Text, id: Text, status: Option<Text>) -> Result<Op, Fault>
-    ensures { Gives ask_of result (Ok (asking.drop_status (key_named app.now id) status)) }
+    ensures { Gives op_view result (Ok (asking.drop_status (key_named app.now id) status)) }
 {
     Ok(Op::DropStatus(key_named(alloc, app, id)?, status))
 }
@@ -91,7 +91,7 @@ pub fn drop_status(alloc: Global, app: &Text, id: Text, status: Option<Text>) ->
 ///
 /// `OutOfMemory` alone.
 pub fn add_metadata(alloc: Global, app: &Text, id: Text, entries: Entries) -> Result<Op, Fault>
-    ensures { Gives ask_of result (Ok (asking.add_metadata (key_named app.now id) entries)) }
+    ensures { Gives op_view result (Ok (asking.add_metadata (key_named app.now id) entries)) }
 {
     Ok(Op::Metadata(key_named(alloc, app, id)?, entries))
 }

@@ -3,7 +3,7 @@ use Rattle.std.proofs.Common.{◌≡◌, ℕ, ◌+◌, List, [], ◌∷◌, ◌+
 use Rattle.std.proofs.lemmas.List.{map-append}
 use Rattle.std.specs.FinMap.{empty, len}
 use Rattle.disco_history.specs.Change.{Entry}
-use Rattle.disco_registry.specs.Op.{Ask}
+use Rattle.disco_registry.specs.Op.{OpView}
 use Rattle.disco_queue.specs.Timed.{Timed}
 use Rattle.disco_core.specs.Past.{Past, history, nothing, with_done}
 use Rattle.disco_core.proofs.Runs.{run_done}
@@ -31,7 +31,7 @@ noted_is None = refl
 noted_is (Some c) = refl
 
 -- the history has its change
-pub history_done : (most : ℕ) (p : Past) (now : ℕ) (ask : Ask) (o : Option Entry) → history (with_done most p now ask o) ≡ history p ++ changes_done o
+pub history_done : (most : ℕ) (p : Past) (now : ℕ) (ask : OpView) (o : Option Entry) → history (with_done most p now ask o) ≡ history p ++ changes_done o
 history_done most p now ask None = sym (append-nil (history p))
 history_done most p now ask (Some c) = map-append (λ (t : Timed). t.0) p.timed ((c, now) ∷ [])
 
@@ -59,14 +59,14 @@ module _ (printed : List (List Note)) (log : Logged) (hub hub' : HubState) (next
       (plain_kept log q [] run (same ∙ sym (append-nil (history kept.past))) stands rounds next_same (λ i. record { published = log.published; pending = sym (append-nil log.pending) i }))
 
   -- an accepted operation
-  pub written_kept : (log' : Logged) (most now : ℕ) (ask : Ask) (o : Option Entry) → ((p : Past) → HubStandsFor hub p → HubStandsFor hub' (with_done most p now ask o)) → hub'.rounds ≡ hub.rounds → next' ≡ next
+  pub written_kept : (log' : Logged) (most now : ℕ) (ask : OpView) (o : Option Entry) → ((p : Past) → HubStandsFor hub p → HubStandsFor hub' (with_done most p now ask o)) → hub'.rounds ≡ hub.rounds → next' ≡ next
       → log' ≡ record log { pending = log.pending ++ note_done o } → IsKept printed log' hub' next' (n + length (changes_done o))
   written_kept log' most now ask o stands rounds same is =
       plain_kept log' (with_done most kept.past now ask o) (changes_done o) (run_done most kept.past now ask o) (history_done most kept.past now ask o) (stands kept.past kept.levels.stands) rounds same
       (is ∙ (λ i. record { published = log.published; pending = log.pending ++ sym (noted_is o) i }))
 
   -- an accepted operation that makes no change
-  pub same_kept : (most now : ℕ) (ask : Ask) → ((p : Past) → HubStandsFor hub p → HubStandsFor hub' (with_done most p now ask None)) → hub'.rounds ≡ hub.rounds → next' ≡ next → IsKept printed log hub' next' n
+  pub same_kept : (most now : ℕ) (ask : OpView) → ((p : Past) → HubStandsFor hub p → HubStandsFor hub' (with_done most p now ask None)) → hub'.rounds ≡ hub.rounds → next' ≡ next → IsKept printed log hub' next' n
   same_kept most now ask stands rounds same =
       quiet_kept (with_done most kept.past now ask None) (run_done most kept.past now ask None) (history_done most kept.past now ask None ∙ append-nil (history kept.past)) (stands kept.past kept.levels.stands) rounds same
 

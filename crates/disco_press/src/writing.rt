@@ -1,7 +1,7 @@
 //! Writes, which note their changes.
 ghost use Rattle.std.specs.Prelude.{◌≡◌, ◌+◌, IfErr, IfOk, OnErr, length, true};
 ghost use Rattle.disco_registry.specs.Commit.{changes_properly, done_by};
-ghost use Rattle.disco_registry.specs.Op.{ask_of};
+ghost use Rattle.disco_registry.specs.Op.{op_view};
 ghost use Rattle.disco_core.specs.Past.{taken_in};
 ghost use Rattle.disco_hub.specs.Expiry.{Expires, cancelled};
 ghost use Rattle.disco_hub.specs.State.{rules_of};
@@ -24,11 +24,11 @@ impl<J: Naming> Desk<J> {
     /// As of [`disco_hub::Hub::write`]: what the registry refuses the operation as, and
     /// `OutOfMemory`. Nothing is noted then.
     pub fn write(&mut self, op: Op, now: u64) -> Result<Applied, Fault>
-        ensures done { IfOk result (λ a. Writes self.old.hub self.new.hub (ask_of op) now (done_by a)) }
+        ensures done { IfOk result (λ a. Writes self.old.hub self.new.hub (op_view op) now (done_by a)) }
         ensures proper { IfOk result (λ a. changes_properly a ≡ true) }
         ensures noted { IfOk result (λ a. Notes (note_done (done_by a)) self.old self.new) }
         ensures counted { IfOk result (λ a. CountsByNone (length (note_done (done_by a))) self.old self.new) }
-        ensures refused { IfErr result (Declines self.old.hub self.new.hub (ask_of op) now) }
+        ensures refused { IfErr result (Declines self.old.hub self.new.hub (op_view op) now) }
         ensures not_noted { OnErr result (NotesNothing self.old self.new) }
         ensures rest { KeepsRest self.old.hub self.new.hub }
     {
@@ -51,12 +51,12 @@ impl<J: Naming> Desk<J> {
     ///
     /// What [`Desk::write`] is refused as. Nothing is noted then, and the seat is as it was.
     pub fn write_as(&mut self, seat: &mut Seat<J>, op: Op, now: u64) -> Result<Applied, Fault>
-        ensures done { IfOk result (λ a. Writes self.old.hub self.new.hub (ask_of op) now (done_by a)) }
+        ensures done { IfOk result (λ a. Writes self.old.hub self.new.hub (op_view op) now (done_by a)) }
         ensures proper { IfOk result (λ a. changes_properly a ≡ true) }
         ensures noted { IfOk result (λ a. Notes (note_done (done_by a)) self.old self.new) }
         ensures counted { IfOk result (λ a. CountsBySeat (length (note_done (done_by a))) self.old self.new) }
         ensures count { IfOk result (λ a. seat.new ≡ record seat.old { changes = seat.old.changes + length (note_done (done_by a)) }) }
-        ensures refused { IfErr result (Declines self.old.hub self.new.hub (ask_of op) now) }
+        ensures refused { IfErr result (Declines self.old.hub self.new.hub (op_view op) now) }
         ensures not_noted { OnErr result (NotesNothing self.old self.new) }
         ensures not_counted { OnErr result (seat.new ≡ seat.old) }
         ensures rest { KeepsRest self.old.hub self.new.hub }

@@ -5,8 +5,8 @@ use Rattle.std.proofs.Math.Seq.{take-append-add, drop-append-le}
 use Rattle.std.proofs.lemmas.Bool.{cases_lt}
 use Rattle.httparse.specs.Grammar.{LineEnd, crlf, lf, print_end, print_blank, print_version, Field, print_field, print_section, HasNoSection, RequestHead, print_request, HasNoRequest, ResponseHead, print_reason, print_response, HasNoResponse, ChunkLine, print_extension, print_chunk_line, HasNoChunkLine}
 use Rattle.httparse.proofs.GrammarLemmas.{cons-append, print_request-append, print_response-append}
-use Rattle.disco_reader.specs.declared.looking.Part.{Part}
-use Rattle.disco_reader.specs.declared.looking.Part.TheVariants as part
+use Rattle.disco_reader.specs.declared.parsing.Part.{Part}
+use Rattle.disco_reader.specs.declared.parsing.Part.TheVariants as part
 use Rattle.disco_reader.specs.Found.{has_empty_line, has_end}
 use Rattle.disco_reader.specs.Parts.{HasNo}
 

@@ -7,10 +7,10 @@ use Rattle.httparse.specs.Grammar.{ChunkLine, Field, LineEnd, print_section, Rea
 use Rattle.httparse.specs.Spans.{IsRequestWithin, IsRequestOf, IsResponseWithin, IsResponseOf, IsChunkLineAt}
 use Rattle.httparse.specs.declared.spans.HeaderSpan.{HeaderSpan}
 use Rattle.disco_values.specs.declared.fault.Fault.{Fault}
-use Rattle.disco_reader.specs.declared.looking.Found.{Found}
-use Rattle.disco_reader.specs.declared.looking.Found.TheVariants as found
-use Rattle.disco_reader.specs.declared.looking.Part.{Part}
-use Rattle.disco_reader.specs.declared.looking.Part.TheVariants as part
+use Rattle.disco_reader.specs.declared.parsing.Found.{Found}
+use Rattle.disco_reader.specs.declared.parsing.Found.TheVariants as found
+use Rattle.disco_reader.specs.declared.parsing.Part.{Part}
+use Rattle.disco_reader.specs.declared.parsing.Part.TheVariants as part
 use Rattle.disco_values.specs.declared.fault.Fault.TheVariants.{OutOfMemory, HeadTooLarge, BadRequest, ReadFailed}
 use Rattle.disco_message.specs.declared.limits.Limits.{Limits}
 use Rattle.disco_message.specs.declared.framing.Framing.{Framing}

@@ -7,7 +7,7 @@ use Rattle.disco_message.specs.declared.limits.Limits.{Limits}
 use Rattle.disco_message.specs.declared.received.Extent.{Extent}
 use Rattle.disco_message.specs.declared.received.Extent.TheVariants.{Framed, UntilEnd}
 use Rattle.disco_message.specs.Received.{Received, received}
-use Rattle.disco_reader.specs.declared.looking.Part.TheVariants as part
+use Rattle.disco_reader.specs.declared.parsing.Part.TheVariants as part
 use Rattle.disco_reader.specs.Parts.{PartRefused}
 use Rattle.disco_reader.specs.Bodies.{ReadsBody, BodyRefused}
 

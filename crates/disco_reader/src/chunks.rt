@@ -6,7 +6,7 @@ ghost use Rattle.disco_values.specs.declared.fault.Fault.TheVariants.{ReadFailed
 ghost use Rattle.disco_message.specs.declared.framing.Framing.TheVariants.{Chunked};
 ghost use Rattle.disco_reader.specs.Causes.{Cause, is_of_reply};
 
-use crate::looking::{Found, Part};
+use crate::parsing::{Found, Part};
 use crate::reader::Reader;
 use crate::source::Source;
 use disco_values::Fault;
@@ -25,7 +25,7 @@ impl<R: Source> Reader<R> {
     ghost use Rattle.disco_reader.specs.Found.{HasNoChunks, SizeRefused, DataRefused, TrailerRefused, Turn};
     ghost use Rattle.disco_reader.specs.Parts.{HasNo};
     ghost use Rattle.disco_reader.specs.Streams.{ahead, Came};
-    ghost use Rattle.disco_reader.specs.declared.looking.Part.TheVariants.{SizeLine, Trailer};
+    ghost use Rattle.disco_reader.specs.declared.parsing.Part.TheVariants.{SizeLine, Trailer};
 
     /// Goes past the line in front of a chunk, and answers the chunk's size.
     fn read_size(&mut self) -> Result<u64, Fault>
@@ -40,7 +40,7 @@ impl<R: Source> Reader<R> {
     {
         match self.find(Part::SizeLine) {
             Ok(Some(Found::SizeLine(len, size))) => {
-                self.take(len);
+                self.consume(len);
                 Ok(size)
             }
             Ok(_) | Err(Fault::HeadTooLarge) => Err(Fault::BadRequest),
@@ -61,7 +61,7 @@ impl<R: Source> Reader<R> {
     {
         match self.find(Part::Trailer) {
             Ok(Some(Found::Trailer(len))) => {
-                self.take(len);
+                self.consume(len);
                 Ok(())
             }
             Ok(_) => Err(Fault::BadRequest),

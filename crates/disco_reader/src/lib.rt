@@ -4,7 +4,7 @@
 
 mod chunks;
 mod fill;
-mod looking;
+mod parsing;
 mod reader;
 mod reading;
 mod replies;

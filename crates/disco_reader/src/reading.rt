@@ -6,7 +6,7 @@ ghost use Rattle.disco_values.specs.declared.fault.Fault.TheVariants.{BadRequest
 ghost use Rattle.disco_message.specs.declared.framing.Framing.TheVariants.{Sized};
 ghost use Rattle.disco_reader.specs.Causes.{Cause, is_of_reply, is_of_request};
 
-use crate::looking::{Found, Part};
+use crate::parsing::{Found, Part};
 use crate::reader::Reader;
 use crate::source::{Source, Stage};
 use disco_message::{Framing, Head, HeadRoom, Request};
@@ -20,7 +20,7 @@ impl<R: Source> Reader<R> {
     ghost use Rattle.disco_reader.specs.Found.{HasNoBody, HeadRead, HeadRefused};
     ghost use Rattle.disco_reader.specs.Parts.{HasNo};
     ghost use Rattle.disco_reader.specs.Streams.{ahead, unread, Came};
-    ghost use Rattle.disco_reader.specs.declared.looking.Part.TheVariants as part;
+    ghost use Rattle.disco_reader.specs.declared.parsing.Part.TheVariants as part;
 
     /// What the head that was found says.
     fn copy_head(&self, room: HeadRoom, line: &RequestSpans) -> Result<Head, Fault>
@@ -51,7 +51,7 @@ impl<R: Source> Reader<R> {
             Some(Found::RequestHead(line)) => {
                 let room = mem::replace(&mut self.head, HeadRoom::new(alloc));
                 let head = self.copy_head(room, &line)?;
-                self.take(line.len);
+                self.consume(line.len);
                 Ok(Some(head))
             }
             _ => Ok(None),

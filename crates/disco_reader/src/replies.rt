@@ -7,7 +7,7 @@ ghost use Rattle.disco_values.specs.declared.fault.Fault.TheVariants.{BadRequest
 ghost use Rattle.disco_message.specs.declared.received.Extent.TheVariants.{UntilEnd};
 ghost use Rattle.disco_reader.specs.Causes.{Cause, is_of_reply};
 
-use crate::looking::{Found, Part};
+use crate::parsing::{Found, Part};
 use crate::reader::Reader;
 use crate::source::Source;
 use disco_message::{Extent, ReceivedHead};
@@ -27,7 +27,7 @@ impl<R: Source> Reader<R> {
     ghost use Rattle.disco_reader.specs.Parts.{HasNo};
     ghost use Rattle.disco_reader.specs.Replies.{ReadsExtent, ExtentRefused};
     ghost use Rattle.disco_reader.specs.Streams.{ahead, unread, Came};
-    ghost use Rattle.disco_reader.specs.declared.looking.Part.TheVariants as part;
+    ghost use Rattle.disco_reader.specs.declared.parsing.Part.TheVariants as part;
 
     /// What the head that was found says.
     fn copy_reply_head(&self, alloc: Global, line: &ResponseSpans) -> Result<ReceivedHead, Fault>
@@ -56,7 +56,7 @@ impl<R: Source> Reader<R> {
         match self.find(Part::ReplyHead)? {
             Some(Found::ReplyHead(line)) => {
                 let head = self.copy_reply_head(alloc, &line)?;
-                self.take(line.len);
+                self.consume(line.len);
                 Ok(head)
             }
             _ => Err(Fault::BadRequest),

@@ -8,7 +8,7 @@ ghost use Rattle.disco_reader.specs.Causes.{Cause, is_of_reply};
 ghost use Rattle.disco_reader.specs.Streams.{Came};
 
 use crate::fill::fill_from;
-use crate::looking::{Found, Part, look_at, may_have};
+use crate::parsing::{Found, Part, may_have, parse_at};
 use crate::reader::Reader;
 use crate::source::{Failed, Source};
 use disco_values::Fault;
@@ -20,7 +20,7 @@ impl<R: Source> Reader<R> {
     ghost use Rattle.disco_reader.specs.Streams.{ahead, unread};
 
     /// The part at the front of what is unread, if it is whole.
-    fn look(&mut self, part: Part) -> Result<Option<Found>, Fault>
+    fn parse(&mut self, part: Part) -> Result<Option<Found>, Fault>
         ensures fault { IfErr result (λ fault. IsTrue (is_of_reply fault)) }
         ensures looked { Looked self.old.limits.fields part (unread self.old) self.new.spans.items result }
         ensures ahead { Keeps (ahead R.remaining self.old) (ahead R.remaining self.new) }
@@ -28,7 +28,7 @@ impl<R: Source> Reader<R> {
         ensures same { (self.new.source ≡ self.old.source) × (self.new.start ≡ self.old.start) × (self.new.end ≡ self.old.end)
             × (self.new.limits ≡ self.old.limits) }
     {
-        look_at(part, &self.buffer[self.start..self.end], &mut self.spans)
+        parse_at(part, &self.buffer[self.start..self.end], &mut self.spans)
     }
 
     /// Reads until a part may be whole that what is unread doesn't have, at least once. False at the
@@ -76,7 +76,7 @@ impl<R: Source> Reader<R> {
         ensures none_failed { OnOk result (R.failed self.new.source ≡ R.failed self.old.source) }
     {
         loop {
-            if let Some(found) = self.look(part)? {
+            if let Some(found) = self.parse(part)? {
                 return Ok(Some(found));
             }
             if !self.more_for(part)? {
@@ -89,7 +89,7 @@ impl<R: Source> Reader<R> {
     }
 
     /// Goes past so many of the unread bytes.
-    pub(crate) fn take(&mut self, count: usize)
+    pub(crate) fn consume(&mut self, count: usize)
         requires { count ≤ self.old.end - self.old.start }
         ensures taken { Consumes (ahead R.remaining self.old) (ahead R.remaining self.new) (take count (unread self.old)) }
         ensures unread { unread self.new ≡ drop count (unread self.old) }
@@ -113,7 +113,7 @@ impl<R: Source> Reader<R> {
         ensures limits { self.new.limits ≡ self.old.limits }
     {
         body.extend_from_slice(&self.unread()[..count])?;
-        self.take(count);
+        self.consume(count);
         Ok(())
     }
 }

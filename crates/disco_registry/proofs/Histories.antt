@@ -11,7 +11,7 @@ use Rattle.disco_values.specs.Key.{key_cmp}
 use Rattle.disco_values.specs.declared.fault.Fault.{Fault}
 use Rattle.disco_values.specs.declared.key.Key.{Key}
 use Rattle.disco_registry.specs.Accept.{MayRefuse, accept, accept_after, accepts, limits_of}
-use Rattle.disco_registry.specs.Op.{Ask}
+use Rattle.disco_registry.specs.Op.{OpView}
 use Rattle.disco_registry.specs.declared.op.Applied.{Applied}
 use Rattle.disco_history.specs.Change.{Entry}
 use Rattle.disco_history.specs.Registry.{registry_of, mentions_of}
@@ -59,7 +59,7 @@ module _ (s : RegistryState) (h : List Entry) (stands : StandsFor s h) where
   pub len_after : len s.held ≡ len (registry_of h)
   len_after = ap len stands.held ∙ sym (len-reg h)
 
-  pub accepts_after : (ask : Ask) (now : ℕ) → accepts s ask now ≡ accept_after (limits_of s) h ask now
+  pub accepts_after : (ask : OpView) (now : ℕ) → accepts s ask now ≡ accept_after (limits_of s) h ask now
   accepts_after ask now = λ i. accept (limits_of s) (λ k. get_after k i) (len_after i) (stands.version i) ask now
 
   pub by_id_after : (id : List ℕ) → option_map (λ e. e.0) (find (is_of_id id) (values s.held)) ≡ by_id (registry_of h) id
@@ -67,7 +67,7 @@ module _ (s : RegistryState) (h : List Entry) (stands : StandsFor s h) where
       ap (λ (m : FinMap key_cmp Entry). option_map (λ e. e.0) (find (is_of_id id) (values m))) stands.held
       ∙ sym (found_first id (values (mentions_of h (registry_of h)))) ∙ ap (find (λ (r : Row). bytes_eq r.key.id id)) (sym (values-reg h))
 
-  pub gives_after : (ask : Ask) (now : ℕ) (r : Result Applied Fault) → IfOk r (λ a. accepts s ask now ≡ Ok (done_by a)) → IfErr r (MayRefuse s ask now)
+  pub gives_after : (ask : OpView) (now : ℕ) (r : Result Applied Fault) → IfOk r (λ a. accepts s ask now ≡ Ok (done_by a)) → IfErr r (MayRefuse s ask now)
       → Gives done_by r (accept_after (limits_of s) h ask now)
   gives_after ask now (Ok a) done refused = sym (accepts_after ask now) ∙ done
   gives_after ask now (Err e) done refused = λ other. sym (accepts_after ask now) ∙ refused other

@@ -14,7 +14,7 @@ use Rattle.disco_values.specs.declared.fault.Fault.TheVariants.{OutOfMemory, Bad
 use Rattle.disco_history.specs.Change.{Entry}
 use Rattle.disco_history.specs.Registry.{registry_of}
 use Rattle.disco_history.specs.Held.{record_at}
-use Rattle.disco_registry.specs.Op.{Ask, register, cancel, renew, set_status, drop_status, add_metadata}
+use Rattle.disco_registry.specs.Op.{OpView, register, cancel, renew, set_status, drop_status, add_metadata}
 use Rattle.disco_registry.specs.Settle.{settle}
 use Rattle.disco_registry.specs.State.{RegistryState}
 
@@ -61,7 +61,7 @@ metadata_added None entries now = Err NotFound
 metadata_added (Some r) entries now = Ok (Some (settle (Some r) (record r { metadata = with_entries r.metadata entries }) now, Added))
 
 -- the change that is asked for or none, or the first cause against it, by the record of each key and the number of records
-abbrev pub change_asked : Limits → (Key → Option Row) → ℕ → Ask → ℕ → Result (Option Entry) Fault
+abbrev pub change_asked : Limits → (Key → Option Row) → ℕ → OpView → ℕ → Result (Option Entry) Fault
 change_asked limits held count (register p) now =
     if is_new (held p.key) && not (nat_lt count (limits.instances)) then Err TooManyInstances else Ok (Some (settle (held p.key) p now, Added))
 change_asked limits held count (cancel k) now = cancel_accepted (held k) now
@@ -77,11 +77,11 @@ if_left limits version (Ok None) = Ok None
 if_left limits version (Ok (Some c)) = if nat_lt version (limits.versions) then Ok (Some c) else Err VersionsSpent
 
 -- what an operation does to these records at a version
-abbrev pub accept : Limits → (Key → Option Row) → ℕ → ℕ → Ask → ℕ → Result (Option Entry) Fault
+abbrev pub accept : Limits → (Key → Option Row) → ℕ → ℕ → OpView → ℕ → Result (Option Entry) Fault
 accept limits held count version ask now = if_left limits version (change_asked limits held count ask now)
 
 -- what it does after a history: to the history's registry
-abbrev pub accept_after : Limits → List Entry → Ask → ℕ → Result (Option Entry) Fault
+abbrev pub accept_after : Limits → List Entry → OpView → ℕ → Result (Option Entry) Fault
 accept_after limits h ask now = accept limits (get (registry_of h)) (len (registry_of h)) (length h) ask now
 
 -- the limits of a registry
@@ -89,9 +89,9 @@ abbrev pub limits_of : RegistryState → Limits
 limits_of s = record { versions = s.versions; instances = s.instances }
 
 -- what it does to a registry
-abbrev pub accepts : RegistryState → Ask → ℕ → Result (Option Entry) Fault
+abbrev pub accepts : RegistryState → OpView → ℕ → Result (Option Entry) Fault
 accepts s ask now = accept (limits_of s) (record_at s.held) (len s.held) s.version ask now
 
 -- memory may always be refused, any other fault comes only as the rules have it
-abbrev pub MayRefuse : RegistryState → Ask → ℕ → Fault → Type 0
+abbrev pub MayRefuse : RegistryState → OpView → ℕ → Fault → Type 0
 MayRefuse s ask now e = e ≢ OutOfMemory → accepts s ask now ≡ Err e

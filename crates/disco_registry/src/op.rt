@@ -23,11 +23,11 @@ pub enum Op {
 }
 
 impl Op {
-    ghost use Rattle.disco_registry.specs.Op.{ask_of, asked_key};
+    ghost use Rattle.disco_registry.specs.Op.{op_view, op_key};
 
     /// The key that it is about.
     pub fn key(&self) -> &Key
-        ensures { result.now ≡ asked_key (ask_of self.now) }
+        ensures { result.now ≡ op_key (op_view self.now) }
     {
         match self {
             Op::Register(posted) => &posted.key,

@@ -15,7 +15,7 @@ ghost use Rattle.disco_registry.specs.Accept.{MayRefuse, accept_after, accepts, 
 ghost use Rattle.disco_history.specs.Apps.{is_of_app, is_of_id};
 ghost use Rattle.disco_registry.specs.Commit.{IsPrepared, IsReady, Takes, changes_properly, done_by, appended, outcome};
 ghost use Rattle.disco_history.specs.Held.{entry_of, record_at, seen_record};
-ghost use Rattle.disco_registry.specs.Op.{ask_of, register, cancel, renew, set_status, drop_status, add_metadata};
+ghost use Rattle.disco_registry.specs.Op.{op_view, register, cancel, renew, set_status, drop_status, add_metadata};
 ghost use Rattle.disco_registry.specs.State.{IsSameRegistry, StandsFor, RegistryState};
 
 use crate::op::{Applied, Op};
@@ -250,8 +250,8 @@ impl Registry {
     /// What the operation is refused as, and `OutOfMemory`.
     pub fn ready(&mut self, op: Op, now: u64) -> Result<Ready, Fault>
         ensures same { IsSameRegistry self.old self.new }
-        ensures ready { IfOk result (λ r. accepts self.old (ask_of op) now ≡ Ok r × IsReady self.new r) }
-        ensures refused { IfErr result (MayRefuse self.old (ask_of op) now) }
+        ensures ready { IfOk result (λ r. accepts self.old (op_view op) now ≡ Ok r × IsReady self.new r) }
+        ensures refused { IfErr result (MayRefuse self.old (op_view op) now) }
     {
         self.seek(op.key());
         match op {
@@ -454,9 +454,9 @@ impl Registry {
     /// `BadStatus`, `NotFound`, `TooManyInstances` or `VersionsSpent`, the first of these whose
     /// cause holds, or `OutOfMemory`. Then no answer is changed.
     pub fn apply(&mut self, op: Op, now: u64) -> Result<Applied, Fault>
-        ensures done { IfOk result (λ a. accepts self.old (ask_of op) now ≡ Ok (done_by a)) }
-        ensures refused { IfErr result (MayRefuse self.old (ask_of op) now) }
-        ensures does { (h : List Entry) → StandsFor self.old h → Gives done_by result (accept_after (limits_of self.old) h (ask_of op) now) }
+        ensures done { IfOk result (λ a. accepts self.old (op_view op) now ≡ Ok (done_by a)) }
+        ensures refused { IfErr result (MayRefuse self.old (op_view op) now) }
+        ensures does { (h : List Entry) → StandsFor self.old h → Gives done_by result (accept_after (limits_of self.old) h (op_view op) now) }
         ensures proper { IfOk result (λ a. changes_properly a ≡ true) }
         ensures takes { Takes self.old (outcome result) self.new }
         ensures history { (h : List Entry) → StandsFor self.old h → StandsFor self.new (appended h (outcome result)) }

@@ -4,7 +4,7 @@ use Rattle.std.proofs.lemmas.Bool.{eq-eqb, eqb-true, ne_eqb}
 use Rattle.disco_values.specs.declared.fault.Fault.{Fault}
 use Rattle.disco_values.specs.declared.key.Key.{Key}
 use Rattle.disco_history.specs.Change.{Entry}
-use Rattle.disco_registry.specs.Op.{Ask, cancel}
+use Rattle.disco_registry.specs.Op.{OpView, cancel}
 use Rattle.disco_queue.specs.Timed.{Timed, changes}
 use Rattle.disco_hub.specs.Expiry.{after_next, cancel_of, cancelled}
 use Rattle.disco_core.specs.Past.{Past, after_ask, history, taken_in}
@@ -26,7 +26,7 @@ map_more : (ts : List Timed) (t : Timed) → changes (ts ++ t ∷ []) ≡ change
 map_more [] t = refl
 map_more (s ∷ ts) t = ap (λ cs. s.0 ∷ cs) (map_more ts t)
 
-ask_extends : (most : ℕ) (p : Past) (now : ℕ) (ask : Ask) (result : Result (Option Entry) Fault) → Extends (history p) (history (after_ask most p now ask result))
+ask_extends : (most : ℕ) (p : Past) (now : ℕ) (ask : OpView) (result : Result (Option Entry) Fault) → Extends (history p) (history (after_ask most p now ask result))
 ask_extends most p now ask (Ok (Some c)) = subst (Extends (history p)) (sym (map_more p.timed (c, now))) (extends_more (history p) c)
 ask_extends most p now ask (Ok None) = extends_same (history p)
 ask_extends most p now ask (Err e) = extends_same (history p)
@@ -61,7 +61,7 @@ pub past_extends : (rules : Rules) (p : Past) (what : Effect) (r : Reply) (b : B
 past_extends rules p what r true goes = extends_same (history p)
 past_extends rules p what r false goes = done_extends rules p what r goes
 
-ask_stays : (most : ℕ) (p : Past) (now : ℕ) (ask : Ask) (result : Result (Option Entry) Fault) → (after_ask most p now ask result).run ≡ p.run
+ask_stays : (most : ℕ) (p : Past) (now : ℕ) (ask : OpView) (result : Result (Option Entry) Fault) → (after_ask most p now ask result).run ≡ p.run
 ask_stays most p now ask (Ok c) = run_done most p now ask c
 ask_stays most p now ask (Err e) = refl
 

@@ -16,7 +16,7 @@ use Rattle.std.specs.declared.alloc.Global.{Global}
 use Rattle.std.specs.declared.sync.Arc.{Arc}
 use Rattle.disco_registry.specs.Accept.{accept_after, accepts}
 use Rattle.disco_registry.specs.Commit.{done_by}
-use Rattle.disco_registry.specs.Op.{Ask}
+use Rattle.disco_registry.specs.Op.{OpView}
 use Rattle.disco_registry.specs.declared.op.Applied.{Applied}
 use Rattle.disco_registry.specs.declared.op.Applied.TheVariants as applied
 use Rattle.disco_registry.proofs.Histories.{accepts_after}
@@ -38,32 +38,32 @@ use Rattle.disco_world.proofs.Turning.{plainly}
 use Rattle.disco_world.specs.declared.event.Reply.TheVariants.{Refused}
 
 -- what a hub does is done after all that it stands for
-at_history : (s : HubState) (p : Past) (ask : Ask) (now : ℕ) → HubStandsFor s p → accepts s.core.registry ask now ≡ accept_after (rules_of s).limits (history p) ask now
+at_history : (s : HubState) (p : Past) (ask : OpView) (now : ℕ) → HubStandsFor s p → accepts s.core.registry ask now ≡ accept_after (rules_of s).limits (history p) ask now
 at_history s p ask now stands = accepts_after s.core.registry (history p) stands.core.registry ask now
 
-gives : (old new : HubState) (p : Past) (ask : Ask) (now : ℕ) (r : Result Applied Fault) → HubStandsFor old p → IfOk r (λ a. Writes old new ask now (done_by a)) → IfErr r (Declines old new ask now) → Gives done_by r (done (rules_of old) p now (Ok ask))
+gives : (old new : HubState) (p : Past) (ask : OpView) (now : ℕ) (r : Result Applied Fault) → HubStandsFor old p → IfOk r (λ a. Writes old new ask now (done_by a)) → IfErr r (Declines old new ask now) → Gives done_by r (done (rules_of old) p now (Ok ask))
 gives old new p ask now (Ok a) stands done refused = sym (at_history old p ask now stands) ∙ done.accepted
 gives old new p ask now (Err e) stands done refused = λ other. sym (at_history old p ask now stands) ∙ refused.cause other
 
 -- the history is longer by its change
-one_longer : (most : ℕ) (p : Past) (now : ℕ) (ask : Ask) (c : Entry) → length (history (with_done most p now ask (Some c))) ≡ length (history p) + 1
+one_longer : (most : ℕ) (p : Past) (now : ℕ) (ask : OpView) (c : Entry) → length (history (with_done most p now ask (Some c))) ≡ length (history p) + 1
 one_longer most p now ask c =
     length-map (with_done most p now ask (Some c)).timed (λ (t : Timed). t.0) ∙ length-append p.timed ((c, now) ∷ []) ∙ ap (λ n. n + 1) (sym (length-map p.timed (λ (t : Timed). t.0)))
 
 -- what has happened after an operation with that result
-abbrev with_result : ℕ → Past → ℕ → Ask → Result Applied Fault → Past
+abbrev with_result : ℕ → Past → ℕ → OpView → Result Applied Fault → Past
 with_result most p now ask (Ok a) = with_done most p now ask (done_by a)
 with_result most p now ask (Err e) = p
 
-stands_after : (old new : HubState) (ask : Ask) (now : ℕ) (r : Result Applied Fault) → IfOk r (λ a. Writes old new ask now (done_by a)) → IfErr r (Declines old new ask now) → (p : Past) → HubStandsFor old p → HubStandsFor new (with_result (rules_of old).queue p now ask r)
+stands_after : (old new : HubState) (ask : OpView) (now : ℕ) (r : Result Applied Fault) → IfOk r (λ a. Writes old new ask now (done_by a)) → IfErr r (Declines old new ask now) → (p : Past) → HubStandsFor old p → HubStandsFor new (with_result (rules_of old).queue p now ask r)
 stands_after old new ask now (Ok a) done refused p stands = done.history p stands
 stands_after old new ask now (Err e) done refused p stands = refused.history p stands
 
 -- a refused operation leaves what has happened
-stays : (rules : Rules) (p : Past) (now : ℕ) (asked : Result Ask Fault) (f : Fault) → (f ≢ OutOfMemory → done rules p now asked ≡ Err f) → past_after rules p (writes now asked) (Refused f) ≡ p
+stays : (rules : Rules) (p : Past) (now : ℕ) (asked : Result OpView Fault) (f : Fault) → (f ≢ OutOfMemory → done rules p now asked ≡ Err f) → past_after rules p (writes now asked) (Refused f) ≡ p
 stays rules p now asked f refused = one (ran_out (Refused f)) refl
   where
-    same : (asked : Result Ask Fault) → done rules p now asked ≡ Err f → past_done rules p (writes now asked) (Refused f) ≡ p
+    same : (asked : Result OpView Fault) → done rules p now asked ≡ Err f → past_done rules p (writes now asked) (Refused f) ≡ p
     same (Ok ask) e = ap (after_ask rules.queue p now ask) e
     same (Err g) e = refl
 
@@ -71,7 +71,7 @@ stays rules p now asked f refused = one (ran_out (Refused f)) refl
     one true memory = refl
     one false memory = same asked (refused (λ same. let bad = sym memory ∙ ap (λ x. ran_out (Refused x)) same in cc))
 
-module _ (old new : HubState) (w : World) (now : ℕ) (ask : Ask) where
+module _ (old new : HubState) (w : World) (now : ℕ) (ask : OpView) where
   answer_by : (r : Result Applied Fault) → Gives done_by r (done (rules_of old) w.past now (Ok ask)) → HubStandsFor new (with_result (rules_of old).queue w.past now ask r) → IsAnswer (rules_of old) w (writes now (Ok ask)) (reply_to r new.core.registry.version)
   answer_by (Ok (applied.Changed c)) gives stands = (_, gives, stands.core.registry.version ∙ one_longer (rules_of old).queue w.past now ask _)
   answer_by (Ok applied.Same) gives stands = gives
@@ -86,14 +86,14 @@ module _ (old new : HubState) (w : World) (now : ℕ) (ask : Ask) where
 kept_on : (old new : HubState) → new.rounds ≡ old.rounds → new.docs ≡ old.docs → cache_of new ≡ cache_of old
 kept_on old new rounds docs = λ i. record { docs = docs i; rounds = rounds i }
 
-caches_by : (old new : HubState) (ask : Ask) (now : ℕ) (p : Past) (r : Result Applied Fault) (v : ℕ) → new.rounds ≡ old.rounds → Gives done_by r (done (rules_of old) p now (Ok ask)) → HubStandsFor old p
+caches_by : (old new : HubState) (ask : OpView) (now : ℕ) (p : Past) (r : Result Applied Fault) (v : ℕ) → new.rounds ≡ old.rounds → Gives done_by r (done (rules_of old) p now (Ok ask)) → HubStandsFor old p
     → IfOk r (λ a. Writes old new ask now (done_by a)) → IfErr r (Declines old new ask now) → Caches (rules_of old) p (writes now (Ok ask)) (reply_to r v) (cache_of old) (cache_of new)
 caches_by old new ask now p (Ok (applied.Changed c)) v rounds gives stands wrote refused =
     (subst (λ o. Forgets (get (registry_of (history p))) o old.docs new.docs) (sym (ap change_made gives)) (wrote.docs p stands), rounds)
 caches_by old new ask now p (Ok applied.Same) v rounds gives stands wrote refused = kept_on old new rounds (wrote.docs p stands)
 caches_by old new ask now p (Err e) v rounds gives stands wrote refused = kept_on old new rounds refused.docs
 
-pub does : (old new : HubState) (ask : Ask) (asked : Result Ask Fault) (now : ℕ) (r : Result Applied Fault) → asked ≡ Ok ask → new.rounds ≡ old.rounds → IfOk r (λ a. Writes old new ask now (done_by a)) → IfErr r (Declines old new ask now)
+pub does : (old new : HubState) (ask : OpView) (asked : Result OpView Fault) (now : ℕ) (r : Result Applied Fault) → asked ≡ Ok ask → new.rounds ≡ old.rounds → IfOk r (λ a. Writes old new ask now (done_by a)) → IfErr r (Declines old new ask now)
     → Performs old new (λ _. writes now asked) (reply_to r new.core.registry.version)
 does old new ask asked now r is rounds done refused = λ w stands.
     let gives = gives old new w.past ask now r stands done refused in

@@ -10,7 +10,7 @@ use Rattle.disco_history.specs.Change.{Entry}
 use Rattle.disco_history.specs.Query.{by_id}
 use Rattle.disco_history.specs.Registry.{registry_of}
 use Rattle.disco_registry.specs.Accept.{accept_after}
-use Rattle.disco_registry.specs.Op.{Ask, cancel, renew, set_status, drop_status, add_metadata}
+use Rattle.disco_registry.specs.Op.{OpView, cancel, renew, set_status, drop_status, add_metadata}
 use Rattle.disco_wire.specs.Registration.{registration_of}
 use Rattle.disco_operations.specs.Operations.{key_named, registers}
 use Rattle.disco_query.specs.declared.key.DocKey.{DocKey}
@@ -51,7 +51,7 @@ pub record World : Type 0 where
 -- for a document, if readers can see one of its kind; a document for a client, and one for a certified client; a look at a client's copy, and at a
 -- certified client's; a restart of the server in a run; nothing that can be run
 pub data Effect : Type 0 where
-  writes : ℕ → Result Ask Fault → Effect
+  writes : ℕ → Result OpView Fault → Effect
   loads : Result DocKey Fault → Effect
   cleans : ℕ → Effect
   closes : Effect
@@ -140,7 +140,7 @@ effect rules w (Take client event) = takes_any client (doc_of_event w.replies ev
 effect rules w (Certify client event) = certifies_any client (doc_of_event w.replies event)
 
 -- what an operation does at a moment after what has happened, where it is one: its change or none, or the first cause against it
-abbrev pub done : Rules → Past → ℕ → Result Ask Fault → Result (Option Entry) Fault
+abbrev pub done : Rules → Past → ℕ → Result OpView Fault → Result (Option Entry) Fault
 done rules p now (Err e) = Err e
 done rules p now (Ok ask) = accept_after rules.limits (history p) ask now
 

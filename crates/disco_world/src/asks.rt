@@ -2,7 +2,7 @@
 ghost use Rattle.std.specs.Prelude.{Ok};
 ghost use Rattle.disco_instance.specs.Instance.{Gives};
 ghost use Rattle.disco_registry.specs.Op as asking;
-ghost use Rattle.disco_registry.specs.Op.{ask_of};
+ghost use Rattle.disco_registry.specs.Op.{op_view};
 ghost use Rattle.disco_operations.specs.Operations.{key_named};
 
 use disco_operations as operations;
@@ -11,19 +11,19 @@ use disco_values::{Entries, Fault, Text};
 use std::alloc::Global;
 
 pub(crate) fn cancel(alloc: Global, app: &Text, id: &Text) -> Result<Op, Fault>
-    ensures { Gives ask_of result (Ok (asking.cancel (key_named app.now id.now))) }
+    ensures { Gives op_view result (Ok (asking.cancel (key_named app.now id.now))) }
 {
     operations::cancel(alloc, app, id.clone()?)
 }
 
 pub(crate) fn renew(alloc: Global, app: &Text, id: &Text) -> Result<Op, Fault>
-    ensures { Gives ask_of result (Ok (asking.renew (key_named app.now id.now))) }
+    ensures { Gives op_view result (Ok (asking.renew (key_named app.now id.now))) }
 {
     operations::renew(alloc, app, id.clone()?)
 }
 
 pub(crate) fn set_status(alloc: Global, app: &Text, id: &Text, status: &Text) -> Result<Op, Fault>
-    ensures { Gives ask_of result (Ok (asking.set_status (key_named app.now id.now) status.now)) }
+    ensures { Gives op_view result (Ok (asking.set_status (key_named app.now id.now) status.now)) }
 {
     operations::set_status(alloc, app, id.clone()?, status.clone()?)
 }
@@ -34,7 +34,7 @@ pub(crate) fn drop_status(
     id: &Text,
     status: &Option<Text>,
 ) -> Result<Op, Fault>
-    ensures { Gives ask_of result (Ok (asking.drop_status (key_named app.now id.now) status.now)) }
+    ensures { Gives op_view result (Ok (asking.drop_status (key_named app.now id.now) status.now)) }
 {
     operations::drop_status(alloc, app, id.clone()?, status.clone()?)
 }
@@ -45,7 +45,7 @@ pub(crate) fn add_metadata(
     id: &Text,
     entries: &Entries,
 ) -> Result<Op, Fault>
-    ensures { Gives ask_of result (Ok (asking.add_metadata (key_named app.now id.now) entries.now)) }
+    ensures { Gives op_view result (Ok (asking.add_metadata (key_named app.now id.now) entries.now)) }
 {
     operations::add_metadata(alloc, app, id.clone()?, entries.copy()?)
 }

@@ -5,7 +5,7 @@ ghost use Rattle.std.specs.FinMap.{empty};
 ghost use Rattle.disco_instance.specs.Instance.{Gives};
 ghost use Rattle.disco_values.specs.declared.fault.Fault.{Fault};
 ghost use Rattle.disco_values.specs.declared.fault.Fault.TheVariants.{OutOfMemory};
-ghost use Rattle.disco_registry.specs.Op.{Ask, ask_of};
+ghost use Rattle.disco_registry.specs.Op.{OpView, op_view};
 ghost use Rattle.disco_core.specs.Past.{nothing};
 ghost use Rattle.disco_core.specs.State.{rules};
 ghost use Rattle.disco_hub.specs.State.{HubStandsFor, rules_of};
@@ -262,7 +262,7 @@ fn showed(shown: Result<InstanceSummaries, Fault>) -> Reply
 
 /// Does the operation that an event asks for, if it asks for one.
 fn write(hub: &mut Hub, now: u64, op: Result<Op, Fault>) -> Reply
-    ensures does { (asked : Result Ask Fault) → Gives ask_of op asked → Performs hub.old hub.new (λ _. writes now asked) result }
+    ensures does { (asked : Result OpView Fault) → Gives op_view op asked → Performs hub.old hub.new (λ _. writes now asked) result }
     ensures rules { rules_of hub.new ≡ rules_of hub.old }
     ensures rounds { hub.new.rounds ≡ hub.old.rounds }
 {

@@ -1,7 +1,7 @@
 use Rattle.std.proofs.Common.{ℕ, List, Ok, Some, refl, subst}
 use Rattle.disco_instance.specs.Instance.{Gives}
 use Rattle.disco_registry.specs.Op as asking
-use Rattle.disco_registry.specs.Op.{ask_of}
+use Rattle.disco_registry.specs.Op.{op_view}
 use Rattle.disco_wire.specs.Registration.{registration_of}
 use Rattle.disco_world.specs.Events.{expires, looks, restarts, shows, shows_certified, writes}
 use Rattle.disco_operations.specs.Operations.{key_named, registers}
@@ -15,7 +15,7 @@ use Rattle.disco_world.proofs.runs.answer_step.Goals as goal
 
 pub returns-in-Register-clause-does : goal.returns-in-Register-clause-does
 returns-in-Register-clause-does c = λ w held levels.
-    let gives = subst (λ (b : List ℕ). Gives ask_of c.register.result (registers c.in-Register.app (registration_of b))) c.as_slice.ensures c.register.ensures in
+    let gives = subst (λ (b : List ℕ). Gives op_view c.register.result (registers c.in-Register.app (registration_of b))) c.as_slice.ensures c.register.ensures in
     rw c.in-Register.is (with_hub c.args.levels.now (record c.args.levels.now { hub = c.write.new.hub }) (holders c.args.clients.now) w (writes c.in-Register.now (registers c.in-Register.app (registration_of c.in-Register.json))) c.write.result refl refl held refl refl levels c.write.ensures.rounds refl refl (c.write.ensures.does (registers c.in-Register.app (registration_of c.in-Register.json)) gives w levels.levels.stands))
 
 pub returns-in-Cancel-clause-does : goal.returns-in-Cancel-clause-does

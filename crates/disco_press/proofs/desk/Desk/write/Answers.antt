@@ -1,7 +1,7 @@
 use Rattle.std.proofs.Common.{Some, refl, subst, arith}
 use Rattle.disco_history.specs.Change.{change_view}
 use Rattle.disco_registry.specs.Commit.{done_by}
-use Rattle.disco_registry.specs.Op.{ask_of}
+use Rattle.disco_registry.specs.Op.{op_view}
 use Rattle.disco_registry.specs.declared.op.Applied.{Applied}
 use Rattle.disco_hub.specs.State.{rules_of}
 use Rattle.disco_hub.specs.Transitions.{Writes}
@@ -18,12 +18,12 @@ invariant_of-self g c =
 pub invariant_of-self-in-Changed : goal.invariant_of-self-in-Changed
 invariant_of-self-in-Changed g c =
     let i = c.self.inside in
-    let done = subst (λ (a : Applied). Writes i.hub c.write.new.self (ask_of c.args.op) c.args.now (done_by a)) c.in-Changed.is c.in_ok-applied.ensures.done in
+    let done = subst (λ (a : Applied). Writes i.hub c.write.new.self (op_view c.args.op) c.args.now (done_by a)) c.in-Changed.is c.in_ok-applied.ensures.done in
     subst (λ n. IsKept i.snapshots c.change.new.self c.write.new.self i.next n) (omega (arith))
-    (written_kept i.snapshots i.log i.hub c.write.new.self i.next i.next _ c.self.invariant c.change.new.self (rules_of i.hub).queue c.args.now (ask_of c.args.op) (Some (change_view c.in-Changed.change)) done.history c.write.ensures.rest.rounds refl c.change.ensures.noted)
+    (written_kept i.snapshots i.log i.hub c.write.new.self i.next i.next _ c.self.invariant c.change.new.self (rules_of i.hub).queue c.args.now (op_view c.args.op) (Some (change_view c.in-Changed.change)) done.history c.write.ensures.rest.rounds refl c.change.ensures.noted)
 
 pub invariant_of-self-in-Same : goal.invariant_of-self-in-Same
 invariant_of-self-in-Same g c =
     let i = c.self.inside in
-    let done = subst (λ (a : Applied). Writes i.hub c.write.new.self (ask_of c.args.op) c.args.now (done_by a)) c.in-Same.is c.in_ok-applied.ensures.done in
-    same_kept i.snapshots i.log i.hub c.write.new.self i.next i.next _ c.self.invariant (rules_of i.hub).queue c.args.now (ask_of c.args.op) done.history c.write.ensures.rest.rounds refl
+    let done = subst (λ (a : Applied). Writes i.hub c.write.new.self (op_view c.args.op) c.args.now (done_by a)) c.in-Same.is c.in_ok-applied.ensures.done in
+    same_kept i.snapshots i.log i.hub c.write.new.self i.next i.next _ c.self.invariant (rules_of i.hub).queue c.args.now (op_view c.args.op) done.history c.write.ensures.rest.rounds refl

@@ -1,7 +1,7 @@
 use Rattle.std.proofs.Common.{rules}
 use Rattle.disco_message.specs.Heading.{heading}
 use Rattle.disco_reader.specs.Requests.{BeginsWithHead}
-use Rattle.disco_reader.specs.declared.looking.Part.TheVariants as part
+use Rattle.disco_reader.specs.declared.parsing.Part.TheVariants as part
 use Rattle.disco_reader.specs.Parts.{PartRefused}
 use Rattle.disco_reader.specs.Streams.{unread}
 use Rattle.disco_reader.proofs.Heads.{request_here, head_read, head_refused}

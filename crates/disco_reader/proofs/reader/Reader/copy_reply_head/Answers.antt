@@ -1,7 +1,7 @@
 use Rattle.std.proofs.Common.{rules}
 use Rattle.disco_message.specs.Received.{received}
 use Rattle.disco_reader.specs.Replies.{BeginsReply}
-use Rattle.disco_reader.specs.declared.looking.Part.TheVariants as part
+use Rattle.disco_reader.specs.declared.parsing.Part.TheVariants as part
 use Rattle.disco_reader.specs.Parts.{PartRefused}
 use Rattle.disco_reader.specs.Streams.{unread}
 use Rattle.disco_reader.proofs.Heads.{reply_here, head_read, head_refused}

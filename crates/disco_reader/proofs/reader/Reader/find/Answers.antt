@@ -42,7 +42,7 @@ returns-then-not-branch-clause-refused g c =
     let len = unread_len now in
     rw (sym c.loop-found.invariant.1)
     (end_refused self.limits c.args.part (ahead g.R.Source.remaining c.args.self.now) (unread now) (g.R.Source.remaining now.source)
-    (Keeps-then _ _ _ (Keeps-then _ _ _ c.loop-found.invariant.0 c.look.ensures.ahead) c.more_for.ensures.ahead)
+    (Keeps-then _ _ _ (Keeps-then _ _ _ c.loop-found.invariant.0 c.parse.ensures.ahead) c.more_for.ensures.ahead)
     (search rules)
     (part_some now.buffer.items now.start now.end now.ordered (search rules) (search rules))
     (let small : now.end - now.start < self.limits.head = search rules in rw len small)

@@ -5,7 +5,7 @@ use Rattle.disco_reader.specs.Requests.{BeginsWithHead}
 use Rattle.disco_reader.specs.Found.{HeadRefused}
 use Rattle.disco_reader.specs.Parts.{HasNo}
 use Rattle.disco_reader.specs.Streams.{unread, ahead}
-use Rattle.disco_reader.specs.declared.looking.Part.TheVariants as part
+use Rattle.disco_reader.specs.declared.parsing.Part.TheVariants as part
 use Rattle.disco_reader.proofs.Coming.{came}
 use Rattle.disco_reader.proofs.Heads.{read_on}
 use Rattle.disco_reader.proofs.Known.{kept_for}
@@ -16,8 +16,8 @@ returns-in_ok-head-in-Some-RequestHead-clause-head g c =
     let self = c.find.new.self in
     let first = c.args.self.now in
     let limits : self.limits ≡ first.limits = search rules in
-    let source : c.take.new.self.source ≡ self.source = search rules in
-    rw (sym limits, source) (read_on (λ h. heading h) (BeginsWithHead self.limits) (ahead g.R.Source.remaining first) (ahead g.R.Source.remaining self) (drop c.in-Some-RequestHead.line.len (unread self)) (unread c.take.new.self) (g.R.Source.remaining self.source) c.in_ok-head-in-Some-RequestHead.head
+    let source : c.consume.new.self.source ≡ self.source = search rules in
+    rw (sym limits, source) (read_on (λ h. heading h) (BeginsWithHead self.limits) (ahead g.R.Source.remaining first) (ahead g.R.Source.remaining self) (drop c.in-Some-RequestHead.line.len (unread self)) (unread c.consume.new.self) (g.R.Source.remaining self.source) c.in_ok-head-in-Some-RequestHead.head
     (search rules) (search rules) c.in_ok-head-in-Some-RequestHead.ensures.head)
 
 pub returns-in_err-head-in-Some-RequestHead-clause-refused : goal.returns-in_err-head-in-Some-RequestHead-clause-refused

@@ -1,7 +1,7 @@
 use Rattle.std.proofs.Common.{rules}
 use Rattle.disco_reader.specs.Parts.{HasNo}
 use Rattle.disco_reader.specs.Streams.{unread, ahead}
-use Rattle.disco_reader.specs.declared.looking.Part.TheVariants as part
+use Rattle.disco_reader.specs.declared.parsing.Part.TheVariants as part
 use Rattle.disco_reader.proofs.Coming.{came}
 use Rattle.disco_reader.proofs.reader.Reader.skip_trailer.Goals as goal
 

@@ -1,7 +1,7 @@
 use Rattle.std.proofs.Common.{rules, IfSome}
 use Rattle.std.proofs.lemmas.Result.{err_from_is_err_and}
 use Rattle.disco_message.specs.Heading.{heading}
-use Rattle.disco_reader.specs.declared.looking.Part.TheVariants as part
+use Rattle.disco_reader.specs.declared.parsing.Part.TheVariants as part
 use Rattle.disco_reader.specs.Found.{HasNoBody, HeadRead, HeadRefused}
 use Rattle.disco_reader.specs.Bodies.{BodyRefused}
 use Rattle.disco_reader.specs.Requests.{BeginsWithHead}

@@ -1,5 +1,5 @@
 use Rattle.std.proofs.Common.{Ok, rules}
-use Rattle.disco_registry.specs.Op.{ask_of}
+use Rattle.disco_registry.specs.Op.{op_view}
 use Rattle.disco_registry.proofs.Histories.{gives_after, stands_same}
 use Rattle.disco_registry.proofs.registry.Registry.apply.Goals as goal
 
@@ -9,7 +9,7 @@ returns-clause-history c = λ h stands.
     rw c.commit.ensures.change (c.commit.ensures.history h before)
 
 pub returns-in_err-ready-clause-does : goal.returns-in_err-ready-clause-does
-returns-in_err-ready-clause-does c h stands = gives_after c.args.self.now h stands (ask_of c.args.op) c.args.now _ (search rules) (search rules)
+returns-in_err-ready-clause-does c h stands = gives_after c.args.self.now h stands (op_view c.args.op) c.args.now _ (search rules) (search rules)
 
 pub returns-clause-does : goal.returns-clause-does
-returns-clause-does c h stands = gives_after c.args.self.now h stands (ask_of c.args.op) c.args.now (Ok c.commit.result) (search rules) (search rules)
+returns-clause-does c h stands = gives_after c.args.self.now h stands (op_view c.args.op) c.args.now (Ok c.commit.result) (search rules) (search rules)

@@ -1,6 +1,6 @@
 use Rattle.disco_reader.specs.Streams.{unread}
 use Rattle.disco_reader.proofs.Taken.{taken, drop_part}
-use Rattle.disco_reader.proofs.reader.Reader.take.Goals as goal
+use Rattle.disco_reader.proofs.reader.Reader.consume.Goals as goal
 
 pub returns-clause-taken : goal.returns-clause-taken
 returns-clause-taken g c =

@@ -3,7 +3,7 @@ ghost use Rattle.std.specs.Prelude.{◌≡◌, ◌==◌, ◌&&◌, ◌||◌, ◌
 ghost use Rattle.disco_reader.specs.Causes.{is_of_reply};
 ghost use Rattle.disco_reader.specs.Found.{Looked, has_empty_line, has_end};
 ghost use Rattle.disco_reader.specs.Parts.{HasNo};
-ghost use Rattle.disco_reader.specs.declared.looking.Part.TheVariants.{RequestHead, ReplyHead, SizeLine, Trailer};
+ghost use Rattle.disco_reader.specs.declared.parsing.Part.TheVariants.{RequestHead, ReplyHead, SizeLine, Trailer};
 
 use disco_values::Fault;
 use httparse::spans::{
@@ -88,7 +88,7 @@ pub(crate) fn may_have(part: Part, bytes: &[u8], looked: usize, seen: usize) -> 
 }
 
 /// The part at the front of bytes, if it is whole.
-pub(crate) fn look_at(
+pub(crate) fn parse_at(
     part: Part,
     bytes: &[u8],
     spans: &mut [HeaderSpan],
@@ -98,14 +98,14 @@ pub(crate) fn look_at(
     ensures fault { IfErr result (λ fault. IsTrue (is_of_reply fault)) }
 {
     match part {
-        Part::RequestHead => look_at_head(bytes, spans),
-        Part::ReplyHead => look_at_reply(bytes, spans),
-        Part::SizeLine => look_at_line(bytes, spans),
-        Part::Trailer => look_at_trailer(bytes, spans),
+        Part::RequestHead => parse_head(bytes, spans),
+        Part::ReplyHead => parse_reply_head(bytes, spans),
+        Part::SizeLine => parse_size_line(bytes, spans),
+        Part::Trailer => parse_trailer(bytes, spans),
     }
 }
 
-fn look_at_head(bytes: &[u8], spans: &mut [HeaderSpan]) -> Result<Option<Found>, Fault>
+fn parse_head(bytes: &[u8], spans: &mut [HeaderSpan]) -> Result<Option<Found>, Fault>
     ensures looked { Looked (length spans.old) RequestHead bytes.now spans.new result }
     ensures length { length spans.new ≡ length spans.old }
     ensures fault { IfErr result (λ fault. IsTrue (is_of_reply fault)) }
@@ -118,7 +118,7 @@ fn look_at_head(bytes: &[u8], spans: &mut [HeaderSpan]) -> Result<Option<Found>,
     }
 }
 
-fn look_at_reply(bytes: &[u8], spans: &mut [HeaderSpan]) -> Result<Option<Found>, Fault>
+fn parse_reply_head(bytes: &[u8], spans: &mut [HeaderSpan]) -> Result<Option<Found>, Fault>
     ensures looked { Looked (length spans.old) ReplyHead bytes.now spans.new result }
     ensures length { length spans.new ≡ length spans.old }
     ensures fault { IfErr result (λ fault. IsTrue (is_of_reply fault)) }
@@ -131,7 +131,7 @@ fn look_at_reply(bytes: &[u8], spans: &mut [HeaderSpan]) -> Result<Option<Found>
     }
 }
 
-fn look_at_line(bytes: &[u8], spans: &mut [HeaderSpan]) -> Result<Option<Found>, Fault>
+fn parse_size_line(bytes: &[u8], spans: &mut [HeaderSpan]) -> Result<Option<Found>, Fault>
     ensures looked { Looked (length spans.old) SizeLine bytes.now spans.new result }
     ensures length { length spans.new ≡ length spans.old }
     ensures fault { IfErr result (λ fault. IsTrue (is_of_reply fault)) }
@@ -143,7 +143,7 @@ fn look_at_line(bytes: &[u8], spans: &mut [HeaderSpan]) -> Result<Option<Found>,
     }
 }
 
-fn look_at_trailer(bytes: &[u8], spans: &mut [HeaderSpan]) -> Result<Option<Found>, Fault>
+fn parse_trailer(bytes: &[u8], spans: &mut [HeaderSpan]) -> Result<Option<Found>, Fault>
     ensures looked { Looked (length spans.old) Trailer bytes.now spans.new result }
     ensures length { length spans.new ≡ length spans.old }
     ensures fault { IfErr result (λ fault. IsTrue (is_of_reply fault)) }
