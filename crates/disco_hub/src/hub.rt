@@ -91,8 +91,8 @@ impl Hub {
     ///
     /// # Errors
     ///
-    /// What the operation is refused as, and `OutOfMemory`. Then no place of a vip or a lease stays
-    /// that was not there.
+    /// What the operation is refused as, and `OutOfMemory`. Then no place of a vip, a lease, a text
+    /// or a recent change stays that was not there.
     pub fn ready(&mut self, op: Op, now: u64) -> Result<Ready, Fault>
         ensures same { IsSameHub self.old self.new }
         ensures ready { IfOk result (λ r. accepts self.old.core.registry (op_view op) now ≡ Ok r.change × IsCoreReady self.new.core r) }
