@@ -1,4 +1,4 @@
-pub mod Doors
+pub mod Acceptors
 pub mod Draining
 pub mod Ending
 pub mod Waits

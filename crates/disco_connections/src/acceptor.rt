@@ -1,4 +1,4 @@
-//! The door through which workers take connections, one at a time.
+//! The acceptor by which workers take connections, one at a time.
 ghost use Rattle.std.specs.Prelude.{◌≡◌, ◌+◌, ◌-◌, ◌^◌, ◌↔◌, ◌⊎◌, IfErr, IsTrue, MatchResult, None, Some, min, option_map};
 ghost use Rattle.disco_values.specs.declared.fault.Fault.TheVariants.{OutOfMemory, ReadFailed};
 
@@ -24,9 +24,9 @@ pub struct Acceptor {
 }
 
 impl Acceptor {
-    ghost use Rattle.disco_connections.specs.Doors.{IsOpen, fault_of};
+    ghost use Rattle.disco_connections.specs.Acceptors.{IsOpen, fault_of};
 
-    /// A door for so many connections, and for any number where that is 0.
+    /// An acceptor for so many connections, and for any number where that is 0.
     pub fn new(most: u64) -> Acceptor
         ensures most { result.most ≡ most }
         ensures taken { result.taken ≡ 0 }

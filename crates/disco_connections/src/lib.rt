@@ -1,5 +1,5 @@
 //! Connections of sockets, and the workers that serve them: [`listen`] opens a listener,
-//! [`next_connection`] takes a connection through the [`Acceptor`], and [`attend`] serves it to its end. A
+//! [`next_connection`] takes a connection by the [`Acceptor`], and [`serve_connection`] serves it to its end. A
 //! connection that is silent gives way to one that waits: what [`Workers`] know of one another.
 #![tactic(auto)]
 

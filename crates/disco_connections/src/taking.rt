@@ -1,6 +1,6 @@
 //! How a worker takes its next connection.
 ghost use Rattle.std.specs.Prelude.{◌≡◌, ◌⊎◌, ◌+◌, ◌-◌, ◌^◌, IfSome, IsNone, Some, min};
-ghost use Rattle.disco_connections.specs.Doors.{IsOpen};
+ghost use Rattle.disco_connections.specs.Acceptors.{IsOpen};
 ghost use Rattle.disco_connections.specs.declared.acceptor.Refusal.TheVariants.{ByHost};
 
 use crate::accepting::accept;
@@ -11,7 +11,7 @@ use std::net::OpenListener;
 use std::rt;
 use std::sync::{Mutex, Wait};
 
-/// Takes the next connection through an open door, with its number. None where the door is shut, and
+/// Takes the next connection by an open acceptor, with its number. None where it is shut, and
 /// where the host refuses a connection, which shuts it.
 fn accept_next<L: OpenListener, R: rt::Clock>(
     rt: &R,

@@ -33,7 +33,7 @@ impl OpenListener for Failing<'_> {
     }
 }
 
-/// Whether a connection is taken behind two failures, by a door that stays open.
+/// Whether a connection is taken behind two failures, by an acceptor that stays open.
 fn is_taken<R: Net<Stream = TcpStream> + Wait + rt::Clock>(
     rt: &R,
     alloc: Global,
@@ -53,7 +53,7 @@ fn is_taken<R: Net<Stream = TcpStream> + Wait + rt::Clock>(
     Ok(taken.is_some() && acceptor.into_inner().outcome().is_ok())
 }
 
-/// A failure that passes is waited out, and one that doesn't shuts the door.
+/// A failure that passes is waited out, and one that doesn't shuts the acceptor.
 pub(crate) fn are_told_apart<R: Net<Stream = TcpStream> + Wait + rt::Clock>(
     rt: &R,
     alloc: Global,

@@ -8,23 +8,23 @@ use Rattle.disco_history.specs.Change.{change_view}
 use Rattle.disco_rounds.specs.Press.{Note, begin, change, note_of}
 use Rattle.disco_editions.specs.declared.entry.LogEntry.{LogEntry}
 use Rattle.disco_editions.specs.declared.entry.LogEntry.TheVariants.{Begun, Changed, Copied, Published}
-use Rattle.disco_editions.specs.Logs.{Logged, all_noted, notes_in, publications, roll_on, logged, with_note}
+use Rattle.disco_editions.specs.Logs.{Logged, all_noted, notes_in, publications, log_on, logged, with_note}
 
-pub logged_more : (entries : List LogEntry) (m : LogEntry) → logged (entries ++ m ∷ []) ≡ roll_on (logged entries) m
-logged_more entries m = fold-append roll_on (record { published = []; pending = [] }) entries (m ∷ [])
+pub logged_more : (entries : List LogEntry) (m : LogEntry) → logged (entries ++ m ∷ []) ≡ log_on (logged entries) m
+logged_more entries m = fold-append log_on (record { published = []; pending = [] }) entries (m ∷ [])
 
-goes_on : (r : Logged) (more : List LogEntry) → IsPrefix r.published (fold roll_on r more).published
+goes_on : (r : Logged) (more : List LogEntry) → IsPrefix r.published (fold log_on r more).published
 goes_on r [] = prefix_refl r.published
 goes_on r (Begun ∷ more) = goes_on (with_note r begin) more
 goes_on r (Changed c ∷ more) = goes_on (with_note r (change (change_view c))) more
 goes_on r (Copied c ∷ more) = goes_on (with_note r (note_of c)) more
 goes_on r (Published ∷ more) =
     let s : Logged = record { published = r.published ++ r.pending ∷ []; pending = [] } in
-    prefix_trans r.published s.published (fold roll_on s more).published (r.pending ∷ [], refl) (goes_on s more)
+    prefix_trans r.published s.published (fold log_on s more).published (r.pending ∷ [], refl) (goes_on s more)
 
 pub begins_too : (xs ys : List LogEntry) → IsPrefix xs ys → IsPrefix (publications xs) (publications ys)
 begins_too xs ys p =
-    let e : logged ys ≡ fold roll_on (logged xs) p.0 = ap logged (sym p.1) ∙ fold-append roll_on (record { published = []; pending = [] }) xs p.0 in
+    let e : logged ys ≡ fold log_on (logged xs) p.0 = ap logged (sym p.1) ∙ fold-append log_on (record { published = []; pending = [] }) xs p.0 in
     subst (λ (r : Logged). IsPrefix (publications xs) r.published) (sym e) (goes_on (logged xs) p.0)
 
 -- one publication more
@@ -39,16 +39,16 @@ one_noted r n = (n ∷ [], append_assoc (notes_in r.published) r.pending (n ∷ 
 one_published : (r : Logged) → all_noted (record { published = r.published ++ r.pending ∷ []; pending = [] }) ≡ all_noted r
 one_published r = append-nil (notes_in (r.published ++ r.pending ∷ [])) ∙ notes_more r.published r.pending
 
-all_go_on : (r : Logged) (more : List LogEntry) → IsPrefix (all_noted r) (all_noted (fold roll_on r more))
+all_go_on : (r : Logged) (more : List LogEntry) → IsPrefix (all_noted r) (all_noted (fold log_on r more))
 all_go_on r [] = prefix_refl (all_noted r)
-all_go_on r (Begun ∷ more) = prefix_trans (all_noted r) (all_noted (with_note r begin)) (all_noted (fold roll_on r (Begun ∷ more))) (one_noted r begin) (all_go_on (with_note r begin) more)
-all_go_on r (Changed c ∷ more) = prefix_trans (all_noted r) (all_noted (with_note r (change (change_view c)))) (all_noted (fold roll_on r (Changed c ∷ more))) (one_noted r (change (change_view c))) (all_go_on (with_note r (change (change_view c))) more)
-all_go_on r (Copied c ∷ more) = prefix_trans (all_noted r) (all_noted (with_note r (note_of c))) (all_noted (fold roll_on r (Copied c ∷ more))) (one_noted r (note_of c)) (all_go_on (with_note r (note_of c)) more)
+all_go_on r (Begun ∷ more) = prefix_trans (all_noted r) (all_noted (with_note r begin)) (all_noted (fold log_on r (Begun ∷ more))) (one_noted r begin) (all_go_on (with_note r begin) more)
+all_go_on r (Changed c ∷ more) = prefix_trans (all_noted r) (all_noted (with_note r (change (change_view c)))) (all_noted (fold log_on r (Changed c ∷ more))) (one_noted r (change (change_view c))) (all_go_on (with_note r (change (change_view c))) more)
+all_go_on r (Copied c ∷ more) = prefix_trans (all_noted r) (all_noted (with_note r (note_of c))) (all_noted (fold log_on r (Copied c ∷ more))) (one_noted r (note_of c)) (all_go_on (with_note r (note_of c)) more)
 all_go_on r (Published ∷ more) =
     let s : Logged = record { published = r.published ++ r.pending ∷ []; pending = [] } in
-    subst (λ l. IsPrefix l (all_noted (fold roll_on s more))) (one_published r) (all_go_on s more)
+    subst (λ l. IsPrefix l (all_noted (fold log_on s more))) (one_published r) (all_go_on s more)
 
 pub notes_begin_too : (xs ys : List LogEntry) → IsPrefix xs ys → IsPrefix (all_noted (logged xs)) (all_noted (logged ys))
 notes_begin_too xs ys p =
-    let e : logged ys ≡ fold roll_on (logged xs) p.0 = ap logged (sym p.1) ∙ fold-append roll_on (record { published = []; pending = [] }) xs p.0 in
+    let e : logged ys ≡ fold log_on (logged xs) p.0 = ap logged (sym p.1) ∙ fold-append log_on (record { published = []; pending = [] }) xs p.0 in
     subst (λ (r : Logged). IsPrefix (all_noted (logged xs)) (all_noted r)) (sym e) (all_go_on (logged xs) p.0)

@@ -4,7 +4,7 @@ use Rattle.std.specs.FinMap.{empty, get}
 use Rattle.disco_query.specs.declared.key.DocKey.{DocKey}
 use Rattle.disco_rounds.specs.Press.{Edition, IsLegal, Note}
 use Rattle.disco_rounds.proofs.Pressed.{first_pressed}
-use Rattle.disco_rounds.proofs.Snapshot.{shown_stands, true_there}
+use Rattle.disco_rounds.proofs.Shown.{shown_stands, true_there}
 use Rattle.disco_editions.specs.Editions.{IsEditionOf}
 use Rattle.disco_editions.specs.Looks.{Finds, Shows}
 use Rattle.disco_editions.specs.Logs.{notes_in}

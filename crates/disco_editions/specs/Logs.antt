@@ -21,14 +21,14 @@ all_noted r = notes_in r.published ++ r.pending
 abbrev pub with_note : Logged → Note → Logged
 with_note r n = record r { pending = r.pending ++ n ∷ [] }
 
-abbrev pub roll_on : Logged → LogEntry → Logged
-roll_on r Begun = with_note r begin
-roll_on r (Changed c) = with_note r (change (change_view c))
-roll_on r (Copied c) = with_note r (note_of c)
-roll_on r Published = record { published = r.published ++ r.pending ∷ []; pending = [] }
+abbrev pub log_on : Logged → LogEntry → Logged
+log_on r Begun = with_note r begin
+log_on r (Changed c) = with_note r (change (change_view c))
+log_on r (Copied c) = with_note r (note_of c)
+log_on r Published = record { published = r.published ++ r.pending ∷ []; pending = [] }
 
 abbrev pub logged : List LogEntry → Logged
-logged entries = fold roll_on (record { published = []; pending = [] }) entries
+logged entries = fold log_on (record { published = []; pending = [] }) entries
 
 abbrev pub publications : List LogEntry → List (List Note)
 publications entries = (logged entries).published

@@ -4,7 +4,7 @@ use Rattle.std.specs.FinMap.{get}
 use Rattle.disco_query.specs.declared.key.DocKey.{DocKey}
 use Rattle.disco_cache.specs.declared.payload.Payload.{Payload}
 use Rattle.disco_rounds.specs.Press.{IsLegal, IsPublishable, Note, edition_of}
-use Rattle.disco_rounds.specs.Snapshot.{WasTrue}
+use Rattle.disco_rounds.specs.Shown.{WasTrue}
 use Rattle.disco_editions.specs.declared.looking.Looked.{Looked}
 use Rattle.disco_editions.specs.declared.looking.Looked.TheVariants.{Doc, Miss, Shut}
 

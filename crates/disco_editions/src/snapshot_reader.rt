@@ -1,4 +1,4 @@
-//! Windows through which readers look into what is published.
+//! Readers of what is published, by which seats look into what is published.
 ghost use Rattle.std.specs.Prelude.{◌≡◌};
 ghost use mathlib.Core.List.{IsPrefix};
 ghost use Rattle.disco_editions.specs.Looks.{Shows};
@@ -35,7 +35,7 @@ impl<J: Naming> SnapshotReader<J> {
         SnapshotReader { reader, known }
     }
 
-    /// The document of a key in the edition that was published last, as far as this snapshot_reader sees: no
+    /// The document of a key in the edition that was published last, as far as this reader sees: no
     /// earlier one than it has seen or been told of. An app's name has to be in upper case. Takes no
     /// lock and no memory, and waits for nobody.
     pub fn look(&mut self, key: &DocKey) -> Looked

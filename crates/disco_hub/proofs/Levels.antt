@@ -1,4 +1,4 @@
--- A hub and what a publisher keeps beside it, one deed on.
+-- A hub and what a publisher keeps beside it, one event on.
 use Rattle.std.proofs.Common.{◌≡◌, ℕ, Bool, true, false, List, [], ◌∷◌, ◌++◌, map, Option, Some, None, IfSome, is_some, slice_get, refl, sym, ap, subst, ◌∙◌, append-nil, append_assoc}
 use Rattle.std.specs.FinMap.{empty, insert, len, remove}
 use Rattle.disco_history.specs.Change.{Entry}
@@ -20,7 +20,7 @@ use Rattle.disco_rounds.proofs.InStep.{publishable_law, shown_len}
 use Rattle.disco_rounds.proofs.Notes.{changes-doc, changes-gone, copied-begin, copied-change, copied-doc, copied-gone}
 use Rattle.disco_rounds.proofs.Pressed.{IsNoted, begun_pressed, copied_pressed, first_pressed, plain_pressed, published_pressed}
 
--- ---- the levels, one deed on
+-- ---- the levels, one event on
 
 pub stands_on : (old new : HubState) (p : Past) → new ≡ record old { rounds = new.rounds } → HubStandsFor old p → HubStandsFor new p
 stands_on old new p is stands = record {

@@ -39,10 +39,10 @@ history_done most p now ask (Some c) = map-append (λ (t : Timed). t.0) p.timed 
 version_is : (s : HubState) (p : Past) → HubStandsFor s p → s.core.registry.version ≡ length (history p)
 version_is s p stands = stands.core.registry.version
 
-module _ (printed : List (List Note)) (log : Logged) (hub hub' : HubState) (next next' : Edition) (n : ℕ) (kept : IsKept printed log hub next n) where
+module _ (visible : List (List Note)) (log : Logged) (hub hub' : HubState) (next next' : Edition) (n : ℕ) (kept : IsKept visible log hub next n) where
   -- the changes cs, or none
   pub plain_kept : (log' : Logged) (q : Past) (cs : List Entry) → q.run ≡ kept.past.run → history q ≡ history kept.past ++ cs → HubStandsFor hub' q → hub'.rounds ≡ hub.rounds → next' ≡ next
-      → log' ≡ record log { pending = log.pending ++ map change cs } → IsKept printed log' hub' next' (n + length cs)
+      → log' ≡ record log { pending = log.pending ++ map change cs } → IsKept visible log' hub' next' (n + length cs)
   plain_kept log' q cs run more stands rounds same is =
       let levels = plain_levels hub hub' next next' (notes_in log.published) log.pending kept.past kept.levels q cs run more stands rounds same in
       record {
@@ -53,26 +53,26 @@ module _ (printed : List (List Note)) (log : Logged) (hub hub' : HubState) (next
       }
 
   -- nothing that is noted
-  pub quiet_kept : (q : Past) → q.run ≡ kept.past.run → history q ≡ history kept.past → HubStandsFor hub' q → hub'.rounds ≡ hub.rounds → next' ≡ next → IsKept printed log hub' next' n
+  pub quiet_kept : (q : Past) → q.run ≡ kept.past.run → history q ≡ history kept.past → HubStandsFor hub' q → hub'.rounds ≡ hub.rounds → next' ≡ next → IsKept visible log hub' next' n
   quiet_kept q run same stands rounds next_same =
-      subst (λ m. IsKept printed log hub' next' m) (omega arith)
+      subst (λ m. IsKept visible log hub' next' m) (omega arith)
       (plain_kept log q [] run (same ∙ sym (append-nil (history kept.past))) stands rounds next_same (λ i. record { published = log.published; pending = sym (append-nil log.pending) i }))
 
   -- an accepted operation
   pub written_kept : (log' : Logged) (most now : ℕ) (ask : OpView) (o : Option Entry) → ((p : Past) → HubStandsFor hub p → HubStandsFor hub' (with_done most p now ask o)) → hub'.rounds ≡ hub.rounds → next' ≡ next
-      → log' ≡ record log { pending = log.pending ++ note_done o } → IsKept printed log' hub' next' (n + length (changes_done o))
+      → log' ≡ record log { pending = log.pending ++ note_done o } → IsKept visible log' hub' next' (n + length (changes_done o))
   written_kept log' most now ask o stands rounds same is =
       plain_kept log' (with_done most kept.past now ask o) (changes_done o) (run_done most kept.past now ask o) (history_done most kept.past now ask o) (stands kept.past kept.levels.stands) rounds same
       (is ∙ (λ i. record { published = log.published; pending = log.pending ++ sym (noted_is o) i }))
 
   -- an accepted operation that makes no change
-  pub same_kept : (most now : ℕ) (ask : OpView) → ((p : Past) → HubStandsFor hub p → HubStandsFor hub' (with_done most p now ask None)) → hub'.rounds ≡ hub.rounds → next' ≡ next → IsKept printed log hub' next' n
+  pub same_kept : (most now : ℕ) (ask : OpView) → ((p : Past) → HubStandsFor hub p → HubStandsFor hub' (with_done most p now ask None)) → hub'.rounds ≡ hub.rounds → next' ≡ next → IsKept visible log hub' next' n
   same_kept most now ask stands rounds same =
       quiet_kept (with_done most kept.past now ask None) (run_done most kept.past now ask None) (history_done most kept.past now ask None ∙ append-nil (history kept.past)) (stands kept.past kept.levels.stands) rounds same
 
   -- a round begins
   pub begun_kept : (log' : Logged) (many : ℕ) → BeginsRound hub hub' many → next' ≡ empty
-      → log' ≡ record log { pending = log.pending ++ begin ∷ [] } → IsKept printed log' hub' next' n
+      → log' ≡ record log { pending = log.pending ++ begin ∷ [] } → IsKept visible log' hub' next' n
   begun_kept log' many begins none is = record {
     shown = kept.shown ∙ ap (λ (r : Logged). r.published) (sym is);
     past = kept.past;
@@ -82,7 +82,7 @@ module _ (printed : List (List Note)) (log : Logged) (hub hub' : HubState) (next
 
   -- a key is copied
   pub copied_kept : (log' : Logged) (c : Copied) → CopiesOne hub hub' c → next' ≡ put_copy next c
-      → log' ≡ record log { pending = log.pending ++ note_of c ∷ [] } → IsKept printed log' hub' next' n
+      → log' ≡ record log { pending = log.pending ++ note_of c ∷ [] } → IsKept visible log' hub' next' n
   copied_kept log' c one put is = record {
     shown = kept.shown ∙ ap (λ (r : Logged). r.published) (sym is);
     past = kept.past;
@@ -108,8 +108,8 @@ module _ (printed : List (List Note)) (log : Logged) (hub hub' : HubState) (next
     pub ended_many : many ≡ len (edition_of (notes_in log.published ++ log.pending))
     ended_many = ends.many ∙ sym (ended_len hub hub' next next' (notes_in log.published) log.pending kept.past kept.levels many ends)
 
-    pub ended_kept : (printed' : List (List Note)) (log' : Logged) → printed' ≡ log'.published → hub' ≡ record hub { rounds = hub'.rounds } → log' ≡ record { published = log.published ++ log.pending ∷ []; pending = [] } → IsKept printed' log' hub' next' n
-    ended_kept printed' log' shown rest is =
+    pub ended_kept : (visible' : List (List Note)) (log' : Logged) → visible' ≡ log'.published → hub' ≡ record hub { rounds = hub'.rounds } → log' ≡ record { published = log.published ++ log.pending ∷ []; pending = [] } → IsKept visible' log' hub' next' n
+    ended_kept visible' log' shown rest is =
         let levels = ended_levels hub hub' next next' (notes_in log.published) log.pending kept.past kept.levels many ends rest in
         record {
           shown = shown;
@@ -119,8 +119,8 @@ module _ (printed : List (List Note)) (log : Logged) (hub hub' : HubState) (next
         }
 
 -- nothing was noted yet
-pub new_kept : (run : ℕ) (printed : List (List Note)) (log : Logged) (hub : HubState) (next : Edition) (n : ℕ) → printed ≡ [] → log.published ≡ [] → log.pending ≡ [] → HubStandsFor hub (nothing run) → hub.rounds ≡ record { edition = empty; round = None } → n ≡ 0 → IsKept printed log hub next n
-new_kept run printed log hub next n none none' none'' stands rounds zero = record {
+pub new_kept : (run : ℕ) (visible : List (List Note)) (log : Logged) (hub : HubState) (next : Edition) (n : ℕ) → visible ≡ [] → log.published ≡ [] → log.pending ≡ [] → HubStandsFor hub (nothing run) → hub.rounds ≡ record { edition = empty; round = None } → n ≡ 0 → IsKept visible log hub next n
+new_kept run visible log hub next n none none' none'' stands rounds zero = record {
   shown = none ∙ sym none';
   past = nothing run;
   levels = subst (λ (t : List (List Note) × List Note). AreLevels hub next (notes_in t.0) t.1 (nothing run)) (λ i. (sym none' i, sym none'' i)) (first_levels run hub next stands rounds);

@@ -7,8 +7,8 @@ use Rattle.disco_hub.specs.State.{HubState, version_of}
 use Rattle.disco_editions.specs.Logs.{Logged, notes_in}
 
 -- readers take what was published, the hub stands for what was noted, and each change is counted
-pub record IsKept (printed : List (List Note)) (log : Logged) (hub : HubState) (next : Edition) (counted : ℕ) : Type 0 where
-  pub shown : printed ≡ log.published
+pub record IsKept (visible : List (List Note)) (log : Logged) (hub : HubState) (next : Edition) (counted : ℕ) : Type 0 where
+  pub shown : visible ≡ log.published
   pub past : Past
   pub levels : AreLevels hub next (notes_in log.published) log.pending past
   pub version : version_of hub ≡ counted

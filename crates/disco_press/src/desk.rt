@@ -91,7 +91,7 @@ impl<J: Naming> Desk<J> {
         ensures { IsValid self.now }
     {
         // For the proof alone: the invariant of a desk.
-        let _loose = self.by_none;
+        let _by_none = self.by_none;
     }
 
     /// The document that is asked for, as [`Hub::load`] gives it.
@@ -158,7 +158,7 @@ impl<J: Naming> Desk<J> {
             alloc: _,
             hub: _hub,
             snapshots,
-            log: _roll,
+            log: _log,
             next: _next,
             book: _book,
             by_none: _,

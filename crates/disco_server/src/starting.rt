@@ -32,7 +32,7 @@ fn workers_for<'a, J: Naming, R, C: Clock + Copy, G>(
     Ok(workers)
 }
 
-/// Has each worker on a thread of its own take connections through the door, and returns once all
+/// Has each worker on a thread of its own take connections by the acceptor, and returns once all
 /// have ended.
 fn run<J, R, C, G>(
     rt: &R,

@@ -58,7 +58,7 @@ impl<'a, J: Naming, R, C, G> Worker<'a, J, R, C, G> {
     }
 }
 
-/// Serves one connection after another, until the door is shut.
+/// Serves one connection after another, until no more are taken.
 fn serve_all<J: Naming, R: Wait + rt::Clock, C: Clock + Copy, G: Gate>(
     rt: &R,
     alloc: Global,
@@ -109,7 +109,7 @@ fn equip<'a, R: Net>(
     }
 }
 
-/// Takes one connection after another through the door and serves it, until the door is shut. Shuts
+/// Takes one connection after another by the acceptor and serves it, until no more are taken. Shuts
 /// it where the worker can't be equipped.
 pub(crate) fn work<
     J: Naming,

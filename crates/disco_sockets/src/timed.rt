@@ -229,7 +229,7 @@ where
     tried
 }
 
-/// Each timed worker does its chore at its own period: not a millisecond before, and then.
+/// Each timed worker does its task at its own period: not a millisecond before, and then.
 pub(crate) fn run<J: Naming + Send + Sync, R>(
     rt: &R,
     alloc: Global,

@@ -50,7 +50,7 @@ pub record LetsRunOut (now : ℕ) (old new : DeskState) (stopped : Option Fault)
   pub noted : NotesCancels old new (λ p. cancelled (rules_of old.hub) p now (taken_in p now) gone)
   pub rest : KeepsRest old.hub new.hub
 
--- what one go at a chore does to a desk at a moment; it says whether the chore goes on at once, or why it was refused
+-- what one go at a task does to a desk at a moment; it says whether the task goes on at once, or why it was refused
 abbrev pub Tends : Task → ℕ → DeskState → Result Bool Fault → DeskState → Type 0
 Tends Publish now old r new = PublishesOn old r new
 Tends Clean now old (Ok more) new = ForgetsOld now old new × (more ≡ false)

@@ -33,7 +33,7 @@ pub(crate) enum Task {
     Expire,
 }
 
-pub(crate) const CHORES: [Task; 4] = [Task::Publish, Task::Clean, Task::CloseMinute, Task::Expire];
+pub(crate) const TASKS: [Task; 4] = [Task::Publish, Task::Clean, Task::CloseMinute, Task::Expire];
 
 impl Task {
     /// How long it is from one time to the next, in milliseconds.
@@ -76,7 +76,7 @@ fn expire<J: Naming>(desk: &mut Desk<J>, now: u64) -> Option<Fault>
     desk.expire(now).stopped
 }
 
-/// What one go at a chore does to a desk that is lent to it, at a moment. Answers whether the chore
+/// What one go at a task does to a desk that is lent to it, at a moment. Answers whether the task
 /// goes on at once: a round, up to its publication. May wait for a seat that is inside its look.
 ///
 /// Refused as `OutOfMemory` in a step of a round, which stays as it was, and as a run is that lets

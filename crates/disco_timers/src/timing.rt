@@ -3,7 +3,7 @@ ghost use Rattle.std.specs.Prelude.{◌≡◌, IfErr};
 ghost use Rattle.disco_values.specs.declared.fault.Fault.TheVariants.{ReadFailed};
 
 use crate::clock::Clock;
-use crate::tasks::{CHORES, Task, next_go, tend_once};
+use crate::tasks::{TASKS, Task, next_go, tend_once};
 use crate::timer::Timer;
 use disco_editions::Naming;
 use disco_press::Desk;
@@ -33,7 +33,7 @@ impl<'a> Ends<'a> {
     }
 }
 
-/// Does a chore at a moment, each go of it under the lock, which others may have between two goes.
+/// Does a task at a moment, each go of it under the lock, which others may have between two goes.
 /// Where there is no memory the round stays open for the next time, and what a run is refused is taken
 /// the next time.
 fn tend<J: Naming, R: Wait>(rt: &R, desk: &Mutex<Desk<J>>, task: Task, now: u64, ends: Ends<'_>) {
@@ -63,7 +63,7 @@ fn clean<J: Naming, R: Wait>(rt: &R, desk: &Mutex<Desk<J>>, now: u64, ends: Ends
     }
 }
 
-/// Does a chore each time that it is due, until it is to end.
+/// Does a task each time that it is due, until it is to end.
 fn tend_often<J: Naming, R: Wait + rt::Clock, C: Clock + Copy>(
     rt: &R,
     desk: &Mutex<Desk<J>>,
@@ -112,7 +112,7 @@ where
         refused: &refused,
     };
     thread::scope(thread::scope_env(), rt, move |scope| {
-        for task in CHORES {
+        for task in TASKS {
             let worker = scope.spawn(move || tend_often(rt, desk, clock, task, ends));
             if worker.is_err() {
                 ends.refused.store(true, Ordering::SeqCst);

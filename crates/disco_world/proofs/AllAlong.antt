@@ -44,7 +44,7 @@ Seen w = (k : DocKey) (d : Payload) → get (edition_of w.press.published) k ≡
 pub all_readable : (w : World) → Holds w → AreReadable w.replies
 all_readable w holds = λ k d is. readable (history_of w) d (holds.docs k d is)
 
--- the document of a deed that gives a client one is true of a version
+-- the document of an effect that gives a client one is true of a version
 abbrev IsGood : Histories → Effect → Type 0
 IsGood hs (takes client d) = IsOf hs d
 IsGood hs (certifies client d) = IsOf hs d

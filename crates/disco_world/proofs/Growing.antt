@@ -45,7 +45,7 @@ run_extends : (rules : Rules) (p : Past) (now : ℕ) (r : Reply) → Extends (hi
 run_extends rules p now (Expired run) = cancels_extend rules p now (taken_in p now) run.gone
 run_extends rules p now r = extends_same (history p)
 
--- ---- deeds that begin no run
+-- ---- effects that begin no run
 
 abbrev pub goes_on : Effect → Reply → Bool
 goes_on (restarts run) (Restarted r) = false

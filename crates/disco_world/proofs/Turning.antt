@@ -1,4 +1,4 @@
--- What each deed does to the two levels of documents.
+-- What each effect does to the two levels of documents.
 use Rattle.std.proofs.Common.{◌≡◌, ℕ, suc, ◌+◌, ◌-◌, ◌<◌, ◌≤◌, Bool, true, false, cond, List, [], ◌∷◌, ◌++◌, length, map, fold, nat_lt, Option, Some, None, IfSome, option_map, slice_get, refl, sym, ap, subst, ◌∙◌, arith}
 use Rattle.std.proofs.lemmas.List.{length-append, length-map, take-append-drop}
 use Rattle.std.proofs.lemmas.Option.{same_Some}
@@ -59,7 +59,7 @@ many_keys m = length-map _ _ ∙ sym (len-entries m)
 edition_fits : (edition : KeySet) (kept : Docs) → len edition ≤ length (round_keys edition kept)
 edition_fits edition kept = omega (arith, longer_by kept.max (keys kept.docs) edition, many_keys (fold (add_within kept.max) edition (keys kept.docs)))
 
--- ---- the levels after a deed
+-- ---- the levels after an effect
 
 history_on : (p q : Past) → Extends (history p) (history q) → history q ≡ history p ++ changes_since p q
 history_on p q ext = sym (take-append-drop (length (history p)) (history q)) ∙ ap (λ h. h ++ changes_since p q) ext.begins
@@ -67,7 +67,7 @@ history_on p q ext = sym (take-append-drop (length (history p)) (history q)) ∙
 abbrev many_left : Option Round → Option ℕ
 many_left o = option_map (λ (r : Round). length r.left) o
 
--- a deed of the hub alone
+-- an effect of the hub alone
 pub plainly : (old new : CacheLevels) (w v : World) → AreLevelsOf old w → v.press ≡ record w.press { pending = w.press.pending ++ map change (changes_since w.past v.past) } → v.past.run ≡ w.past.run → Extends (history w.past) (history v.past)
     → HubStandsFor new.hub v.past → new.hub.rounds ≡ old.hub.rounds → new.published ≡ old.published → new.next ≡ old.next → AreLevelsOf new v
 plainly old new w v was press run ext stands rounds published next =
@@ -184,7 +184,7 @@ module _ (old new : CacheLevels) (w : World) (was : AreLevelsOf old w) (same : n
   abbrev press_before : Press
   press_before = w.press
 
-  -- a deed that is answered so leaves all as it was
+  -- an effect that is answered so leaves all as it was
   unchanged : (v : World) → v.past ≡ w.past → v.press ≡ record w.press { pending = w.press.pending ++ map change (changes_since w.past v.past) } → AreLevelsOf new v
   unchanged v past press = plainly old new w v was press (ap (λ (p : Past). p.run) past) (subst (λ p. Extends (history w.past) (history p)) (sym past) (extends_same (history w.past)))
       (subst (λ p. HubStandsFor new.hub p) (sym past) (subst (λ (l : CacheLevels). HubStandsFor l.hub w.past) (sym same) was.levels.stands)) (ap (λ (l : CacheLevels). l.hub.rounds) same) (ap (λ (l : CacheLevels). l.published) same) (ap (λ (l : CacheLevels). l.next) same)
@@ -196,7 +196,7 @@ module _ (old new : CacheLevels) (w : World) (was : AreLevelsOf old w) (same : n
       one true = refl
       one false = is
 
-  -- a deed that only asks
+  -- an effect that only asks
   pub quiet_turns : (what : Effect) (r : Reply) → past_done (rules_of old.hub) w.past what r ≡ w.past
       → (after (rules_of old.hub) w what r).press ≡ record w.press { pending = w.press.pending ++ map change (changes_since w.past (past_after (rules_of old.hub) w.past what r)) } → AreLevelsOf new (after (rules_of old.hub) w what r)
   quiet_turns what r is press = unchanged (after (rules_of old.hub) w what r) (past_stays what r is) press

@@ -117,7 +117,7 @@ loads_so old new key (Ok d) may refused did same = λ w stands. ((ap (unless key
 loads_so old new key (Err e) may refused did same = λ w stands.
     (λ other. ap (unless key) (refused other w.past stands), subst (HubStandsFor new) (sym (nothing_then (rules_of old) w.past (loaded (rules_of old).delta key (history w.past)) e)) (subst (λ (s : HubState). HubStandsFor s w.past) (sym same) stands), ap cache_of same)
 
--- a deed of the hub leaves the clients
+-- an effect of the hub leaves the clients
 pub clients_stay : {A : Type 0} (clients done : ℕ → Option A) (b : Bool) → done ≡ clients → cond b clients done ≡ clients
 clients_stay clients done true same = refl
 clients_stay clients done false same = same
@@ -133,14 +133,14 @@ module _ (old new : CacheLevels) (held : Holders) (w : World) (what : Effect) (r
     λ q. are.1 q ∙ sym (ap (λ (f : ℕ → Option CertifiedCopy). f q) (clients_stay w.certified (certified_done w.certified what) (ran_out r) certified)),
   )
 
-  -- a deed that the hub answers alone
+  -- an effect that the hub answers alone
   pub with_hub : goes_on what r ≡ true → (after (rules_of old.hub) w what r).press ≡ record w.press { pending = w.press.pending ++ map change (changes_since w.past (past_after (rules_of old.hub) w.past what r)) } → AreLevelsOf old w
       → new.hub.rounds ≡ old.hub.rounds → new.published ≡ old.published → new.next ≡ old.next → IsAnswer (rules_of old.hub) w what r × HubStandsFor new.hub (past_after (rules_of old.hub) w.past what r) × CachesIt
       → IsAnswer (rules_of old.hub) w what r × AreLevelsOf new (after (rules_of old.hub) w what r) × AreHeld held (with_clients w what r) × CachesIt
   with_hub goes press levels rounds published next so =
       (so.0, plainly old new w (after (rules_of old.hub) w what r) levels press (run_stays (rules_of old.hub) w.past what r (ran_out r) goes) (past_extends (rules_of old.hub) w.past what r (ran_out r) goes) so.1 rounds published next, held_on, so.2)
 
-  -- a deed of a publisher or of a reader, or a restart
+  -- an effect of a publisher or of a reader, or a restart
   pub with_turn : IsAnswer (rules_of old.hub) w what r × AreLevelsOf new (after (rules_of old.hub) w what r) × CachesIt
       → IsAnswer (rules_of old.hub) w what r × AreLevelsOf new (after (rules_of old.hub) w what r) × AreHeld held (with_clients w what r) × CachesIt
   with_turn so = (so.0, so.1, held_on, so.2)

@@ -29,7 +29,7 @@ use Rattle.disco_world.specs.declared.event.Reply.{Reply}
 use Rattle.disco_world.specs.declared.event.Reply.TheVariants.{Changed, Same, Doc, Cleaned, Closed, Expired, Begun, Copied, Done, Published, Missed}
 use Rattle.disco_world.specs.declared.event.Reply.TheVariants.{Taken, Certified, Held, Restarted, Refused}
 
--- what a deed may answer after what has happened; a refused growth may be answered in place of anything but a cleaning, the closing of a minute, a
+-- what an effect may answer after what has happened; a refused growth may be answered in place of anything but a cleaning, the closing of a minute, a
 -- publish and a restart, and stops a run that cancels instances, and nothing is answered to what can't be run
 abbrev pub IsAnswer : Rules → World → Effect → Reply → Type 0
 IsAnswer rules w (writes now ask) (Changed v) = (c : Entry) × (done rules w.past now ask ≡ Ok (Some c)) × (v ≡ length (history w.past) + 1)
@@ -67,7 +67,7 @@ abbrev pub AreAnswers : Rules → ℕ → List Event → List Reply → Type 0
 AreAnswers rules run events replies = (i : ℕ) (event : Event) (reply : Reply) → slice_get events i ≡ Some event → slice_get replies i ≡ Some reply
     → let w = world rules run events replies i in IsAnswer rules w (effect rules w event) reply
 
--- the key that a deed asks for, if it asks for a document
+-- the key that an effect asks for, if it asks for a document
 abbrev pub key_asked : Effect → Option DocKey
 key_asked (loads (Ok k)) = Some k
 key_asked (looks key) = key

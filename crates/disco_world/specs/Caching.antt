@@ -36,7 +36,7 @@ change_made (Err e) = None
 abbrev pub IsNext : Cache → copied.Copied → Type 0
 IsNext s c = IfSome s.rounds.round (λ r. IfSome (slice_get r.left 0) (λ k. (key_of_copy c ≡ k) × IsCopiedAsKept s.docs k c))
 
--- what a deed with that answer does to it: a change drops what it names, a load is answered as it is kept and keeps its document at most, a round
+-- what an effect with that answer does to it: a change drops what it names, a load is answered as it is kept and keeps its document at most, a round
 -- begins with the keys that are due, each copy takes out the first that is left, a publish ends it, and after a restart nothing is kept and no round
 -- is open
 abbrev pub Caches : Rules → Past → Effect → Reply → Cache → Cache → Type 0

@@ -154,7 +154,7 @@ abbrev pub after_restart : ℕ → Past → Reply → Past
 after_restart run p (Restarted r) = nothing run
 after_restart run p _ = p
 
--- what has happened to the registry after a deed with that answer that found memory
+-- what has happened to the registry after an effect with that answer that found memory
 abbrev pub past_done : Rules → Past → Effect → Reply → Past
 past_done rules p (writes now (Ok ask)) reply = after_ask rules.queue p now ask (accept_after rules.limits (history p) ask now)
 past_done rules p (cleans now) reply = cleaned rules.retention p now
@@ -163,7 +163,7 @@ past_done rules p (expires now) reply = after_run rules p now reply
 past_done rules p (restarts run) reply = after_restart run p reply
 past_done rules p _ reply = p
 
--- the clients' copies after a deed that found memory
+-- the clients' copies after an effect that found memory
 abbrev pub clients_done : (ℕ → Option Client) → Effect → ℕ → Option Client
 clients_done clients (takes client d) = clients_with clients client d
 clients_done clients _ = clients
@@ -177,7 +177,7 @@ certified_done clients _ = clients
 abbrev pub changes_since : Past → Past → List Entry
 changes_since p q = drop (length (history p)) (history q)
 
--- what was noted after the deed of the event of that number, which made these changes, and its answer
+-- what was noted after the effect of the event of that number, which made these changes, and its answer
 abbrev pub press_done : Press → List Entry → ℕ → Effect → Reply → Press
 press_done s cs i begins (Begun n) = record s { pending = s.pending ++ press.begin ∷ []; keys = n; begun = i }
 press_done s cs i copies (Copied c) = record s { pending = s.pending ++ note_of c ∷ [] }
@@ -189,7 +189,7 @@ press_done s cs i _ _ = record s { pending = s.pending ++ map press.change cs }
 abbrev pub history_of : World → Histories
 history_of w r = if r == w.past.run then history w.past else w.ended r
 
--- the histories of the runs that ended, after a deed with that answer: a restart ends the run that is running
+-- the histories of the runs that ended, after an effect with that answer: a restart ends the run that is running
 abbrev pub ended_after : World → Effect → Reply → Histories
 ended_after w (restarts run) (Restarted r) = history_of w
 ended_after w _ _ = w.ended
@@ -208,7 +208,7 @@ clients_after clients what reply = if ran_out reply then clients else clients_do
 abbrev pub certified_after : (ℕ → Option CertifiedCopy) → Effect → Reply → ℕ → Option CertifiedCopy
 certified_after clients what reply = if ran_out reply then clients else certified_done clients what
 
--- what has happened after a deed with that answer: nothing but the answer where there was no memory
+-- what has happened after an effect with that answer: nothing but the answer where there was no memory
 abbrev pub after : Rules → World → Effect → Reply → World
 after rules w what reply = record {
   past = past_after rules w.past what reply;

@@ -26,7 +26,7 @@ pub record AreLevelsOf (s : CacheLevels) (w : World) : Type 0 where
   pub keys : left_in w.press ≡ option_map (λ r. length r.left) s.hub.rounds.round
   pub published : s.published ≡ edition_of w.press.published
 
--- they answer a deed, and are then those of what has happened with it
+-- they answer an effect, and are then those of what has happened with it
 abbrev pub Turns : CacheLevels → CacheLevels → (World → Effect) → Reply → Type 0
 Turns old new what reply = (w : World) → AreLevelsOf old w → IsAnswer (rules_of old.hub) w (what w) reply
     × AreLevelsOf new (after (rules_of old.hub) w (what w) reply) × Caches (rules_of old.hub) w.past (what w) reply (cache_of old.hub) (cache_of new.hub)

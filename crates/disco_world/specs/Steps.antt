@@ -57,7 +57,7 @@ reply_to_show (Err e) = Refused e
 abbrev pub cache_of : HubState → Cache
 cache_of s = record { docs = s.docs; rounds = s.rounds }
 
--- a hub answers a deed, then stands for what has happened with it, and keeps what it leaves
+-- a hub answers an effect, then stands for what has happened with it, and keeps what it leaves
 abbrev pub Performs : HubState → HubState → (World → Effect) → Reply → Type 0
 Performs old new what reply = (w : World) → HubStandsFor old w.past
     → IsAnswer (rules_of old) w (what w) reply × HubStandsFor new (past_after (rules_of old) w.past (what w) reply)
@@ -104,6 +104,6 @@ holders c = record { plain = tree.get nat_cmp c.plain; certified = tree.get nat_
 abbrev pub AreHeld : Holders → World → Type 0
 AreHeld held w = ((q : ℕ) → held.plain q ≡ w.clients q) × ((q : ℕ) → held.certified q ≡ w.certified q)
 
--- what a deed with that answer makes of the clients
+-- what an effect with that answer makes of the clients
 abbrev pub with_clients : World → Effect → Reply → World
 with_clients w what r = record w { clients = clients_after w.clients what r; certified = certified_after w.certified what r }
