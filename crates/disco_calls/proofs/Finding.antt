@@ -4,7 +4,7 @@ use Rattle.std.specs.Str.{IsUtf8, is_utf8}
 use Rattle.std.proofs.lemmas.Str.{IsUtf8-from_is_utf8, is_utf8-from_IsUtf8}
 use Rattle.disco_values.specs.declared.fault.Fault.{Fault}
 use Rattle.disco_values.specs.declared.fault.Fault.TheVariants.{BadRequest}
-use Rattle.disco_message.specs.Asked.{RequestView}
+use Rattle.disco_message.specs.RequestView.{RequestView}
 use Rattle.disco_routes.specs.Paths.{path_place}
 use Rattle.disco_routes.specs.declared.place.Place.{Place}
 use Rattle.disco_calls.specs.Calls.{CallView, call, called_in}

@@ -7,7 +7,7 @@ use Rattle.disco_values.specs.declared.fault.Fault.{Fault}
 use Rattle.disco_values.specs.declared.fault.Fault.TheVariants.{BadMethod, BadRequest, BadStatus, NotAcceptable, NotFound}
 use Rattle.disco_values.specs.declared.form.Form.{Form}
 use Rattle.disco_values.specs.declared.key.Key.{Key}
-use Rattle.disco_message.specs.Asked.{RequestView}
+use Rattle.disco_message.specs.RequestView.{RequestView}
 use Rattle.disco_message.specs.declared.status_line.Allow.{Allow}
 use Rattle.disco_registry.specs.Op.{OpView, op_view, cancel, renew, set_status, drop_status, add_metadata}
 use Rattle.disco_routes.specs.Paths.{path_place}

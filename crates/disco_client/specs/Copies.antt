@@ -9,7 +9,7 @@ use Rattle.disco_values.specs.Status.{is_same}
 use Rattle.disco_values.specs.Text.{in_upper_case}
 use Rattle.disco_values.specs.declared.status.Status.TheVariants.{Up}
 use Rattle.disco_history.specs.Change.{Entry}
-use Rattle.disco_history.specs.Chosen.{map_at}
+use Rattle.disco_history.specs.MapAt.{map_at}
 use Rattle.disco_history.specs.Hash.{hash}
 use Rattle.disco_history.specs.Held.{record_at}
 use Rattle.disco_history.specs.Query.{vips}

@@ -5,12 +5,12 @@
 
 mod accepting;
 mod acceptor;
-mod attending;
 mod draining;
 mod ending;
 mod listening;
 mod post;
 mod queue;
+mod serving;
 mod taking;
 mod timed_source;
 mod waiting;
@@ -18,10 +18,10 @@ mod waits;
 mod workers;
 
 pub use acceptor::{Acceptor, Refusal};
-pub use attending::{Buffers, serve_connection};
 pub use draining::drain;
 pub use listening::listen;
 pub use post::Post;
+pub use serving::{Buffers, serve_connection};
 pub use taking::next_connection;
 pub use waits::{Waits, gives_way, is_over};
 pub use workers::Workers;

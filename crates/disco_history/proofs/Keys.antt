@@ -14,7 +14,7 @@ use Rattle.std.proofs.Common.{◌&&◌}
 use Rattle.std.proofs.lemmas.Map.Lookups.{CmpEqualImpliesEq, exact_pairs, exact_bytes}
 use Rattle.disco_values.specs.declared.key.Key.{Key}
 use Rattle.disco_values.specs.Key.{key_cmp, same_key}
-use Rattle.disco_history.specs.Chosen.{map_at}
+use Rattle.disco_history.specs.MapAt.{map_at}
 
 pub keys_total : IsTotalOrder key_cmp
 keys_total = then_total (on_total (λ k. k.app) nat_list_cmp_total) (on_total (λ k. k.id) nat_list_cmp_total)

@@ -6,7 +6,7 @@ use Rattle.disco_instance.specs.Row.{Row}
 use Rattle.disco_values.specs.declared.form.Form.{Form}
 use Rattle.disco_values.specs.declared.form.Form.TheVariants.{Full, Compact}
 use Rattle.disco_instance.specs.declared.lease.Lease.{Lease}
-use Rattle.disco_history.specs.Chosen.{map_at}
+use Rattle.disco_history.specs.MapAt.{map_at}
 use Rattle.disco_instance.specs.Mention.{Mention}
 
 -- the lease of an instance that says nothing of it

@@ -1,11 +1,11 @@
 pub mod Apps
 pub mod Change
-pub mod Chosen
 pub mod Forms
 pub mod Hash
 pub mod Held
 pub mod Laws
 pub mod List
+pub mod MapAt
 pub mod Mentions
 pub mod Places
 pub mod Query

@@ -7,7 +7,7 @@ use Rattle.disco_instance.specs.Mention.{Mention}
 use Rattle.disco_instance.specs.Row.{Row}
 use Rattle.disco_values.specs.declared.action.Action.TheVariants.{Added}
 use Rattle.disco_history.specs.Change.{Entry, key_of, last}
-use Rattle.disco_history.specs.Chosen.{map_at}
+use Rattle.disco_history.specs.MapAt.{map_at}
 use Rattle.disco_history.specs.Registry.{kept_by, registry_of}
 
 abbrev pub mention_of : Entry → Mention

@@ -7,7 +7,7 @@ use Rattle.std.specs.FinMap.{FinMap, get, keys, len, values}
 use Rattle.disco_values.specs.Key.{key_cmp, same_key}
 use Rattle.disco_instance.specs.Row.{Row}
 use Rattle.disco_values.specs.declared.key.Key.{Key}
-use Rattle.disco_history.specs.Chosen.{map_at}
+use Rattle.disco_history.specs.MapAt.{map_at}
 
 -- what a query asks for
 pub data Selector : Type 0 where

@@ -6,7 +6,7 @@ use Rattle.disco_instance.specs.Row.{Row}
 use Rattle.disco_values.specs.declared.action.Action.{Action}
 use Rattle.disco_values.specs.declared.action.Action.TheVariants.{Added, Modified, Deleted}
 use Rattle.disco_history.specs.Change.{Entry, key_of, last}
-use Rattle.disco_history.specs.Chosen.{map_at}
+use Rattle.disco_history.specs.MapAt.{map_at}
 
 -- x, unless the action took it out
 abbrev pub kept_by : {X : Type 0} → Action → X → Option X

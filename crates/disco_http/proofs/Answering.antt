@@ -3,7 +3,7 @@ use Rattle.std.proofs.Common.{◌≡◌, ℕ, ◌+◌, ◌-◌, ◌<◌, ◌==�
 use Rattle.std.proofs.lemmas.Bool.Decides.{nat_tests}
 use Rattle.std.proofs.lemmas.List.{map_push}
 use Rattle.disco_message.specs.declared.limits.Limits.{Limits}
-use Rattle.disco_message.specs.Asked as message
+use Rattle.disco_message.specs.RequestView as message
 use Rattle.disco_message.specs.ReplyText.{ReplyView, reply_text}
 use Rattle.disco_reader.specs.Requests.{TakesRequest}
 use Rattle.disco_http.specs.declared.serving.End.{End}

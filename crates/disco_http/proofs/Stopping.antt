@@ -3,7 +3,7 @@ use Rattle.std.proofs.Common.{◌≡◌, ◌≢◌, ℕ, Bool, true, List, [], �
 use Rattle.disco_values.specs.declared.fault.Fault.TheVariants.{ReadFailed, WriteFailed}
 use Rattle.disco_values.specs.declared.fault.Fault as fault
 use Rattle.disco_message.specs.declared.limits.Limits.{Limits}
-use Rattle.disco_message.specs.Asked as message
+use Rattle.disco_message.specs.RequestView as message
 use Rattle.disco_message.specs.ReplyText.{ReplyView, reply_text}
 use Rattle.disco_reader.specs.Requests.{HasNone, Refused}
 use Rattle.disco_reader.specs.Streams.{Came}

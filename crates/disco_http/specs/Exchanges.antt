@@ -4,7 +4,7 @@ use Rattle.std.specs.Io.KnownBytes.{Appends}
 use Rattle.disco_values.specs.declared.fault.Fault.TheVariants.{WriteFailed}
 use Rattle.disco_values.specs.declared.fault.Fault as fault
 use Rattle.disco_message.specs.declared.limits.Limits.{Limits}
-use Rattle.disco_message.specs.Asked as message
+use Rattle.disco_message.specs.RequestView as message
 use Rattle.disco_message.specs.ReplyText.{ReplyView, reply_text}
 use Rattle.disco_reader.specs.Chunks.{bytes_in_chunks}
 use Rattle.disco_reader.specs.Requests.{TakesRequest}

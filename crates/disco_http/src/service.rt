@@ -1,5 +1,5 @@
 //! What answers requests.
-ghost use Rattle.disco_message.specs.Asked.{RequestView};
+ghost use Rattle.disco_message.specs.RequestView.{RequestView};
 ghost use Rattle.disco_message.specs.ReplyText.{ReplyView, reply_view};
 
 use disco_message::{Document, Reply, Request};

@@ -1,4 +1,3 @@
-pub mod Asked
 pub mod Certificate
 pub mod Few
 pub mod Fields
@@ -7,6 +6,7 @@ pub mod Heading
 pub mod Laws
 pub mod Received
 pub mod ReplyText
+pub mod RequestView
 pub mod StatusLine
 pub mod Target
 pub mod ValuesLeft

@@ -1,6 +1,6 @@
 //! A request.
 ghost use Rattle.std.specs.Prelude.{◌≡◌};
-ghost use Rattle.disco_message.specs.Asked.{request_view};
+ghost use Rattle.disco_message.specs.RequestView.{request_view};
 
 use crate::fields::Values;
 use crate::head::Head;
@@ -15,7 +15,7 @@ pub struct Request {
 }
 
 impl Model for Request {
-    ghost use Rattle.disco_message.specs.Asked.{RequestView, request_view};
+    ghost use Rattle.disco_message.specs.RequestView.{RequestView, request_view};
 
     ghost Value = { RequestView };
 

@@ -4,7 +4,7 @@ use Rattle.httparse.specs.Grammar.{RequestHead, print_request, ReadsRequest}
 use Rattle.disco_values.specs.declared.fault.Fault.{Fault}
 use Rattle.disco_message.specs.declared.limits.Limits.{Limits}
 use Rattle.disco_message.specs.Heading.{Heading, heading}
-use Rattle.disco_message.specs.Asked.{RequestView, request_view}
+use Rattle.disco_message.specs.RequestView.{RequestView, request_view}
 use Rattle.disco_reader.specs.declared.parsing.Part.TheVariants as part
 use Rattle.disco_reader.specs.Parts.{PartRefused}
 use Rattle.disco_reader.specs.Bodies.{ReadsBody, BodyRefused}

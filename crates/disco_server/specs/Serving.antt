@@ -2,7 +2,7 @@
 use Rattle.std.specs.Prelude.{◌≡◌, ℕ}
 use mathlib.Core.List.{IsPrefix}
 use Rattle.disco_hub.specs.State.{rules_of}
-use Rattle.disco_message.specs.Asked.{RequestView}
+use Rattle.disco_message.specs.RequestView.{RequestView}
 use Rattle.disco_message.specs.ReplyText.{ReplyView}
 use Rattle.disco_calls.specs.Calls.{call}
 use Rattle.disco_answers.specs.Desks.{IsLookOrCall}
