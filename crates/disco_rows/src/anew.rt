@@ -1,10 +1,12 @@
 //! Documents joined anew, of texts that are made of what they say of each instance.
 use disco_compact::text_compact;
+use disco_trials::Outcome;
 use disco_values::{Fault, Form, Text};
 use disco_wire::{Mention, Shape, Wire, read_document};
 use disco_writer::text_full;
 use json::Writer;
 use std::alloc::{AllocError, Global};
+use std::io;
 
 fn push(out: &mut Vec<u8>, text: &str) -> Result<(), AllocError> {
     out.extend_from_slice(text.as_bytes())
@@ -131,7 +133,7 @@ fn line_anew(alloc: Global, line: &[u8]) -> Result<Vec<u8>, Fault> {
 }
 
 /// Answer lines, with each document joined anew.
-pub(crate) fn answers_anew(alloc: Global, answers: &[u8]) -> Result<Vec<u8>, Fault> {
+fn answers_anew(alloc: Global, answers: &[u8]) -> Result<Vec<u8>, Fault> {
     let mut out = Vec::new(alloc);
     let mut first = true;
     for line in answers.split(|b| *b == b'\n') {
@@ -141,4 +143,16 @@ pub(crate) fn answers_anew(alloc: Global, answers: &[u8]) -> Result<Vec<u8>, Fau
         first = false;
     }
     Ok(out)
+}
+
+/// An outcome with each document of its answers joined anew.
+pub(crate) fn outcome_anew(alloc: Global, came: &Outcome) -> io::Result<Outcome> {
+    let Ok(answers) = answers_anew(alloc, came.answers.as_slice()) else {
+        return Err(io::Error::from(io::ErrorKind::InvalidData));
+    };
+    Ok(Outcome {
+        status: came.status.clone()?,
+        answers,
+        faults: came.faults.clone()?,
+    })
 }

@@ -1,6 +1,6 @@
 //! The files of a row.
-use crate::outcome::Outcome;
 use crate::row::{Given, Row, status_line};
+use disco_trials::Outcome;
 use std::alloc::Global;
 use std::io::ErrorKind;
 use std::rt::Files;

@@ -9,14 +9,13 @@
 #![tactic(auto)]
 
 mod anew;
-mod difference;
 mod files;
 mod meanings;
-mod outcome;
 mod row;
 mod topics;
 
-use disco_trials::names;
+use anew::outcome_anew;
+use disco_trials::{Difference, names};
 use std::alloc::Global;
 use std::net::{Net, TcpListener, TcpStream};
 use std::process::ExitCode;
@@ -34,10 +33,10 @@ where
 {
     let row = files::read_row(rt, name)?;
     let came = row::run(rt, &row)?;
-    let anew = came.anew(rt.alloc())?;
-    match difference::first(&row.wanted, &came).or(difference::first(&anew, &came)) {
+    let anew = outcome_anew(rt.alloc(), &came)?;
+    match Difference::first(&row.wanted, &came).or(Difference::first(&anew, &came)) {
         Some(difference) => {
-            difference::write_difference(&mut io::writer(rt), name, &difference)?;
+            difference.write(&mut io::writer(rt), name)?;
             if writes {
                 files::write_outcome(rt, name, &came)?;
             }
