@@ -8,6 +8,7 @@ use Rattle.disco_values.specs.declared.key.Key.{Key}
 use Rattle.disco_instance.specs.declared.lease.Lease.{Lease}
 use Rattle.disco_instance.specs.declared.parts.Addresses.{Addresses}
 use Rattle.disco_instance.specs.declared.parts.Pages.{Pages}
+use Rattle.disco_instance.specs.declared.parts.Rest.{Rest}
 use Rattle.disco_instance.specs.declared.record.Record.{Record}
 use Rattle.disco_instance.specs.Row.{Row}
 use Rattle.disco_values.specs.declared.status.Status.TheVariants.{Up}
@@ -32,6 +33,21 @@ pub record SaysRest (d : Data) (r : Record) : Type 0 where
   pub port : r.port ≡ port_at (codes "port") 7001 true d
   pub secure_port : r.secure_port ≡ port_at (codes "securePort") 7002 false d
   pub status : r.status ≡ status_at (codes "status") Up d
+
+-- the rest of a record as a tree says it, but for the key
+pub record IsRestOf (d : Data) (r : Rest) : Type 0 where
+  pub data_center : r.data_center ≡ data_center_at d
+  pub metadata : r.metadata ≡ entries_at (codes "metadata") d
+  pub overridden_status : r.overridden_status ≡ override_at d
+  pub status : r.status ≡ status_at (codes "status") Up d
+
+-- the record has this rest
+pub record HasRest (rest : Rest) (r : Record) : Type 0 where
+  pub key : r.key ≡ rest.key
+  pub data_center : r.data_center ≡ rest.data_center
+  pub metadata : r.metadata ≡ rest.metadata
+  pub overridden_status : r.overridden_status ≡ rest.overridden_status
+  pub status : r.status ≡ rest.status
 
 -- the record has these pages and addresses
 pub record HasPagesAndAddresses (p : Pages) (a : Addresses) (r : Record) : Type 0 where

@@ -9,6 +9,7 @@ mod known;
 mod lease;
 mod members;
 mod metadata;
+mod naming;
 mod parts;
 mod port;
 mod reading;

@@ -1,13 +1,21 @@
 //! The parts of a record that are copied, and read, together.
-ghost use Rattle.std.specs.Prelude.{◌≡◌, codes, IfOk};
+ghost use Rattle.std.specs.Prelude.{◌≡◌, codes, IfErr, IfOk};
+ghost use Rattle.std.specs.Option.{option_copied};
 ghost use Rattle.serde_json.specs.View.{members_view, view};
-ghost use Rattle.disco_instance.specs.Members.{text_or_empty};
+ghost use Rattle.disco_values.specs.declared.fault.Fault.TheVariants.{OutOfMemory};
+ghost use Rattle.disco_values.specs.declared.status.Status.TheVariants.{Up};
+ghost use Rattle.disco_instance.specs.Instance.{Gives, data_center_at, key_at};
+ghost use Rattle.disco_instance.specs.Members.{override_at, status_at, text_or_empty};
+ghost use Rattle.disco_instance.specs.Metadata.{entries_at};
 ghost use Rattle.disco_instance.specs.Taking.{text_in};
 
-use crate::members::text_or_empty;
+use crate::data_center::DataCenter;
+use crate::members::{override_member, status_member, text_or_empty};
+use crate::metadata::entries_member;
+use crate::naming::{data_center_member, key_from_value};
 use crate::record::Record;
 use crate::taking::taken_text;
-use disco_values::Text;
+use disco_values::{Entries, Fault, Key, Status, Text};
 use serde_json::{Map, Value};
 use std::alloc::{AllocError, Global};
 
@@ -62,6 +70,26 @@ pub(crate) struct Addresses {
     pub(crate) vip_address: Text,
 }
 
+/// Addresses with these texts, copied.
+fn addresses_of(
+    host: &Text,
+    ip: &Text,
+    secure_vip: &Text,
+    vip: &Text,
+) -> Result<Addresses, AllocError>
+    ensures host { IfOk result (λ a. a.host_name ≡ host.now) }
+    ensures ip { IfOk result (λ a. a.ip_addr ≡ ip.now) }
+    ensures secure_vip { IfOk result (λ a. a.secure_vip_address ≡ secure_vip.now) }
+    ensures vip { IfOk result (λ a. a.vip_address ≡ vip.now) }
+{
+    Ok(Addresses {
+        host_name: host.clone()?,
+        ip_addr: ip.clone()?,
+        secure_vip_address: secure_vip.clone()?,
+        vip_address: vip.clone()?,
+    })
+}
+
 impl Addresses {
     pub(crate) fn copied(rec: &Record) -> Result<Addresses, AllocError>
         ensures host { IfOk result (λ a. a.host_name ≡ rec.now.host_name) }
@@ -69,12 +97,12 @@ impl Addresses {
         ensures secure_vip { IfOk result (λ a. a.secure_vip_address ≡ rec.now.secure_vip_address) }
         ensures vip { IfOk result (λ a. a.vip_address ≡ rec.now.vip_address) }
     {
-        Ok(Addresses {
-            host_name: rec.host_name.clone()?,
-            ip_addr: rec.ip_addr.clone()?,
-            secure_vip_address: rec.secure_vip_address.clone()?,
-            vip_address: rec.vip_address.clone()?,
-        })
+        addresses_of(
+            &rec.host_name,
+            &rec.ip_addr,
+            &rec.secure_vip_address,
+            &rec.vip_address,
+        )
     }
 
     pub(crate) fn read(alloc: Global, value: &Value) -> Result<Addresses, AllocError>
@@ -98,6 +126,77 @@ impl Addresses {
             secure_vip_address: Text::empty(alloc),
             vip_address: Text::empty(alloc),
         }
+    }
+}
+
+/// What names an instance, where it runs, what its owner says of it, and its statuses.
+#[derive(Drop)]
+pub(crate) struct Rest {
+    pub(crate) key: Key,
+    pub(crate) data_center: DataCenter,
+    pub(crate) metadata: Entries,
+    pub(crate) overridden_status: Status,
+    pub(crate) status: Status,
+}
+
+/// The rest of a record with these parts, copied.
+fn rest_of(
+    key: &Key,
+    data_center: &DataCenter,
+    metadata: &Entries,
+    overridden_status: Status,
+    status: Status,
+) -> Result<Rest, AllocError>
+    ensures key { IfOk result (λ r. r.key ≡ key.now) }
+    ensures data_center { IfOk result (λ r. r.data_center ≡ data_center.now) }
+    ensures metadata { IfOk result (λ r. r.metadata ≡ metadata.now) }
+    ensures overridden_status { IfOk result (λ r. r.overridden_status ≡ overridden_status) }
+    ensures status { IfOk result (λ r. r.status ≡ status) }
+{
+    Ok(Rest {
+        key: key.clone()?,
+        data_center: data_center.clone()?,
+        metadata: metadata.copy()?,
+        overridden_status,
+        status,
+    })
+}
+
+impl Rest {
+    pub(crate) fn copied(rec: &Record) -> Result<Rest, AllocError>
+        ensures key { IfOk result (λ r. r.key ≡ rec.now.key) }
+        ensures data_center { IfOk result (λ r. r.data_center ≡ rec.now.data_center) }
+        ensures metadata { IfOk result (λ r. r.metadata ≡ rec.now.metadata) }
+        ensures overridden_status { IfOk result (λ r. r.overridden_status ≡ rec.now.overridden_status) }
+        ensures status { IfOk result (λ r. r.status ≡ rec.now.status) }
+    {
+        rest_of(
+            &rec.key,
+            &rec.data_center,
+            &rec.metadata,
+            rec.overridden_status,
+            rec.status,
+        )
+    }
+
+    /// The rest that a JSON value says, within an application of that name. Refused as
+    /// `MissingField` for no id and else for no app, and as `OutOfMemory`.
+    pub(crate) fn read(alloc: Global, value: &Value, within: Option<&str>) -> Result<Rest, Fault>
+        ensures key { Gives (λ r. r.key) result (key_at (option_copied within.entry) (view value.now)) }
+        ensures data_center { IfOk result (λ r. r.data_center ≡ data_center_at (view value.now)) }
+        ensures metadata { IfOk result (λ r. r.metadata ≡ entries_at (codes "metadata") (view value.now)) }
+        ensures overridden_status { IfOk result (λ r. r.overridden_status ≡ override_at (view value.now)) }
+        ensures status { IfOk result (λ r. r.status ≡ status_at (codes "status") Up (view value.now)) }
+    {
+        let overridden_status = override_member(alloc, value)?;
+        let status = status_member(alloc, value, "status", Status::Up)?;
+        Ok(Rest {
+            key: key_from_value(alloc, value, within)?,
+            data_center: data_center_member(alloc, value)?,
+            metadata: entries_member(alloc, value, "metadata")?,
+            overridden_status,
+            status,
+        })
     }
 }
 

@@ -1,70 +1,20 @@
 //! A record from a JSON value.
-ghost use Rattle.std.specs.Prelude.{◌≡◌, ◌<◌, ◌^◌, codes, IfOk, None, option_map};
+ghost use Rattle.std.specs.Prelude.{◌≡◌, ◌<◌, ◌^◌, codes, IfOk, None};
 ghost use Rattle.std.specs.Option.{option_copied};
 ghost use Rattle.serde_json.specs.View.{view};
-ghost use Rattle.disco_instance.specs.Instance.{Gives, action_at, data_center_at, id_at, key_at, lease_in, told_by};
-ghost use Rattle.disco_instance.specs.Steps.{HasPagesAndAddresses, IsRecordLease, SaysRest, with_texts};
+ghost use Rattle.disco_instance.specs.Instance.{Gives, action_at, key_at, lease_in, told_by};
+ghost use Rattle.disco_instance.specs.Steps.{HasPagesAndAddresses, IsRecordKey, IsRecordLease, IsRestOf, SaysRest, with_texts};
 ghost use Rattle.disco_instance.specs.Members.{inner_at, number_at};
 ghost use Rattle.disco_instance.specs.Row.{row};
 
-use crate::data_center::DataCenter;
 use crate::lease::Lease;
-use crate::members::{
-    flag_member, non_empty_member, number_member, override_member, port_member, status_member,
-    text_member,
-};
-use crate::metadata::entries_member;
-use crate::parts::{Addresses, Pages, taken};
+use crate::members::{flag_member, number_member, port_member, text_member};
+use crate::parts::{Addresses, Pages, Rest, taken};
 use crate::record::Record;
 use crate::taking::members_of;
-use disco_values::{Action, Fault, Field, Key, Status, Text, action_of, upper_text};
+use disco_values::{Action, Fault, action_of};
 use serde_json::Value;
-use std::alloc::{AllocError, Global};
-
-/// The id, for which the name of the host stands where there is none.
-fn id_member(value: &Value) -> Option<&str>
-    ensures { option_map (λ s. s.now) result ≡ id_at (view value.now) }
-{
-    match non_empty_member(value, "instanceId") {
-        Some(id) => Some(id),
-        None => non_empty_member(value, "hostName"),
-    }
-}
-
-fn key_from_value(alloc: Global, value: &Value, within: Option<&str>) -> Result<Key, Fault>
-    ensures { Gives (λ k. k) result (key_at (option_copied within.entry) (view value.now)) }
-{
-    let Some(id) = id_member(value) else {
-        return Err(Fault::MissingField(Field::InstanceId));
-    };
-    let app = match non_empty_member(value, "app") {
-        Some(app) => app,
-        None => match within {
-            Some(name) if !name.is_empty() => name,
-            _ => return Err(Fault::MissingField(Field::App)),
-        },
-    };
-    Ok(Key {
-        app: upper_text(alloc, app)?,
-        id: Text::new(alloc, id)?,
-    })
-}
-
-fn data_center_member(alloc: Global, value: &Value) -> Result<DataCenter, AllocError>
-    ensures { IfOk result (λ c. c ≡ data_center_at (view value.now)) }
-{
-    let (class, name) = match value.get("dataCenterInfo") {
-        Some(inner) => (text_member(inner, "@class"), text_member(inner, "name")),
-        None => (None, None),
-    };
-    Ok(DataCenter {
-        class: Text::new(
-            alloc,
-            class.unwrap_or("com.netflix.appinfo.InstanceInfo$DefaultDataCenterInfo"),
-        )?,
-        name: Text::new(alloc, name.unwrap_or("MyOwn"))?,
-    })
-}
+use std::alloc::Global;
 
 fn country_member(value: &Value) -> u32
     ensures value { result ≡ number_at (codes "countryId") 0 2147483647 1 (view value.now) }
@@ -111,6 +61,37 @@ pub fn action_from_value(value: &Value) -> Option<Action>
     action_of(text_member(value, "actionType")?)
 }
 
+/// The record that a value says, of whose rest, pages and addresses this is so.
+fn with_parts(value: &Value, rest: Rest, pages: Pages, addresses: Addresses) -> Record
+    requires key { IsRecordKey rest.key }
+    requires rest { IsRestOf (view value.now) rest }
+    ensures table { SaysRest (view value.now) result }
+    ensures texts { HasPagesAndAddresses pages addresses result }
+    ensures key { result.key ≡ rest.key }
+{
+    Record {
+        key: rest.key,
+        country_id: country_member(value),
+        data_center: rest.data_center,
+        health_check_url: pages.health_check_url,
+        home_page_url: pages.home_page_url,
+        status_page_url: pages.status_page_url,
+        host_name: addresses.host_name,
+        ip_addr: addresses.ip_addr,
+        is_coordinating: flag_member(value, "isCoordinatingDiscoveryServer").unwrap_or(false),
+        last_dirty: number_member(value, "lastDirtyTimestamp", 0, u64::MAX, 0),
+        last_updated: number_member(value, "lastUpdatedTimestamp", 0, u64::MAX, 0),
+        lease: lease_member(value),
+        metadata: rest.metadata,
+        overridden_status: rest.overridden_status,
+        port: port_member(value, "port", 7001, true),
+        secure_port: port_member(value, "securePort", 7002, false),
+        secure_vip_address: addresses.secure_vip_address,
+        vip_address: addresses.vip_address,
+        status: rest.status,
+    }
+}
+
 /// The record that a value says, but for its pages and addresses, which are given.
 fn read_record(
     alloc: Global,
@@ -123,33 +104,8 @@ fn read_record(
     ensures texts { IfOk result (λ r. HasPagesAndAddresses pages addresses r) }
     ensures key { Gives (λ r. r.key) result (key_at (option_copied within.entry) (view value.now)) }
 {
-    let key = key_from_value(alloc, value, within)?;
-    let data_center = data_center_member(alloc, value)?;
-    let overridden_status = override_member(alloc, value)?;
-    let status = status_member(alloc, value, "status", Status::Up)?;
-    let metadata = entries_member(alloc, value, "metadata")?;
-    let lease = lease_member(value);
-    Ok(Record {
-        key,
-        country_id: country_member(value),
-        data_center,
-        health_check_url: pages.health_check_url,
-        home_page_url: pages.home_page_url,
-        status_page_url: pages.status_page_url,
-        host_name: addresses.host_name,
-        ip_addr: addresses.ip_addr,
-        is_coordinating: flag_member(value, "isCoordinatingDiscoveryServer").unwrap_or(false),
-        last_dirty: number_member(value, "lastDirtyTimestamp", 0, u64::MAX, 0),
-        last_updated: number_member(value, "lastUpdatedTimestamp", 0, u64::MAX, 0),
-        lease,
-        metadata,
-        overridden_status,
-        port: port_member(value, "port", 7001, true),
-        secure_port: port_member(value, "securePort", 7002, false),
-        secure_vip_address: addresses.secure_vip_address,
-        vip_address: addresses.vip_address,
-        status,
-    })
+    let rest = Rest::read(alloc, value, within)?;
+    Ok(with_parts(value, rest, pages, addresses))
 }
 
 /// The record with these pages and addresses.

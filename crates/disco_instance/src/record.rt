@@ -6,7 +6,7 @@ ghost use Rattle.disco_values.specs.declared.fault.Fault.TheVariants.{OutOfMemor
 
 use crate::data_center::DataCenter;
 use crate::lease::Lease;
-use crate::parts::{Addresses, Pages};
+use crate::parts::{Addresses, Pages, Rest};
 use crate::port::Port;
 use disco_values::{Entries, Fault, Key, Status, Text};
 
@@ -51,6 +51,7 @@ pub struct Record {
 impl Record {
     ghost use Rattle.disco_values.specs.Entries.{with_entries};
     ghost use Rattle.disco_instance.specs.Row.{row};
+    ghost use Rattle.disco_instance.specs.Steps.{HasPagesAndAddresses, HasRest};
     ghost use Rattle.disco_instance.specs.Moments.{registered_at, modified_at, cancelled_at};
 
     /// The same record once more.
@@ -64,10 +65,20 @@ impl Record {
     {
         let pages = Pages::copied(self)?;
         let addresses = Addresses::copied(self)?;
-        Ok(Record {
-            key: self.key.clone()?,
+        let rest = Rest::copied(self)?;
+        Ok(self.joined(pages, addresses, rest))
+    }
+
+    /// The same record, made of copies of its parts.
+    fn joined(&self, pages: Pages, addresses: Addresses, rest: Rest) -> Record
+        requires texts { HasPagesAndAddresses pages addresses self.now }
+        requires rest { HasRest rest self.now }
+        ensures { result ≡ self.now }
+    {
+        Record {
+            key: rest.key,
             country_id: self.country_id,
-            data_center: self.data_center.clone()?,
+            data_center: rest.data_center,
             health_check_url: pages.health_check_url,
             home_page_url: pages.home_page_url,
             status_page_url: pages.status_page_url,
@@ -77,14 +88,14 @@ impl Record {
             last_dirty: self.last_dirty,
             last_updated: self.last_updated,
             lease: self.lease,
-            metadata: self.metadata.copy()?,
-            overridden_status: self.overridden_status,
+            metadata: rest.metadata,
+            overridden_status: rest.overridden_status,
             port: self.port,
             secure_port: self.secure_port,
             secure_vip_address: addresses.secure_vip_address,
             vip_address: addresses.vip_address,
-            status: self.status,
-        })
+            status: rest.status,
+        }
     }
 
     /// The record as a registration at a moment puts it, with the status and the override that

@@ -1,7 +1,9 @@
 //! Operations by what names them.
-ghost use Rattle.std.specs.Prelude.{◌≡◌, IfOk, IfErr, Ok};
+ghost use Rattle.std.specs.Prelude.{◌≡◌, ◌≢◌, IfOk, IfErr, Ok, OnOk, false, true};
+ghost use Rattle.std.specs.Str.{bytes_eq};
 ghost use Rattle.disco_instance.specs.Instance.{Gives};
-ghost use Rattle.disco_values.specs.declared.fault.Fault.TheVariants.{OutOfMemory};
+ghost use Rattle.disco_values.specs.Text.{in_upper_case};
+ghost use Rattle.disco_values.specs.declared.fault.Fault.TheVariants.{MismatchedApp, OutOfMemory};
 ghost use Rattle.disco_registry.specs.Op as asking;
 ghost use Rattle.disco_registry.specs.Op.{op_view};
 ghost use Rattle.disco_wire.specs.Registration.{registration_of};
@@ -25,6 +27,17 @@ pub fn key_named(alloc: Global, app: &Text, id: Text) -> Result<Key, Fault>
     Ok(Key { app, id })
 }
 
+/// Refuses a name that isn't an app's own in upper case, as `MismatchedApp`, and for want of memory.
+fn check_app(alloc: Global, name: &Text, own: &Text) -> Result<(), Fault>
+    ensures right { OnOk result (bytes_eq (in_upper_case name.now) own.now ≡ true) }
+    ensures wrong { IfErr result (λ e. e ≢ OutOfMemory → (bytes_eq (in_upper_case name.now) own.now ≡ false) × (e ≡ MismatchedApp)) }
+{
+    if upper(alloc, name.as_str())? != *own {
+        return Err(Fault::MismatchedApp);
+    }
+    Ok(())
+}
+
 /// A registration under an app's name, with the JSON of its body.
 ///
 /// # Errors
@@ -35,9 +48,7 @@ pub fn register(alloc: Global, app: &Text, body: &[u8]) -> Result<Op, Fault>
     ensures { Gives op_view result (registers app.now (registration_of body.now)) }
 {
     let posted = read_registration(alloc, body)?;
-    if upper(alloc, app.as_str())? != posted.key.app {
-        return Err(Fault::MismatchedApp);
-    }
+    check_app(alloc, app, &posted.key.app)?;
     Ok(Op::Register(posted))
 }
 

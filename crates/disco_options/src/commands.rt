@@ -1,6 +1,6 @@
 //! The command line.
 ghost use Rattle.std.specs.Prelude.{◌≡◌, IfOk, map, string_bytes};
-ghost use Rattle.clap.specs.Words.{FailsBy, HasKind, app_of, found_of, rows_of};
+ghost use Rattle.clap.specs.Words.{FailsBy, HasKind, app_of, found_of, rows_of, with_subcommand};
 ghost use Rattle.disco_options.specs.Options.{AreMatches, app_for, faults_of, faults_of_options, faults_of_others, matches_for, program_app};
 ghost use Rattle.disco_options.specs.Options.{fleet_app, follow_app, replay_app, serve_app};
 
@@ -97,18 +97,30 @@ fn command_of<'a>(alloc: Global, subcommand: Subcommand) -> Result<Command<'a>, 
     }
 }
 
+/// The program's command with that of a word.
+fn with<'a>(
+    alloc: Global,
+    program: Command<'a>,
+    subcommand: Subcommand,
+) -> Result<Command<'a>, AllocError>
+    ensures { IfOk result (λ c. app_of c ≡ with_subcommand (app_of program.entry) (app_for subcommand).top) }
+{
+    let command = command_of(alloc, subcommand)?;
+    program.subcommand(command)
+}
+
 fn program_command<'a>(alloc: Global) -> Result<Command<'a>, AllocError>
     ensures { IfOk result (λ c. app_of c ≡ program_app) }
 {
-    Command::new(alloc, "discovery")
+    let program = Command::new(alloc, "discovery")
         .bin_name("discovery")?
         .about("A registry of instances, after Netflix Eureka")
         .no_binary_name(true)
-        .subcommand_required(true)
-        .subcommand(serve_command(alloc)?)?
-        .subcommand(follow_command(alloc)?)?
-        .subcommand(replay_command(alloc)?)?
-        .subcommand(fleet_command(alloc)?)
+        .subcommand_required(true);
+    let program = with(alloc, program, Subcommand::Serve)?;
+    let program = with(alloc, program, Subcommand::Follow)?;
+    let program = with(alloc, program, Subcommand::Replay)?;
+    with(alloc, program, Subcommand::Fleet)
 }
 
 /// The name that help shows for a command.

@@ -63,6 +63,25 @@ fn lines_of(
     Ok(text)
 }
 
+/// The lines of a copy that is a version of a run, and what is told last then. Refused only as
+/// `OutOfMemory`.
+fn copy_told(
+    alloc: Global,
+    vip: &Option<Text>,
+    told: &Told,
+    at: (u64, u64),
+    copy: &Copy,
+) -> Result<(Vec<u8>, Told), Fault>
+    ensures told { IfOk result (λ r. IsToldCopy vip.now told.now at.0 at.1 copy.now r.0.items r.1) }
+    ensures memory { IfErr result (λ e. e ≡ OutOfMemory) }
+{
+    let changes = changes_of(alloc, &told.copy, copy)?;
+    let up = up_of(alloc, vip, copy)?;
+    let text = lines_of(alloc, told, at, changes.as_slice(), up.as_slice())?;
+    let shared = copy.share(alloc)?;
+    Ok((text, Told::of(shared, up)))
+}
+
 /// Tells of a copy that is a version of a run, in one write, and gives what is told last then.
 /// Refused as `OutOfMemory` and as `WriteFailed`.
 fn tell_copy<W: Sink>(
@@ -79,12 +98,9 @@ fn tell_copy<W: Sink>(
     ensures cause { Cause WriteFailed (W.failed out.old) (W.failed out.new) result }
     ensures none_failed { OnOk result (W.failed out.new ≡ W.failed out.old) }
 {
-    let changes = changes_of(alloc, &told.copy, copy)?;
-    let up = up_of(alloc, vip, copy)?;
-    let shared = copy.share(alloc)?;
-    let text = lines_of(alloc, &told, at, changes.as_slice(), up.as_slice())?;
+    let (text, now) = copy_told(alloc, vip, &told, at, copy)?;
     send(text.as_slice(), out)?;
-    Ok(Told::of(shared, up))
+    Ok(now)
 }
 
 /// The line of a refusal, unless it was told last. Refused only as `OutOfMemory`.

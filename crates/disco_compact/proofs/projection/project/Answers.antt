@@ -5,14 +5,14 @@ pub returns-clause-record_is : goal.returns-clause-record_is
 returns-clause-record_is c =
     let old = c.args.rec.now in
     λ i. record {
-      key = c.in_ok-clone.ensures.cases i;
+      key = c.in_ok-kept.ensures.key i;
       country_id = 1;
-      data_center = c.in_ok-clone-2.ensures.cases i;
+      data_center = c.in_ok-kept.ensures.data_center i;
       health_check_url = c.empty.ensures i;
       home_page_url = c.empty-2.ensures i;
       status_page_url = c.empty-3.ensures i;
-      host_name = c.in_ok-clone-3.ensures.cases i;
-      ip_addr = c.in_ok-clone-4.ensures.cases i;
+      host_name = c.in_ok-kept.ensures.host i;
+      ip_addr = c.in_ok-kept.ensures.ip i;
       is_coordinating = false;
       last_dirty = old.last_dirty;
       last_updated = old.last_updated;
@@ -21,7 +21,7 @@ returns-clause-record_is c =
       overridden_status = old.overridden_status;
       port = old.port;
       secure_port = old.secure_port;
-      secure_vip_address = c.in_ok-clone-5.ensures.cases i;
-      vip_address = c.in_ok-clone-6.ensures.cases i;
+      secure_vip_address = c.in_ok-kept.ensures.secure_vip i;
+      vip_address = c.in_ok-kept.ensures.vip i;
       status = old.status;
     }
