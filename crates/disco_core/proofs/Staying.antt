@@ -1,5 +1,5 @@
 -- Vips that a change leaves as they are.
-use Rattle.std.proofs.Common.{◌≡◌, ℕ, Bool, true, false, ◌&&◌, cond, List, Option, Some, None, IfSome, refl, sym, ap, ◌∙◌}
+use Rattle.std.proofs.Common.{◌≡◌, ℕ, Bool, true, false, ◌&&◌, cond, List, Option, Some, None, IfSome, IsSome, refl, sym, ap, ◌∙◌}
 use Rattle.std.specs.FinMap.{FinMap, get, get-insert, insert}
 use Rattle.std.specs.List.{list_any}
 use Rattle.std.specs.Option.{unwrap_or}
@@ -13,10 +13,10 @@ use Rattle.disco_history.specs.Change.{Entry, key_of}
 use Rattle.disco_history.specs.Query.{asks_for, of_vip, vips}
 use Rattle.disco_history.specs.Registry.{put_of}
 use Rattle.disco_history.proofs.Keys.{keys_total, same_is}
-use Rattle.disco_index.specs.Vips.{HasNoneEmpty, IsIndexOf, VipKeys, entry_has, has, is_under, place_at}
+use Rattle.disco_index.specs.Vips.{HasNoneEmpty, HasPlaces, IsIndexOf, VipKeys, entry_has, has, is_under, place_at}
 use Rattle.disco_registry.specs.Commit.{held_after}
-use Rattle.disco_core.specs.Moves.{VipsStay}
-use Rattle.disco_core.specs.State.{IsSwept}
+use Rattle.disco_core.specs.Moves.{OthersStay, VipsStay}
+use Rattle.disco_core.specs.State.{HasVipPlaces, IsSwept}
 
 same_asked : (q : List ℕ) (c d : Entry) → c.0.vip_address ≡ d.0.vip_address → asks_for (of_vip q) c.0 ≡ asks_for (of_vip q) d.0
 same_asked q c d same = ap (λ (a : List ℕ). list_any (bytes_eq q) (vips a)) same
@@ -54,3 +54,25 @@ filled m k (Some d) v is there keyed = λ q p under empty.
   where
     true_is_not_false : true ≡ false → ⊥
     true_is_not_false e = absurd (cc)
+
+placed : (o : Option Bool) → unwrap_or o false ≡ true → IsSome o
+placed (Some b) e = refl
+placed None e = absurd (cc)
+
+put_placed : (m : FinMap key_cmp Entry) (c d : Entry) (v : VipKeys) → IsIndexOf v m → get m (key_of c) ≡ Some d → c.0.vip_address ≡ d.0.vip_address → HasPlaces v c.0
+put_placed m c d v is there same = λ q p under.
+    let at : p ≡ key_of c = same_is p (key_of c) (right _ _ under) in
+    let here : entry_has q (get m p) ≡ true = ap (λ x. entry_has q (get m x)) at ∙ ap (entry_has q) there ∙ sym (same_asked q c d same) ∙ left _ _ under in
+    placed (place_at v q p) (is q p ∙ here)
+
+-- where what is put has the vips of what is held, there are places for it
+pub places_stay : (m : FinMap key_cmp Entry) (r : Row) (a : Action) (o : Option Entry) (v : VipKeys) → IsIndexOf v m → get m r.key ≡ o → VipsStay o (put_of (r, a)) → HasVipPlaces v (put_of (r, a))
+places_stay m r Added (Some d) v is there stay = put_placed m (r, Added) d v is there stay
+places_stay m r Modified (Some d) v is there stay = put_placed m (r, Modified) d v is there stay
+places_stay m r Deleted (Some d) v is there stay = absurd stay
+places_stay m r a None v is there stay = absurd stay
+
+-- where no place changes, all others are as they were
+pub others_stay : (o : Option Entry) (v : VipKeys) → OthersStay o v v
+others_stay None v = refl
+others_stay (Some e) v = λ q k other. refl

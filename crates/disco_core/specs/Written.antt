@@ -1,5 +1,5 @@
 -- The texts of what is held, in both forms.
-use Rattle.std.specs.Prelude.{◌≡◌, ℕ, List, Option, Some, None}
+use Rattle.std.specs.Prelude.{◌≡◌, ℕ, List, Option, Some, None, IsSome}
 use Rattle.std.specs.FinMap.{FinMap, get}
 use Rattle.disco_values.specs.Key.{key_cmp}
 use Rattle.disco_values.specs.declared.form.Form.{Form}
@@ -8,7 +8,7 @@ use Rattle.disco_values.specs.declared.key.Key.{Key}
 use Rattle.disco_history.specs.Change.{Entry, key_of}
 use Rattle.disco_history.specs.Mentions.{mention_of}
 use Rattle.disco_history.specs.Registry.{put_of}
-use Rattle.disco_writer.specs.Kept.{AreKept, HasNoEmpty, IsReadyFor, IsSameTexts, IsTextOf, Kept, none_kept}
+use Rattle.disco_writer.specs.Kept.{AreKept, HasNoEmpty, IsReadyFor, IsSameTexts, IsTextOf, Kept, kept_text_at, none_kept}
 
 pub record KeptTexts : Type 0 where
   pub full : Kept
@@ -25,6 +25,10 @@ kept_in Compact w = w.compact
 pub record AreWritten (w : KeptTexts) (held : FinMap key_cmp Entry) : Type 0 where
   pub full : AreKept Full w.full held
   pub compact : AreKept Compact w.compact held
+
+-- the key has its texts, in both forms
+abbrev pub HasTextsAt : KeptTexts → Key → Type 0
+HasTextsAt w k = IsSome (kept_text_at w.full k) × IsSome (kept_text_at w.compact k)
 
 -- the same but for places and for what is put next, which no answer shows
 pub record IsSameWritten (old new : KeptTexts) : Type 0 where

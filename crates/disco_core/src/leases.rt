@@ -1,7 +1,8 @@
 //! How the leases follow a change, and an operation without one.
-ghost use Rattle.std.specs.Prelude.{◌≡◌, None, Some};
+ghost use Rattle.std.specs.Prelude.{◌≡◌, IfErr, None, OnOk, Some, true};
+ghost use Rattle.disco_values.specs.declared.fault.Fault.TheVariants.{OutOfMemory};
 ghost use Rattle.disco_history.specs.Change.{key_of, change_view};
-ghost use Rattle.disco_lease.specs.Leases.{HasPlace, IsFilled, Sets, extended, lease_at, marked};
+ghost use Rattle.disco_lease.specs.Leases.{HasPlace, IsFilled, IsSameLeases, KeepsOthers, Sets, extended, lease_at, marked};
 ghost use Rattle.disco_registry.specs.Op.{op_view};
 ghost use Rattle.disco_core.specs.Moves.{FollowsChange, GoesOn};
 ghost use Rattle.disco_core.specs.State.{is_renewal};
@@ -10,13 +11,28 @@ use disco_history::Change;
 use disco_instance::Record;
 use disco_lease::LeaseBook;
 use disco_registry::Op;
-use disco_values::{Action, Key};
+use disco_values::{Action, Fault, Key};
 
 /// Whether an operation is a renewal.
 pub(crate) fn is_renewal(op: &Op) -> bool
     ensures { result ≡ is_renewal (op_view op.now) }
 {
     matches!(op, Op::Renew(_))
+}
+
+/// Makes a place for the lease of a key, which has one already where it is held. Refused only as
+/// `OutOfMemory`.
+pub(crate) fn open(leases: &mut LeaseBook, key: &Key, held: bool) -> Result<(), Fault>
+    requires { held ≡ true → HasPlace leases.old key.now }
+    ensures same { IsSameLeases leases.old leases.new }
+    ensures place { OnOk result (HasPlace leases.new key.now) }
+    ensures others { KeepsOthers key.now leases.old leases.new }
+    ensures memory { IfErr result (λ e. e ≡ OutOfMemory) }
+{
+    if held {
+        return Ok(());
+    }
+    leases.ready(key)
 }
 
 /// Starts the lease of an instance that registers.

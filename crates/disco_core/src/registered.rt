@@ -23,6 +23,7 @@ ghost use Rattle.disco_cache.specs.Payloads.{IsTrue};
 ghost use Rattle.disco_core.specs.Past.{Past, cleaned, history, minute_closed, nothing, taken_in, with_done};
 ghost use Rattle.disco_core.specs.Refusals.{doc_of_id, doc_of_key, refusal_of, refusal_of_id};
 ghost use Rattle.disco_core.specs.Moves.{Moves, OthersStay};
+ghost use Rattle.disco_core.specs.Tied.{AreLeased};
 ghost use Rattle.disco_core.specs.Written.{AreWritten, HasNoEmptyText, HasTextsFor, IsSameWritten, OpensNoText};
 ghost use Rattle.disco_core.specs.State.{AddsNoPlaces, HasPlacesFor, HasRoomFor, IsFor, IsCoreReady, IsSameCore, IsSwept, IsSweptAfter};
 ghost use Rattle.disco_core.specs.State.{CoreStandsFor, is_renewal, rules, core_rules};
@@ -171,15 +172,19 @@ fn accept(held: &mut Registry, op: Op, now: u64) -> Result<Ready, Fault>
     with_kept(ready, key, renewal, now)
 }
 
-/// Makes the places and the texts that a change needs. Refused only as `OutOfMemory`, with places
-/// half made.
+/// Makes the places and the texts that a change of what is held needs. Where its key is held, the places
+/// of its lease and of its texts are there, and aren't sought. Refused only as `OutOfMemory`, with places half made.
 fn open_all(
     index: &mut VipIndex,
     book: &mut LeaseBook,
     queue: &mut ChangedQueue,
     texts: &mut BothTexts,
+    registry: &Registry,
     change: &Change,
 ) -> Result<(), Fault>
+    requires index { vip.IsIndexOf index.old registry.now.held }
+    requires leased { AreLeased registry.now.held book.old }
+    requires kept { AreWritten texts.old registry.now.held }
     ensures vips { vip.IsSameVips index.old index.new }
     ensures other_vips { OthersStay (put_of (change_view change.now)) index.old index.new }
     ensures leases { lease.IsSameLeases book.old book.new }
@@ -192,9 +197,10 @@ fn open_all(
     ensures given_back { OnErr result (queue.new.places ≡ queue.old.places) }
     ensures memory { IfErr result (λ e. e ≡ OutOfMemory) }
 {
-    vips::open(index, change)?;
-    book.ready(change.key())?;
-    texts.ready(change)?;
+    let held = registry.get(change.key()).is_some();
+    vips::open(index, registry, change)?;
+    leases::open(book, change.key(), held)?;
+    texts.ready(change, held)?;
     queue.ready(change.key())
 }
 
@@ -221,8 +227,12 @@ fn open_places(
     book: &mut LeaseBook,
     queue: &mut ChangedQueue,
     texts: &mut BothTexts,
+    registry: &Registry,
     change: Option<&Change>,
 ) -> Result<(), Fault>
+    requires index { vip.IsIndexOf index.old registry.now.held }
+    requires leased { AreLeased registry.now.held book.old }
+    requires kept { AreWritten texts.old registry.now.held }
     ensures vips { vip.IsSameVips index.old index.new }
     ensures leases { lease.IsSameLeases book.old book.new }
     ensures queue { recent.IsSameQueue queue.old queue.new }
@@ -237,7 +247,7 @@ fn open_places(
     let Some(change) = change else {
         return Ok(());
     };
-    let opened = open_all(index, book, queue, texts, change);
+    let opened = open_all(index, book, queue, texts, registry, change);
     if opened.is_err() {
         sweep_all(index, book, texts, change);
     }
@@ -348,6 +358,7 @@ impl Core {
             &mut self.leases,
             &mut self.queue,
             &mut self.texts,
+            &self.registry,
             ready.to_come(),
         )?;
         Ok(ready)

@@ -1,5 +1,5 @@
 //! The texts of what is held, which follow each change.
-ghost use Rattle.std.specs.Prelude.{◌≡◌, IfErr, OnOk, Some};
+ghost use Rattle.std.specs.Prelude.{◌≡◌, IfErr, IsSome, OnOk, Some, true};
 ghost use Rattle.std.specs.FinMap.{FinMap, insert, remove};
 ghost use Rattle.disco_values.specs.Key.{key_cmp};
 ghost use Rattle.disco_values.specs.declared.fault.Fault.TheVariants.{OutOfMemory};
@@ -7,7 +7,8 @@ ghost use Rattle.disco_instance.specs.Row.{row};
 ghost use Rattle.disco_history.specs.Change.{Entry, key_of, change_view};
 ghost use Rattle.disco_history.specs.Registry.{put_of};
 ghost use Rattle.disco_registry.specs.Commit.{held_after};
-ghost use Rattle.disco_core.specs.Written.{AreWritten, HasNoEmptyText, HasTexts, IsSameWritten, kept_in, none_written};
+ghost use Rattle.disco_core.specs.Written.{AreWritten, HasNoEmptyText, HasTexts, HasTextsAt, IsSameWritten, kept_in, none_written};
+ghost use Rattle.disco_writer.specs.Kept.{IsReadyFor, IsSameTexts, kept_text_at};
 
 use disco_history::Change;
 use disco_instance::Record;
@@ -34,6 +35,20 @@ impl Model for BothTexts {
     ghost coded = { Prim.hlevel (codes, code) };
 
     ghost view = { λ t. record { full = t.full; compact = t.compact } };
+}
+
+/// Makes a text ready under a key, which has one already where it is held.
+fn ready_one(texts: &mut Texts, key: &Key, text: Vec<u8>, held: bool) -> Result<(), Fault>
+    requires { held ≡ true → IsSome (kept_text_at texts.old key.now) }
+    ensures same { IsSameTexts texts.old texts.new }
+    ensures ready { OnOk result (IsReadyFor texts.new key.now text.items) }
+    ensures memory { IfErr result (λ e. e ≡ OutOfMemory) }
+{
+    if held {
+        texts.ready_over(key, text)
+    } else {
+        texts.ready(key, text)
+    }
 }
 
 impl BothTexts {
@@ -66,27 +81,30 @@ impl BothTexts {
         self.compact.forget();
     }
 
-    fn ready_both(&mut self, rec: &Record, action: Action) -> Result<(), Fault>
+    fn ready_both(&mut self, rec: &Record, action: Action, held: bool) -> Result<(), Fault>
+        requires { held ≡ true → HasTextsAt self.old rec.now.key }
         ensures same { IsSameWritten self.old self.new }
         ensures texts { OnOk result (HasTexts self.new (Some (row rec.now, action))) }
         ensures memory { IfErr result (λ e. e ≡ OutOfMemory) }
     {
         let full = write_text(self.alloc, Form::Full, rec, Some(action))?;
         let compact = write_text(self.alloc, Form::Compact, rec, Some(action))?;
-        self.full.ready(&rec.key, full)?;
-        self.compact.ready(&rec.key, compact)
+        ready_one(&mut self.full, &rec.key, full, held)?;
+        ready_one(&mut self.compact, &rec.key, compact, held)
     }
 
-    /// Makes the texts of what a change puts, and places for them. Refused only as `OutOfMemory`.
-    pub(crate) fn ready(&mut self, change: &Change) -> Result<(), Fault>
+    /// Makes the texts of what a change puts, and places for them where its key isn't held. Refused
+    /// only as `OutOfMemory`.
+    pub(crate) fn ready(&mut self, change: &Change, held: bool) -> Result<(), Fault>
+        requires { held ≡ true → HasTextsAt self.old (key_of (change_view change.now)) }
         ensures same { IsSameWritten self.old self.new }
         ensures texts { OnOk result (HasTexts self.new (put_of (change_view change.now))) }
         ensures memory { IfErr result (λ e. e ≡ OutOfMemory) }
     {
         match change {
             Change::Put { action, rec } => match action {
-                Action::Added => self.ready_both(rec, Action::Added),
-                Action::Modified => self.ready_both(rec, Action::Modified),
+                Action::Added => self.ready_both(rec, Action::Added, held),
+                Action::Modified => self.ready_both(rec, Action::Modified, held),
                 Action::Deleted => Ok(()),
             },
             Change::Gone { rec: _ } => Ok(()),

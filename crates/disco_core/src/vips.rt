@@ -15,13 +15,18 @@ use disco_index::VipIndex;
 use disco_registry::Registry;
 use disco_values::{Action, Fault};
 
-/// Makes the places that a change needs. Refused only as `OutOfMemory`.
-pub(crate) fn open(vips: &mut VipIndex, change: &Change) -> Result<(), Fault>
+/// Makes the places that a change needs. Where what is held has the same vips they are there, and
+/// aren't sought. Refused only as `OutOfMemory`.
+pub(crate) fn open(vips: &mut VipIndex, registry: &Registry, change: &Change) -> Result<(), Fault>
+    requires { IsIndexOf vips.old registry.now.held }
     ensures same { IsSameVips vips.old vips.new }
     ensures others { OthersStay (put_of (change_view change.now)) vips.old vips.new }
     ensures places { OnOk result (HasVipPlaces vips.new (put_of (change_view change.now))) }
     ensures memory { IfErr result (λ e. e ≡ OutOfMemory) }
 {
+    if stay(registry.held(change.key()), change) {
+        return Ok(());
+    }
     match change {
         Change::Put {
             action: Action::Added | Action::Modified,

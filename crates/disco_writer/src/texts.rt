@@ -1,5 +1,5 @@
 //! The texts of mentions, by the keys of their instances.
-ghost use Rattle.std.specs.Prelude.{◌≡◌, IfErr, IfOk, List, None, OnErr, OnOk, Some, option_map, ℕ};
+ghost use Rattle.std.specs.Prelude.{◌≡◌, IfErr, IfOk, IsSome, List, None, OnErr, OnOk, Some, option_map, ℕ};
 ghost use Rattle.disco_values.specs.declared.fault.Fault.TheVariants.{OutOfMemory};
 ghost use Rattle.disco_values.specs.declared.key.Key.{Key};
 ghost use Rattle.std.specs.FinMap.{entries};
@@ -91,7 +91,26 @@ impl Texts {
         Ok(())
     }
 
-    /// Puts the text that `ready` was given. Takes no memory.
+    /// Keeps the text for the next `put` under a key that has one, as [`Texts::ready`] does. The
+    /// key's place is there, so it isn't sought.
+    ///
+    /// # Errors
+    ///
+    /// `OutOfMemory` alone. Then no place stands empty.
+    pub fn ready_over(&mut self, key: &Key, text: Vec<u8>) -> Result<(), Fault>
+        requires { IsSome (kept_text_at self.old key.now) }
+        ensures same { IsSameTexts self.old self.new }
+        ensures ready { OnOk result (IsReadyFor self.new key.now text.items) }
+        ensures given_back { OnErr result (HasNoEmpty self.new.places) }
+        ensures memory { IfErr result (λ e. e ≡ OutOfMemory) }
+    {
+        self.forget();
+        let own = key.clone()?;
+        self.next = Some((own, Bytes::from_vec(text)));
+        Ok(())
+    }
+
+    /// Puts the text that `ready` or `ready_over` was given. Takes no memory.
     pub fn put(&mut self)
         ensures put { (k : Key) (t : List ℕ) → IsReadyFor self.old k t → SetsText k (Some t) self.old self.new }
         ensures none_empty { HasNoEmpty self.new.places }
