@@ -1,5 +1,5 @@
 -- What a desk does is answered, noted and counted.
-use Rattle.std.proofs.Common.{◌≡◌, inl, inr, ℕ, ◌+◌, ◌≤◌, List, [], ◌++◌, length, map, Option, Some, None, Result, Ok, Err, IfOk, OnErr, refl, sym, ap, subst, ◌∙◌, arith, append-nil, length-append}
+use Rattle.std.proofs.Common.{◌≡◌, inl, inr, ℕ, ◌+◌, ◌≤◌, [], ◌++◌, length, map, Option, Some, None, Result, Ok, Err, IfOk, OnErr, refl, sym, ap, subst, ◌∙◌, arith, append-nil}
 use mathlib.Core.List.{IsPrefix}
 use base.Growing.{prefix_trans}
 use Rattle.disco_instance.specs.Instance.{Gives}
@@ -9,7 +9,7 @@ use Rattle.disco_registry.specs.Commit.{done_by}
 use Rattle.disco_registry.specs.declared.op.Applied.{Applied}
 use Rattle.disco_core.specs.Past.{Past, history}
 use Rattle.disco_core.specs.State.{Rules}
-use Rattle.disco_rounds.specs.Press.{Note, change}
+use Rattle.disco_rounds.specs.Press.{change}
 use Rattle.disco_hub.specs.State.{rules_of}
 use Rattle.disco_message.specs.ReplyText.{ReplyView}
 use Rattle.disco_calls.specs.Calls.{CallView, loads, shows, shows_id, writes, lacks, call_view}

@@ -15,7 +15,7 @@ use Rattle.disco_values.specs.declared.fault.Fault.TheVariants.{NotFound, TooMan
 use Rattle.disco_values.specs.declared.key.Key.{Key}
 use Rattle.disco_values.specs.declared.status.Status.{Status}
 use Rattle.disco_values.specs.declared.status.Status.TheVariants.{Unknown}
-use Rattle.disco_history.specs.Change.{Entry, key_of, change_view}
+use Rattle.disco_history.specs.Change.{Entry, key_of}
 use Rattle.disco_history.specs.Held.{record_at}
 use Rattle.disco_history.specs.Registry.{registry_of}
 use Rattle.disco_history.proofs.Keys.{keys_total}

@@ -6,10 +6,9 @@ use Rattle.disco_values.specs.declared.form.Form.{Form}
 use Rattle.disco_values.specs.declared.form.Form.TheVariants.{Compact, Full}
 use Rattle.disco_values.specs.declared.key.Key.{Key}
 use Rattle.disco_history.specs.Change.{Entry, key_of}
-use Rattle.disco_history.specs.Mentions.{mention_of}
 use Rattle.disco_history.specs.Registry.{put_of}
 use Rattle.disco_registry.specs.Commit.{held_after}
-use Rattle.disco_writer.specs.Kept.{AreKept, HasNoEmpty, IsReadyFor, Kept, SetsText}
+use Rattle.disco_writer.specs.Kept.{AreKept, IsReadyFor, Kept, SetsText}
 use Rattle.disco_writer.proofs.KeptLaws.{gone_kept_law, none_kept_law, put_kept_law, same_kept_law}
 use Rattle.disco_core.specs.Written.{AreWritten, HasNoEmptyText, HasText, HasTexts, IsSameWritten, OpensNoText, KeptTexts, kept_in, none_written}
 

@@ -13,7 +13,7 @@ use Rattle.disco_history.specs.Change.{Entry, key_of}
 use Rattle.disco_history.specs.Query.{asks_for, of_vip, vips}
 use Rattle.disco_history.specs.Registry.{put_of}
 use Rattle.disco_history.proofs.Keys.{keys_total, same_is}
-use Rattle.disco_index.specs.Vips.{HasNoneEmpty, HasPlaces, IsIndexOf, VipKeys, entry_has, has, is_under, place_at}
+use Rattle.disco_index.specs.Vips.{HasPlaces, IsIndexOf, VipKeys, entry_has, has, place_at}
 use Rattle.disco_registry.specs.Commit.{held_after}
 use Rattle.disco_core.specs.Moves.{OthersStay, VipsStay}
 use Rattle.disco_core.specs.State.{HasVipPlaces, IsSwept}

@@ -7,7 +7,7 @@ use Rattle.disco_instance.specs.Row.{Row}
 use Rattle.disco_values.specs.declared.fault.Fault.{Fault}
 use Rattle.disco_values.specs.declared.fault.Fault.TheVariants.{NotFound}
 use Rattle.disco_values.specs.declared.key.Key.{Key}
-use Rattle.disco_history.specs.Change.{Entry, key_of, change_view}
+use Rattle.disco_history.specs.Change.{Entry, key_of}
 use Rattle.disco_history.specs.Registry.{put_of}
 use Rattle.disco_history.proofs.Keys.{keys_total, same_is}
 use Rattle.disco_history.proofs.Sets.{said_nil}

@@ -3,7 +3,6 @@ use Rattle.std.specs.Prelude.{◌≡◌, List, ◌++◌, IfSome}
 use Rattle.disco_core.specs.Past.{Past, history}
 use Rattle.disco_rounds.specs.Press.{Edition, IsPressed, Note, copied_in}
 use Rattle.disco_hub.specs.State.{HubState, HubStandsFor}
-use Rattle.disco_rounds.specs.declared.copied.Copied.TheVariants as copied
 
 -- the hub stands for what has happened, which is noted so, and in a round the next edition is what was copied since it began
 pub record AreLevels (hub : HubState) (next : Edition) (published pending : List Note) (p : Past) : Type 0 where

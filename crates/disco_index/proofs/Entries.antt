@@ -1,5 +1,5 @@
 -- How many of the entries in the order of their keys have a status.
-use Rattle.std.proofs.Common.{◌≡◌, ℕ, ◌+◌, cond, T, List, [], ◌∷◌, map, Some, None, refl, sym, ap, subst, ◌∙◌, arith}
+use Rattle.std.proofs.Common.{◌≡◌, ℕ, ◌+◌, cond, T, List, [], ◌∷◌, map, Some, refl, sym, ap, subst, arith}
 use Rattle.std.specs.declared.cmp.Ordering.{Ordering}
 use Rattle.std.specs.declared.cmp.Ordering.TheVariants.{Less, Equal, Greater}
 use Rattle.std.specs.Ordering.{is_eq, is_lt}

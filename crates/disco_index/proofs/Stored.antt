@@ -1,6 +1,5 @@
 -- The finite map that a tree's entries stand for.
 use Rattle.std.proofs.Common.{◌≡◌, Bool, true, false, ◌&&◌, cond, T, List, [], ◌∷◌, map, filter, Option, Some, None, refl, sym, ap, subst, ◌∙◌}
-use Rattle.std.specs.declared.cmp.Ordering.TheVariants.{Less}
 use Rattle.std.specs.FinMap.{FinMap, entries, entries_sorted, from_entries, from_sorted, entries-from_sorted, get, get-entries, get-from_entries, get-from_sorted, same_map}
 use Rattle.std.specs.FinMap.Entries.{below_all, find, is_sorted, put, by_order, same_entries}
 use Rattle.std.specs.List.{AllByRecursion}

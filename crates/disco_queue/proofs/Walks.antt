@@ -1,15 +1,13 @@
 -- A walk of sorted places meets the last change of each key, in the keys' order.
 use Rattle.std.proofs.Common.{◌≡◌, ℕ, Bool, true, false, cond, T, List, [], ◌∷◌, map, Option, Some, None, option_map, option_and_then, refl, sym, ap, subst, ◌∙◌}
-use Rattle.std.specs.declared.cmp.Ordering.TheVariants.{Less}
-use Rattle.std.specs.FinMap.{FinMap, entries, entries-from_sorted, from_entries, from_sorted, get, get-from_sorted, same_map, values}
+use Rattle.std.specs.FinMap.{entries-from_sorted, from_entries, from_sorted, get-from_sorted, same_map, values}
 use Rattle.std.specs.FinMap.Entries.{below_all, find, is_sorted}
-use Rattle.std.specs.List.{AllByRecursion, cons_option, filter_map}
+use Rattle.std.specs.List.{cons_option, filter_map}
 use Rattle.std.specs.List.Sorted.{IsStrictlySortedBy}
 use Rattle.std.specs.Map.{keys_of}
-use Rattle.std.specs.Ordering.{is_eq, is_lt}
 use Rattle.disco_values.specs.Key.{key_cmp, same_key}
 use Rattle.disco_values.specs.declared.key.Key.{Key}
-use Rattle.disco_history.specs.Change.{Entry, last}
+use Rattle.disco_history.specs.Change.{Entry}
 use Rattle.disco_history.specs.Mentions.{delta}
 use Rattle.disco_history.proofs.Keys.{keys_total, exact_keys, same_is}
 use Rattle.disco_history.proofs.Sets.{get-delta}

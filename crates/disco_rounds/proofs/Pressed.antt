@@ -6,8 +6,6 @@ use Rattle.disco_cache.specs.Docs.{Docs}
 use Rattle.disco_query.specs.declared.key.DocKey.{DocKey}
 use Rattle.disco_rounds.specs.Press.{Fits, IsLegal, IsPressed, Note, begin, change, changes_in, step}
 use Rattle.disco_rounds.specs.Rounds.{KeySet, Round, kept_keys, new_round, round_keys}
-use Rattle.disco_rounds.specs.declared.copied.Copied.{Copied}
-use Rattle.disco_rounds.specs.declared.copied.Copied.TheVariants as copied
 use Rattle.disco_rounds.proofs.InStep.{begun_law, changes_stay, copied_law, nothing_noted, publishable_law, shown_law}
 use Rattle.disco_rounds.proofs.Notes.{changes-begin, changes_more, legal_changes, legal_more}
 

@@ -1,6 +1,6 @@
 use Rattle.std.proofs.Common.{subst}
 use Rattle.clap.specs.Words.{found_of, rows_of}
-use Rattle.disco_follow.specs.Following.{Tells, TellsFor, form_in, times_in, vip_in}
+use Rattle.disco_follow.specs.Following.{Tells, TellsFor, form_in, vip_in}
 use Rattle.disco_follow.proofs.following.follow.Goals as goal
 
 pub returns-in-Ok-vip_from-clause-told : goal.returns-in-Ok-vip_from-clause-told

@@ -1,4 +1,4 @@
-use Rattle.std.proofs.Common.{◌≡◌, ◌∙◌, ℕ, None, Result, Ok, Err, OnOk, ap, subst}
+use Rattle.std.proofs.Common.{◌∙◌, ℕ, None, Result, Ok, Err, OnOk, ap, subst}
 use Rattle.disco_reconcile.specs.State.{ClientState}
 use Rattle.disco_reconcile.specs.declared.kept.Kept.TheVariants.{Certified}
 use Rattle.disco_telling.specs.Following.{Follows, turns_of}

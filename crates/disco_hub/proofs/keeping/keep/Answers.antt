@@ -1,4 +1,4 @@
-use Rattle.std.proofs.Common.{ap, sym, subst, true, ◌∙◌, ◌≡◌, None}
+use Rattle.std.proofs.Common.{ap, sym, subst, true, ◌∙◌, ◌≡◌}
 use Rattle.std.specs.FinMap.{get}
 use Rattle.disco_cache.specs.declared.payload.Payload.{Payload}
 use Rattle.disco_hub.specs.Kept.{KeepsAtMost}

@@ -1,5 +1,4 @@
 use Rattle.std.proofs.Common.{◌≡◌, None, true, ap, inl, refl, rules, sym, subst, ◌∙◌}
-use Rattle.std.specs.FinMap.{get}
 use Rattle.disco_query.specs.Query.{is_delta}
 use Rattle.disco_query.specs.declared.key.DocKey.{DocKey}
 use Rattle.disco_cache.specs.declared.payload.Payload.{Payload}

@@ -1,4 +1,4 @@
-use Rattle.std.proofs.Common.{option_map, ap}
+use Rattle.std.proofs.Common.{ap}
 use Rattle.std.specs.FinMap.{get}
 use Rattle.disco_lease.proofs.Steps.{lease-touch, others-put}
 use Rattle.disco_lease.proofs.book.LeaseBook.touch.Goals as goal

@@ -1,8 +1,7 @@
-use Rattle.std.proofs.Common.{◌≡◌, false, Option, Some, None, Result, OnErr, is_some, refl, sym, ap, subst, ◌∙◌}
-use Rattle.std.specs.FinMap.{from_entries, get}
+use Rattle.std.proofs.Common.{false, Some, sym, subst, ◌∙◌}
 use Rattle.disco_values.specs.declared.key.Key.{Key}
 use Rattle.disco_history.specs.Slots.{opened}
-use Rattle.disco_history.proofs.Slots.{Updated, altered, unaltered, at_key, get_stored, opened-none, opened-some}
+use Rattle.disco_history.proofs.Slots.{Updated, altered, unaltered, at_key, opened-none, opened-some}
 use Rattle.disco_queue.proofs.Places.{none_at}
 use Rattle.disco_queue.proofs.numbers.Numbers.open.Goals as goal
 

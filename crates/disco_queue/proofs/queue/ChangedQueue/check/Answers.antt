@@ -1,6 +1,6 @@
 use Rattle.std.proofs.Common.{ap, is_some, map, sym, subst, ◌∙◌}
 use Rattle.disco_history.specs.Change.{last}
-use Rattle.disco_queue.specs.Queue.{AreFilled, Queue}
+use Rattle.disco_queue.specs.Queue.{AreFilled}
 use Rattle.disco_queue.specs.Seen.{change_of}
 use Rattle.disco_queue.specs.contracts.queue.ChangedQueue.{the_view}
 use Rattle.disco_queue.proofs.LastChanges.{seen_changes}

@@ -1,4 +1,4 @@
-use Rattle.std.proofs.Common.{◌≤◌, ap, sym, ◌∙◌, arith, map}
+use Rattle.std.proofs.Common.{ap, sym, ◌∙◌, arith, map}
 use Rattle.std.specs.FinMap.{get, get-empty}
 use Rattle.std.specs.Option.{unwrap_or}
 use Rattle.disco_values.specs.Key.{key_cmp}
