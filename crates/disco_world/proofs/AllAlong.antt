@@ -1,5 +1,6 @@
 -- After each event of a run, what clients can take is true of a version, and each copy means the version at which it is known.
 use Rattle.std.specs.FinMap.{get}
+use Rattle.std.specs.Option.{option_map_or}
 use Rattle.std.proofs.Common.{◌≡◌, ℕ, zero, suc, ◌≤◌, arith, Bool, true, false, cond, eqb, List, [], ◌∷◌, ◌++◌, length, Option, Some, None, slice_get, refl, sym, ap, subst, ◌∙◌, add-one}
 use Rattle.std.specs.declared.alloc.Global.{Global}
 use Rattle.std.specs.declared.sync.Arc.{Arc}
@@ -16,8 +17,8 @@ use Rattle.disco_client.specs.declared.certified.CertifiedCopy.{CertifiedCopy}
 use Rattle.disco_world.specs.Answers.{AreAnswers, AreExact, AreKnown, IsAnswer, NeverFall}
 use Rattle.disco_world.specs.Certified.{given}
 use Rattle.disco_world.specs.Clients.{MeansVersion, client_after}
-use Rattle.disco_world.specs.Events.{Effect, World, loads, looks, takes, certifies, after, after_at, certified_done, certifies_any, clients_done, effect, doc_in, doc_of_event, for_clients, history_of, ran_out, takes_any, world}
-use Rattle.disco_world.specs.Steps.{AreReadable}
+use Rattle.disco_world.specs.Events.{Effect, World, loads, looks, takes, certifies, bad, after, after_at, effect, doc_in, doc_of_event, for_clients, history_of, ran_out, world}
+use Rattle.disco_world.specs.Steps.{AreReadable, certified_done, clients_done}
 use Rattle.disco_world.specs.declared.clients.Client.{Client}
 use Rattle.disco_world.specs.declared.event.Event.{Event}
 use Rattle.disco_world.specs.declared.event.Event.TheVariants.{Step, Take, Certify}
@@ -28,6 +29,7 @@ use Rattle.disco_world.proofs.Certifying.{IsExact, Rises, given_exact, given_ris
 use Rattle.disco_world.proofs.Editions.{Sees, ShowsFresh, sees_at}
 use Rattle.disco_world.proofs.Histories.{Place, below, at, beyond, get_front, get_last, get_past, place_of}
 use Rattle.disco_world.proofs.Growing.{AreNumbered, between, grows, now_is, numbered_at}
+use Rattle.disco_world.proofs.Performing.{certified_are, clients_are}
 use Rattle.disco_world.proofs.Known.{IsOf, at_on, delta_means, full_means, means_on, of_now, of_on, readable}
 
 -- ---- what is true after each event
@@ -50,11 +52,11 @@ IsGood hs (takes client d) = IsOf hs d
 IsGood hs (certifies client d) = IsOf hs d
 IsGood hs _ = Unit {0}
 
-take_good : (hs : Histories) (client : ℕ) (o : Option Payload) → ((d : Payload) → o ≡ Some d → IsOf hs d) → IsGood hs (takes_any client o)
+take_good : (hs : Histories) (client : ℕ) (o : Option Payload) → ((d : Payload) → o ≡ Some d → IsOf hs d) → IsGood hs (option_map_or (takes client) o bad)
 take_good hs client None is = tt
 take_good hs client (Some d) is = is d refl
 
-certify_good : (hs : Histories) (client : ℕ) (o : Option Payload) → ((d : Payload) → o ≡ Some d → IsOf hs d) → IsGood hs (certifies_any client o)
+certify_good : (hs : Histories) (client : ℕ) (o : Option Payload) → ((d : Payload) → o ≡ Some d → IsOf hs d) → IsGood hs (option_map_or (certifies client) o bad)
 certify_good hs client None is = tt
 certify_good hs client (Some d) is = is d refl
 
@@ -139,8 +141,8 @@ holds_after rules w numbered seen e r holds answer =
     let grow = grows rules w numbered what r answer in
     record {
       docs = λ k d is. of_on hs gs d grow (docs_after rules w seen what r holds answer k d is);
-      copies = λ q c is. means_on hs gs c grow (copies_after hs w.clients what (ran_out r) q c (good rules w e holds) holds.copies is);
-      exact = λ q k is. at_on (hs k.known.run) (gs k.known.run) k.known k.copy (grow k.known.run) (exact_after hs w.certified what (ran_out r) q k (good rules w e holds) holds.exact is);
+      copies = λ q c is. means_on hs gs c grow (copies_after hs w.clients what (ran_out r) q c (good rules w e holds) holds.copies (sym (ap (λ f. f q) (clients_are rules w what r)) ∙ is));
+      exact = λ q k is. at_on (hs k.known.run) (gs k.known.run) k.known k.copy (grow k.known.run) (exact_after hs w.certified what (ran_out r) q k (good rules w e holds) holds.exact (sym (ap (λ f. f q) (certified_are rules w what r)) ∙ is));
     }
 
 no_docs : (k : ℕ) (d : Payload) → doc_of_event [] k ≡ Some d → ⊥
@@ -186,7 +188,7 @@ rises_after clients what true q k is = rises_alone k (clients q) is
 rises_after clients what false q k is = rises_done clients what q k is
 
 rises_at : (rules : Rules) (w : World) (e : Option Event) (r : Option Reply) (q : ℕ) (k : CertifiedCopy) → w.certified q ≡ Some k → Rises k ((after_at rules w e r).certified q)
-rises_at rules w (Some e) (Some r) q k is = rises_after w.certified (effect rules w e) (ran_out r) q k is
+rises_at rules w (Some e) (Some r) q k is = subst (λ f. Rises k (f q)) (sym (certified_are rules w (effect rules w e) r)) (rises_after w.certified (effect rules w e) (ran_out r) q k is)
 rises_at rules w None r q k is = rises_alone k (w.certified q) is
 rises_at rules w (Some e) None q k is = rises_alone k (w.certified q) is
 

@@ -1,6 +1,8 @@
 -- Certified clients that are given documents: a copy that is exact stays so, and does not fall.
 use Rattle.std.proofs.Common.{◌≡◌, ◌≤◌, ◌&&◌, Bool, true, false, cond, Option, Some, None, Result, Ok, Err, refl, sym, ap, subst, ◌∙◌, arith}
 use Rattle.std.proofs.lemmas.Option.{same_Some}
+use Rattle.std.specs.Option.{option_map_or}
+use Rattle.std.specs.Result.{result_ok}
 use Rattle.disco_values.specs.declared.fault.Fault.{Fault}
 use Rattle.disco_history.specs.Mentions.{copied, overlay}
 use Rattle.disco_wire.specs.Documents.{document_of}
@@ -12,12 +14,16 @@ use Rattle.disco_cache.specs.declared.payload.Payload.{Payload}
 use Rattle.disco_client.specs.Tracks.{Histories, IsVersionIn, gives_way, known_at, reaches, same_form}
 use Rattle.disco_client.specs.declared.certified.CertifiedCopy.{CertifiedCopy}
 use Rattle.disco_client.proofs.Moves.{Moves, moves, rises}
-use Rattle.disco_world.specs.Certified.{IsGiven, given, given_by, given_from, takes_it}
+use Rattle.disco_world.specs.Certified.{IsGiven, given, given_by, takes_it}
 use Rattle.disco_world.proofs.Known.{IsOf, delta_at, full_at, meaning_at, means_delta, means_full}
 
 -- a copy is exactly the version of its run's history at which it is known
 abbrev pub IsExact : Histories → CertifiedCopy → Type 0
 IsExact hs k = IsVersionIn (hs k.known.run) k.known k.copy
+
+-- a certified client after it was given a document that means that, if it means something
+abbrev given_from : Payload → Result Meaning Fault → Option CertifiedCopy → Option CertifiedCopy
+given_from d r held = option_map_or (λ m. given_by (is_delta d.key.query) d m held) (result_ok r) held
 
 pub given_is : (d : Payload) (held : Option CertifiedCopy) (b : Bool) (m : Meaning) → is_delta d.key.query ≡ b → document_of d.text ≡ Ok m → given d held ≡ given_by b d m held
 given_is d held b m kind means = ap (λ x. given_from d x held) means ∙ ap (λ b. given_by b d m held) kind

@@ -17,9 +17,11 @@ use Rattle.disco_hub.specs.State.{MayServe}
 use Rattle.disco_rounds.specs.declared.copied.Copied.TheVariants as copied
 use Rattle.disco_rounds.proofs.Notes.{copied-begin, copied-doc, copied-gone}
 use Rattle.disco_world.specs.Answers.{AreAnswers, IsAnswer}
-use Rattle.disco_world.specs.Events.{Effect, World, begins, copies, publishes, restarts, after, after_at, changes_since, effect, past_after, press_done, world}
+use Rattle.disco_world.specs.Events.{Effect, World, begins, copies, publishes, restarts, after, after_at, effect, world}
+use Rattle.disco_world.specs.Steps.{changes_since, is_plain, past_after}
 use Rattle.disco_world.specs.Rounds.{Press, all_of, press_from}
 use Rattle.disco_world.specs.declared.event.Event.{Event}
+use Rattle.disco_world.proofs.Performing.{press_is}
 use Rattle.disco_hub.proofs.Levels.{copied_changes}
 use Rattle.disco_world.specs.declared.event.Reply.{Reply}
 use Rattle.disco_world.specs.declared.event.Reply.TheVariants.{Begun, Copied, Published, Restarted}
@@ -125,20 +127,24 @@ module _ (rules : Rules) (first_run : ℕ) (es : List Event) (rs : List Reply) w
       shown = λ k d is. absurd (none_at k d is);
     }
 
-    module _ (cs : List Entry) where
-      abbrev s : Press
-      s = (here i).press
+  module _ (i : ℕ) (le : length (here i).replies ≤ i) where
+    abbrev s : Press
+    s = (here i).press
 
-      abbrev plain : SeesIn s i n → SeesIn (record s { pending = s.pending ++ map change cs }) (i + 1) (n + 1)
-      plain = plainly s cs
+    abbrev n : ℕ
+    n = length (here i).replies
 
-      sees_on : (what : Effect) (r : Reply) → IsAnswer rules (here i) what r → IsPublishable (press_done s cs (n + 1) what r).published → SeesIn s i n → SeesIn (press_done s cs (n + 1) what r) (i + 1) (n + 1)
-      sees_on begins (Begun m) answer fresh sees = begun_on s m sees
-      sees_on copies (Copied (copied.Doc p)) answer fresh sees = doc_on s p.value answer.2.1 sees
-      sees_on copies (Copied (copied.Drop j)) answer fresh sees = gone_on s j sees
-      sees_on publishes (Published m) answer fresh sees = published_on s fresh sees
-      sees_on (restarts run) (Restarted r) answer fresh sees = restarted_on
-      sees_on what r answer fresh sees = plain sees
+    plain_on : (what : Effect) (r : Reply) → is_plain what r ≡ true → SeesIn s i n → SeesIn (after rules (here i) what r).press (i + 1) (n + 1)
+    plain_on what r plain sees =
+        subst (λ t. SeesIn t (i + 1) (n + 1)) (sym (press_is rules (here i) what r plain)) (plainly i n le s (changes_since (here i).past (past_after rules (here i).past what r)) sees)
+
+    sees_on : (what : Effect) (r : Reply) → IsAnswer rules (here i) what r → IsPublishable (after rules (here i) what r).press.published → SeesIn s i n → SeesIn (after rules (here i) what r).press (i + 1) (n + 1)
+    sees_on begins (Begun m) answer fresh sees = begun_on i n le s m sees
+    sees_on copies (Copied (copied.Doc p)) answer fresh sees = doc_on i n le s p.value answer.2.1 sees
+    sees_on copies (Copied (copied.Drop j)) answer fresh sees = gone_on i n le s j sees
+    sees_on publishes (Published m) answer fresh sees = published_on i n le s fresh sees
+    sees_on (restarts run) (Restarted r) answer fresh sees = restarted_on i n le
+    sees_on what r answer fresh sees = plain_on what r refl sees
 
 -- what readers see may be published
 abbrev pub ShowsFresh : Rules → ℕ → List Event → List Reply → ℕ → Type 0
@@ -173,7 +179,7 @@ module _ (rules : Rules) (first_run : ℕ) (es : List Event) (rs : List Reply) w
       record {
         count = omega (arith, many, now.count);
         sees = subst (SeesIn rules first_run es rs (after rules w what r).press (i + 1)) (sym many)
-            (sees_on rules first_run es rs i n now.count (changes_since w.past (past_after rules w.past what r)) what r (answers i e r event reply) fresh now.sees);
+            (sees_on rules first_run es rs i now.count what r (answers i e r event reply) fresh now.sees);
       }
   one_on answers i now None event r reply fresh = record { count = omega (arith, now.count); sees = later (world rules first_run es rs i).press i (length (world rules first_run es rs i).replies) now.sees }
   one_on answers i now (Some e) event None reply fresh = record { count = omega (arith, now.count); sees = later (world rules first_run es rs i).press i (length (world rules first_run es rs i).replies) now.sees }

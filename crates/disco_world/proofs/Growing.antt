@@ -13,11 +13,13 @@ use Rattle.disco_core.proofs.Runs.{run_done}
 use Rattle.disco_hub.proofs.Runs.{run_cancelled}
 use Rattle.disco_client.specs.Tracks.{Histories}
 use Rattle.disco_world.specs.Answers.{AreAnswers, IsAnswer}
-use Rattle.disco_world.specs.Events.{Effect, World, writes, expires, restarts, after, after_at, after_run, effect, done, ended_after, history_of, past_done, ran_out, world}
+use Rattle.disco_world.specs.Events.{Effect, World, writes, expires, restarts, after, after_at, effect, done, history_of, performed, ran_out, world}
+use Rattle.disco_world.specs.Steps.{after_run, ended_after, past_after, past_done}
 use Rattle.disco_world.specs.declared.event.Event.{Event}
 use Rattle.disco_world.specs.declared.event.Reply.{Reply}
 use Rattle.disco_world.specs.declared.event.Reply.TheVariants.{Expired, Restarted}
 use Rattle.disco_world.proofs.Histories.{Place, below, at, beyond, place_of}
+use Rattle.disco_world.proofs.Performing.{ended_performed, past_is}
 use Rattle.disco_world.proofs.Known.{Extends, Grow, extends_more, extends_on, extends_same}
 
 -- ---- a history only grows
@@ -57,7 +59,7 @@ done_extends rules p (writes now (Ok ask)) r goes = ask_extends rules.queue p no
 done_extends rules p (restarts run) (Restarted s) goes = absurd (cc)
 done_extends rules p what r goes = extends_same (history p)
 
-pub past_extends : (rules : Rules) (p : Past) (what : Effect) (r : Reply) (b : Bool) → goes_on what r ≡ true → Extends (history p) (history (cond b p (past_done rules p what r)))
+past_extends : (rules : Rules) (p : Past) (what : Effect) (r : Reply) (b : Bool) → goes_on what r ≡ true → Extends (history p) (history (cond b p (past_done rules p what r)))
 past_extends rules p what r true goes = extends_same (history p)
 past_extends rules p what r false goes = done_extends rules p what r goes
 
@@ -75,7 +77,7 @@ done_stays rules p (writes now (Ok ask)) r goes = ask_stays rules.queue p now as
 done_stays rules p (restarts run) (Restarted s) goes = absurd (cc)
 done_stays rules p what r goes = refl
 
-pub run_stays : (rules : Rules) (p : Past) (what : Effect) (r : Reply) (b : Bool) → goes_on what r ≡ true → (cond b p (past_done rules p what r)).run ≡ p.run
+run_stays : (rules : Rules) (p : Past) (what : Effect) (r : Reply) (b : Bool) → goes_on what r ≡ true → (cond b p (past_done rules p what r)).run ≡ p.run
 run_stays rules p what r true goes = refl
 run_stays rules p what r false goes = done_stays rules p what r goes
 
@@ -128,16 +130,31 @@ ended_stays : (w : World) (what : Effect) (r : Reply) → goes_on what r ≡ tru
 ended_stays w (restarts run) (Restarted s) goes = absurd (cc)
 ended_stays w what r goes = refl
 
+-- so it is after it
+module _ (rules : Rules) (w : World) (what : Effect) (r : Reply) (goes : goes_on what r ≡ true) where
+  ended_on : (after rules w what r).ended ≡ w.ended
+  ended_on = by (ran_out r)
+    where
+      by : (b : Bool) → (cond b w (performed rules w what r)).ended ≡ w.ended
+      by true = refl
+      by false = ended_performed rules w what r ∙ ended_stays w what r goes
+
+  pub run_on : (after rules w what r).past.run ≡ w.past.run
+  run_on = ap (λ (p : Past). p.run) (past_is rules w what r) ∙ run_stays rules w.past what r (ran_out r) goes
+
+  pub extends_so : Extends (history w.past) (history (after rules w what r).past)
+  extends_so = subst (λ (p : Past). Extends (history w.past) (history p)) (sym (past_is rules w what r)) (past_extends rules w.past what r (ran_out r) goes)
+
 module _ (rules : Rules) (w : World) (numbered : AreNumbered w) where
   goes_so : (what : Effect) (r : Reply) → goes_on what r ≡ true → Grow (history_of w) (history_of (after rules w what r))
-  goes_so what r goes = grows_in w (after rules w what r) (run_stays rules w.past what r (ran_out r) goes) (ended_stays w what r goes) (past_extends rules w.past what r (ran_out r) goes)
+  goes_so what r goes = grows_in w (after rules w what r) (run_on rules w what r goes) (ended_on rules w what r goes) (extends_so rules w what r goes)
 
   pub grows : (what : Effect) (r : Reply) → IsAnswer rules w what r → Grow (history_of w) (history_of (after rules w what r))
   grows (restarts run) (Restarted s) answer = grows_anew w run numbered answer.1
   grows what r answer = goes_so what r refl
 
   stays_so : (what : Effect) (r : Reply) → goes_on what r ≡ true → AreNumbered (after rules w what r)
-  stays_so what r goes = numbered_in w (after rules w what r) (run_stays rules w.past what r (ran_out r) goes) (ended_stays w what r goes) numbered
+  stays_so what r goes = numbered_in w (after rules w what r) (run_on rules w what r goes) (ended_on rules w what r goes) numbered
 
   pub numbered_after : (what : Effect) (r : Reply) → IsAnswer rules w what r → AreNumbered (after rules w what r)
   numbered_after (restarts run) (Restarted s) answer = λ n lt. none_yet w run numbered answer.1 n (omega (arith, lt, answer.1))

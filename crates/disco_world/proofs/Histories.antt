@@ -19,6 +19,7 @@ use Rattle.disco_world.specs.Levels.{AreLevelsOf, AnswersEvent}
 use Rattle.disco_world.specs.declared.levels.CacheLevels.{CacheLevels}
 use Rattle.disco_world.proofs.Rooms.{room_stays}
 use Rattle.disco_world.proofs.Editions.{Sees, ShowsFresh, sees_at}
+use Rattle.disco_world.proofs.Performing.{certified_are, clients_are}
 use Rattle.disco_values.specs.declared.fault.Fault.{Fault}
 use Rattle.disco_values.specs.declared.fault.Fault.TheVariants.{BadEvent}
 use Rattle.disco_query.specs.declared.key.DocKey.{DocKey}
@@ -195,12 +196,13 @@ module _ (rules : Rules) (first_run : ℕ) (es : List Event) (rs : List Reply) (
       → ((w : World) → w.replies ≡ rs → AreHeld held w → AreLevelsOf old w → AnswersEvent (rules_of old.hub) w e r old.hub new now) → rules_of new.hub ≡ rules_of old.hub → IsRun most rules first_run es (rs ++ r ∷ []) (i + 1) new now
   run_more most old new held now run goes same =
       let w = world rules first_run es rs i in
+      let what = effect rules w e in
       let done : AnswersEvent rules w e r old.hub new now = subst (λ l. AnswersEvent l w e r old.hub new now) run.rules_are (goes w run.replies run.held run.levels) in
       record {
         count = length-append rs (r ∷ []) ∙ ap (λ n. n + 1) count;
         levels = subst (AreLevelsOf new) (sym world_next) done.1;
         course = course_more most (cache_of old.hub) (cache_of new.hub) run.course new refl done.1 done.3;
-        held = subst (AreHeld now) (sym world_next) done.2;
+        held = subst (AreHeld now) (sym world_next) (λ q. done.2.0 q ∙ sym (ap (λ f. f q) (clients_are rules w what r)), λ q. done.2.1 q ∙ sym (ap (λ f. f q) (certified_are rules w what r)));
         replies = ap (λ (x : World). x.replies) world_next ∙ ap (λ xs. xs ++ r ∷ []) run.replies;
         rules_are = same ∙ run.rules_are;
         room = room_stays rules w.past (effect rules w e) r (cache_of old.hub) (cache_of new.hub) done.3 ∙ run.room;

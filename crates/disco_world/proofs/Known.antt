@@ -1,8 +1,11 @@
 -- Copies that are known at a version of a run, and documents that are true of a version of their run.
-use Rattle.std.proofs.Common.{◌≡◌, ℕ, ◌≤◌, Bool, true, false, List, [], ◌∷◌, ◌++◌, length, map, take, Option, Some, None, Ok, refl, sym, ap, subst, ◌∙◌, arith}
+use Rattle.std.proofs.Common.{◌≡◌, ℕ, ◌≤◌, Bool, true, false, List, [], ◌∷◌, ◌++◌, length, map, take, Option, Some, None, Result, Ok, refl, sym, ap, subst, ◌∙◌, arith}
 use Rattle.std.proofs.lemmas.Option.{same_Some}
 use Rattle.std.specs.FinMap.{FinMap, values}
+use Rattle.std.specs.Option.{option_map_or}
+use Rattle.std.specs.Result.{result_ok}
 use Rattle.disco_values.specs.Key.{key_cmp}
+use Rattle.disco_values.specs.declared.fault.Fault.{Fault}
 use Rattle.disco_instance.specs.Row.{Row}
 use Rattle.disco_history.specs.Change.{Entry, prefix}
 use Rattle.disco_history.specs.Forms.{in_form}
@@ -25,7 +28,7 @@ use Rattle.disco_cache.specs.declared.payload.Payload.{Payload}
 use Rattle.disco_client.specs.Tracks.{Histories, IsVersionIn, known_at, moved}
 use Rattle.disco_client.specs.declared.known.Known.{Known}
 use Rattle.disco_client.proofs.Moves.{Moves, moves}
-use Rattle.disco_world.specs.Clients.{MeansVersion, client_after, taken_by, taken_from}
+use Rattle.disco_world.specs.Clients.{MeansVersion, client_after, taken_by}
 use Rattle.disco_world.specs.Events.{for_clients}
 use Rattle.disco_world.specs.Steps.{IsReadable}
 use Rattle.disco_world.specs.declared.clients.Client.{Client}
@@ -164,6 +167,10 @@ delta_at hs d k at s is kind so m =
     (is.inside, ap (λ s. overlay s (mentions_in f es)) there ∙ overlay_formed f (registry_of (prefix g k.version)) (map mention_of es) ∙ ap (in_form f) (overlay_law g d.base k.version m.reaches.above within))
 
 -- ---- plain clients
+
+-- a client after it took a document that means that, if it means something
+abbrev pub taken_from : Payload → Result Meaning Fault → Option Client → Option Client
+taken_from d r held = option_map_or (λ m. taken_by (is_delta d.key.query) d m held) (result_ok r) held
 
 pub taken_is : (d : Payload) (held : Option Client) (b : Bool) (m : Meaning) → is_delta d.key.query ≡ b → document_of d.text ≡ Ok m → client_after d held ≡ taken_by b d m held
 taken_is d held b m kind means = ap (λ x. taken_from d x held) means ∙ ap (λ b. taken_by b d m held) kind

@@ -4,6 +4,7 @@ mod Editions
 mod Growing
 mod Histories
 mod Known
+mod Performing
 mod Rooms
 mod Shown
 mod Taken

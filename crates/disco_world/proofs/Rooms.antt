@@ -11,7 +11,8 @@ use Rattle.disco_core.specs.Past.{Past, history, taken_in}
 use Rattle.disco_core.specs.State.{Rules}
 use Rattle.disco_hub.specs.Expiry.{ForgetsEach, cancelled}
 use Rattle.disco_hub.specs.Kept.{Forgets, KeepsAtMost}
-use Rattle.disco_world.specs.Caching.{Cache, Caches, change_made}
+use Rattle.disco_world.specs.Caching.{Cache, Caches}
+use Rattle.disco_world.specs.Steps.{change_made}
 use Rattle.disco_world.specs.Events.{Effect, writes, loads, expires, begins, copies, publishes, restarts, done}
 use Rattle.disco_world.specs.declared.event.Reply.{Reply}
 use Rattle.disco_world.specs.declared.event.Reply.TheVariants.{Changed, Doc, Expired, Begun, Copied, Published, Restarted}

@@ -12,13 +12,14 @@ use Rattle.disco_client.specs.declared.known.Known.{Known}
 use Rattle.disco_core.specs.State.{Rules}
 use Rattle.disco_world.specs.Answers.{IsAnswer}
 use Rattle.disco_world.specs.Certified.{IsGiven, given}
-use Rattle.disco_world.specs.Clients.{IsTakenReply, summaries, client_after, taken_by, taken_from}
+use Rattle.disco_world.specs.Clients.{IsTakenReply, summaries, client_after, taken_by, with_one}
 use Rattle.disco_world.specs.Events.{World, certifies, ran_out, shows, shows_certified, takes}
 use Rattle.disco_world.specs.Steps.{AreHeld, ClientIsGiven, ClientTakes, Holders, reply_to_give, reply_to_show, reply_to_take, with_clients}
 use Rattle.disco_world.specs.declared.clients.Client.{Client}
 use Rattle.disco_world.specs.declared.instance_summary.InstanceSummary.{InstanceSummary}
 use Rattle.disco_world.specs.declared.event.Reply.TheVariants.{Refused}
 use Rattle.disco_world.proofs.Certifying.{none_given}
+use Rattle.disco_world.proofs.Known.{taken_from}
 
 -- where a document leaves no copy there was none
 no_copy_by : (b : Bool) (d : Payload) (m : Meaning) (held : Option Client) → taken_by b d m held ≡ None → held ≡ None
@@ -44,19 +45,15 @@ module _ (rules : Rules) (w : World) (held : Holders) (are : AreHeld held w) (cl
 -- ---- clients of either kind
 
 module _ {A : Type 0} (clients : ℕ → Option A) (client : ℕ) (now : Option A) where
-  -- this client has that, and each other one what it had
-  abbrev pub with_one : ℕ → Option A
-  with_one q = cond (eqb q client) now (clients q)
-
   one_left : (q : ℕ) (b : Bool) → eqb q client ≡ b → now ≡ None → clients client ≡ None → cond b now (clients q) ≡ clients q
   one_left q true same none was = none ∙ sym was ∙ ap clients (sym (eqb-true q client same))
   one_left q false same none was = refl
 
   -- a document that is refused leaves all
-  pub refused_leaves : (e : Fault) → (e ≢ OutOfMemory → now ≡ None) → (now ≡ None → clients client ≡ None) → (q : ℕ) → cond (ran_out (Refused e)) clients with_one q ≡ clients q
+  pub refused_leaves : (e : Fault) → (e ≢ OutOfMemory → now ≡ None) → (now ≡ None → clients client ≡ None) → (q : ℕ) → cond (ran_out (Refused e)) clients (with_one clients client now) q ≡ clients q
   refused_leaves e refused was q = by (ran_out (Refused e)) refl
     where
-      by : (b : Bool) → ran_out (Refused e) ≡ b → cond b clients with_one q ≡ clients q
+      by : (b : Bool) → ran_out (Refused e) ≡ b → cond b clients (with_one clients client now) q ≡ clients q
       by true memory = refl
       by false memory = let none = refused (λ same. let bad = sym memory ∙ ap (λ x. ran_out (Refused x)) same in cc) in one_left q (eqb q client) refl none (was none)
 

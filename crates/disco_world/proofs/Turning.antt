@@ -25,15 +25,16 @@ use Rattle.disco_rounds.specs.declared.copied.Copied.TheVariants as copied
 use Rattle.disco_rounds.proofs.KeySets.{same_len}
 use Rattle.disco_hub.proofs.Levels.{begun_levels, copied_is, copied_levels, ended_edition, ended_len, ended_levels, first_levels, plain_levels}
 use Rattle.disco_world.specs.Answers.{IsAnswer}
-use Rattle.disco_world.specs.Events.{Effect, World, begins, copies, publishes, looks, restarts, after, changes_since, past_after, past_done, ran_out}
+use Rattle.disco_world.specs.Events.{Effect, World, begins, copies, publishes, looks, restarts, after, ran_out}
 use Rattle.disco_world.specs.Caching.{Cache, Caches, IsNext, new_cache}
 use Rattle.disco_world.specs.Levels.{AreLevelsOf, Copies, Looks}
-use Rattle.disco_world.specs.Steps.{cache_of}
+use Rattle.disco_world.specs.Steps.{cache_of, changes_since, is_plain, past_after, past_done}
 use Rattle.disco_world.specs.Rounds.{Press, all_of, left_after, left_in, unfinished}
 use Rattle.disco_world.specs.declared.event.Reply.{Reply}
 use Rattle.disco_world.specs.declared.event.Reply.TheVariants as reply
 use Rattle.disco_world.specs.declared.levels.CacheLevels.{CacheLevels}
 use Rattle.disco_world.proofs.Known.{Extends, extends_same}
+use Rattle.disco_world.proofs.Performing.{noted_to, past_is, press_is}
 
 -- ---- how many keys a round has
 
@@ -197,12 +198,13 @@ module _ (old new : CacheLevels) (w : World) (was : AreLevelsOf old w) (same : n
       one false = is
 
   -- an effect that only asks
-  pub quiet_turns : (what : Effect) (r : Reply) → past_done (rules_of old.hub) w.past what r ≡ w.past
-      → (after (rules_of old.hub) w what r).press ≡ record w.press { pending = w.press.pending ++ map change (changes_since w.past (past_after (rules_of old.hub) w.past what r)) } → AreLevelsOf new (after (rules_of old.hub) w what r)
-  quiet_turns what r is press = unchanged (after (rules_of old.hub) w what r) (past_stays what r is) press
+  pub quiet_turns : (what : Effect) (r : Reply) → past_done (rules_of old.hub) w.past what r ≡ w.past → is_plain what r ≡ true → AreLevelsOf new (after (rules_of old.hub) w what r)
+  quiet_turns what r is plain =
+      let past = past_is (rules_of old.hub) w what r in
+      unchanged (after (rules_of old.hub) w what r) (past ∙ past_stays what r is) (press_is (rules_of old.hub) w what r plain ∙ ap (noted_to w) (sym past))
 
   pub refused_publish : (f : Fault) → StaysOpen f old.hub.rounds.round → IsAnswer (rules_of old.hub) w publishes (reply.Refused f) × AreLevelsOf new (after (rules_of old.hub) w publishes (reply.Refused f)) × Caches (rules_of old.hub) w.past publishes (reply.Refused f) (cache_of old.hub) (cache_of new.hub)
-  refused_publish f stays = (ap unfinished was.keys ∙ why old.hub.rounds.round stays, unchanged (after (rules_of old.hub) w publishes (reply.Refused f)) (past_stays publishes (reply.Refused f) refl) refl, ap (λ (l : CacheLevels). cache_of l.hub) same)
+  refused_publish f stays = (ap unfinished was.keys ∙ why old.hub.rounds.round stays, quiet_turns publishes (reply.Refused f) refl refl, ap (λ (l : CacheLevels). cache_of l.hub) same)
     where
       some_left : (ks : List DocKey) → (ks ≡ [] → ⊥) → unfinished (Some (length ks)) ≡ Some KeysLeft
       some_left [] left = absurd (left refl)

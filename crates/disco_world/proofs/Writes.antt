@@ -12,6 +12,7 @@ use Rattle.disco_hub.specs.State.{HubState, HubStandsFor, rules_of}
 use Rattle.disco_hub.specs.Transitions.{Declines, IsDocOf, Loads, Withholds, Writes}
 use Rattle.disco_query.specs.declared.key.DocKey.{DocKey}
 use Rattle.disco_cache.specs.declared.payload.Payload.{Payload}
+use Rattle.std.specs.Option.{option_map_or}
 use Rattle.std.specs.declared.alloc.Global.{Global}
 use Rattle.std.specs.declared.sync.Arc.{Arc}
 use Rattle.disco_registry.specs.Accept.{accept_after, accepts}
@@ -23,17 +24,18 @@ use Rattle.disco_registry.proofs.Histories.{accepts_after}
 use Rattle.disco_queue.specs.Timed.{Timed}
 use Rattle.disco_client.specs.declared.certified.CertifiedCopy.{CertifiedCopy}
 use Rattle.disco_world.specs.Answers.{IsAnswer}
-use Rattle.disco_world.specs.Events.{Effect, World, after, certified_done, changes_since, clients_done, past_after, past_done, loaded, loads, ran_out, unless, writes, done}
+use Rattle.disco_world.specs.Events.{Effect, World, after, loaded, loads, ran_out, writes, done}
 use Rattle.disco_world.specs.declared.clients.Client.{Client}
 use Rattle.disco_world.specs.declared.event.Reply.{Reply}
 use Rattle.disco_world.specs.Levels.{AreLevelsOf}
 use Rattle.std.specs.FinMap.{get}
 use Rattle.disco_history.specs.Registry.{registry_of}
 use Rattle.disco_hub.specs.Kept.{Forgets, IsAsKept}
-use Rattle.disco_world.specs.Caching.{Caches, change_made}
-use Rattle.disco_world.specs.Steps.{AreHeld, Performs, Holders, cache_of, reply_of, reply_to, with_clients}
+use Rattle.disco_world.specs.Caching.{Caches}
+use Rattle.disco_world.specs.Steps.{AreHeld, Performs, Holders, cache_of, certified_done, change_made, clients_done, is_plain, past_after, past_done, reply_of, reply_to, with_clients}
 use Rattle.disco_world.specs.declared.levels.CacheLevels.{CacheLevels}
-use Rattle.disco_world.proofs.Growing.{goes_on, past_extends, run_stays}
+use Rattle.disco_world.proofs.Growing.{extends_so, goes_on, run_on}
+use Rattle.disco_world.proofs.Performing.{noted_to, past_is, press_is}
 use Rattle.disco_world.proofs.Turning.{plainly}
 use Rattle.disco_world.specs.declared.event.Reply.TheVariants.{Refused}
 
@@ -112,6 +114,10 @@ nothing_then rules p asked f = one (ran_out (Refused f))
     one true = refl
     one false = refl
 
+-- the document of that key, unless there is a cause against it
+abbrev unless : DocKey → Option Fault → Result DocKey Fault
+unless k o = option_map_or (λ e. Err e) o (Ok k)
+
 pub loads_so : (old new : HubState) (key : DocKey) (r : Result (Arc Payload Global) Fault) → IfOk r (λ d. IsDocOf old (rules_of old).delta key d.value) → IfErr r (Withholds old (rules_of old).delta key) → IfOk r (λ d. Loads old new key d.value) → OnErr r (new ≡ old) → Performs old new (λ w. loads (loaded (rules_of old).delta key (history w.past))) (reply_of r)
 loads_so old new key (Ok d) may refused did same = λ w stands. ((ap (unless key) (may.allowed w.past stands) ∙ ap (λ k. Ok k) (sym may.key), may.served w.past stands), did.history w.past stands, (subst (λ k. IsAsKept old.docs k d.value) (sym may.key) did.as_kept, did.keeps, ap (λ (s : HubState). s.rounds) did.rest))
 loads_so old new key (Err e) may refused did same = λ w stands.
@@ -134,11 +140,14 @@ module _ (old new : CacheLevels) (held : Holders) (w : World) (what : Effect) (r
   )
 
   -- an effect that the hub answers alone
-  pub with_hub : goes_on what r ≡ true → (after (rules_of old.hub) w what r).press ≡ record w.press { pending = w.press.pending ++ map change (changes_since w.past (past_after (rules_of old.hub) w.past what r)) } → AreLevelsOf old w
+  pub with_hub : goes_on what r ≡ true → is_plain what r ≡ true → AreLevelsOf old w
       → new.hub.rounds ≡ old.hub.rounds → new.published ≡ old.published → new.next ≡ old.next → IsAnswer (rules_of old.hub) w what r × HubStandsFor new.hub (past_after (rules_of old.hub) w.past what r) × CachesIt
       → IsAnswer (rules_of old.hub) w what r × AreLevelsOf new (after (rules_of old.hub) w what r) × AreHeld held (with_clients w what r) × CachesIt
-  with_hub goes press levels rounds published next so =
-      (so.0, plainly old new w (after (rules_of old.hub) w what r) levels press (run_stays (rules_of old.hub) w.past what r (ran_out r) goes) (past_extends (rules_of old.hub) w.past what r (ran_out r) goes) so.1 rounds published next, held_on, so.2)
+  with_hub goes notes levels rounds published next so =
+      let l = rules_of old.hub in
+      let past = sym (past_is l w what r) in
+      let press = press_is l w what r notes ∙ ap (noted_to w) past in
+      (so.0, plainly old new w (after l w what r) levels press (run_on l w what r goes) (extends_so l w what r goes) (subst (HubStandsFor new.hub) past so.1) rounds published next, held_on, so.2)
 
   -- an effect of a publisher or of a reader, or a restart
   pub with_turn : IsAnswer (rules_of old.hub) w what r × AreLevelsOf new (after (rules_of old.hub) w what r) × CachesIt

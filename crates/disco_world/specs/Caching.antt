@@ -1,7 +1,8 @@
 -- What is kept and copied in a run, event by event.
-use Rattle.std.specs.Prelude.{◌≡◌, ◌≤◌, ℕ, ◌+◌, List, length, Option, Some, None, IfSome, Result, Ok, Err, slice_get}
+use Rattle.std.specs.Prelude.{◌≡◌, ◌≤◌, ℕ, ◌+◌, List, length, Option, Some, None, IfSome, slice_get}
+use Rattle.std.specs.Option.{option_flatten}
+use Rattle.std.specs.Result.{result_ok}
 use Rattle.std.specs.FinMap.{empty, get}
-use Rattle.disco_values.specs.declared.fault.Fault.{Fault}
 use Rattle.disco_history.specs.Change.{Entry}
 use Rattle.disco_history.specs.Registry.{registry_of}
 use Rattle.disco_cache.specs.Docs.{Docs}
@@ -27,11 +28,6 @@ pub record Cache : Type 0 where
 abbrev pub new_cache : ℕ → Cache
 new_cache most = record { docs = record { docs = empty; max = most }; rounds = record { edition = empty; round = None } }
 
--- the change that an operation makes, if it makes one
-abbrev pub change_made : Result (Option Entry) Fault → Option Entry
-change_made (Ok change) = change
-change_made (Err e) = None
-
 -- what is copied is of the first key that is left, and as it is kept where it is kept
 abbrev pub IsNext : Cache → copied.Copied → Type 0
 IsNext s c = IfSome s.rounds.round (λ r. IfSome (slice_get r.left 0) (λ k. (key_of_copy c ≡ k) × IsCopiedAsKept s.docs k c))
@@ -40,8 +36,8 @@ IsNext s c = IfSome s.rounds.round (λ r. IfSome (slice_get r.left 0) (λ k. (ke
 -- begins with the keys that are due, each copy takes out the first that is left, a publish ends it, and after a restart nothing is kept and no round
 -- is open
 abbrev pub Caches : Rules → Past → Effect → Reply → Cache → Cache → Type 0
-Caches rules p (writes now asked) (Changed v) old new = Forgets (get (registry_of (history p))) (change_made (done rules p now asked)) old.docs new.docs
-    × (new.rounds ≡ old.rounds)
+Caches rules p (writes now asked) (Changed v) old new =
+    Forgets (get (registry_of (history p))) (option_flatten (result_ok (done rules p now asked))) old.docs new.docs × (new.rounds ≡ old.rounds)
 Caches rules p (loads asked) (Doc d) old new = IsAsKept old.docs d.value.key d.value × KeepsAtMost rules.delta d.value old.docs new.docs
     × (new.rounds ≡ old.rounds)
 Caches rules p (expires now) (Expired run) old new = ForgetsEach rules p now (taken_in p now) run.gone old.docs new.docs × (new.rounds ≡ old.rounds)

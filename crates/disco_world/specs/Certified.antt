@@ -1,8 +1,9 @@
 -- Certified clients, whose copies are always known (this project's own rule).
-use Rattle.std.specs.Prelude.{◌≡◌, ℕ, ◌==◌, ◌&&◌, Bool, true, false, if◌then◌else◌, Option, Some, None, Result, Ok, Err}
+use Rattle.std.specs.Prelude.{◌≡◌, ℕ, ◌&&◌, Bool, true, false, if◌then◌else◌, Option, Some, None}
+use Rattle.std.specs.Option.{option_map_or}
+use Rattle.std.specs.Result.{result_ok}
 use Rattle.std.specs.FinMap.{FinMap, empty}
 use Rattle.disco_values.specs.Key.{key_cmp}
-use Rattle.disco_values.specs.declared.fault.Fault.{Fault}
 use Rattle.disco_instance.specs.Row.{Row}
 use Rattle.disco_history.specs.Mentions.{copied, overlay}
 use Rattle.disco_wire.specs.Documents.{document_of}
@@ -29,17 +30,9 @@ rows_by true m (Some k) = overlay k.copy m.mentions
 abbrev pub given_by : Bool → Payload → Meaning → Option CertifiedCopy → Option CertifiedCopy
 given_by delta d m held = if takes_it delta d held then Some (record { copy = rows_by delta m held; known = known_at d.key.form (cert_of d) }) else held
 
-abbrev pub given_from : Payload → Result Meaning Fault → Option CertifiedCopy → Option CertifiedCopy
-given_from d (Ok m) held = given_by (is_delta d.key.query) d m held
-given_from d (Err e) held = held
-
 -- a certified client after it was given a document: what the document makes where it is taken, else what it was
 abbrev pub given : Payload → Option CertifiedCopy → Option CertifiedCopy
-given d held = given_from d (document_of d.text) held
-
--- all certified clients after one of them was given a document
-abbrev pub certified_with : (ℕ → Option CertifiedCopy) → ℕ → Payload → ℕ → Option CertifiedCopy
-certified_with clients c d q = if q == c then given d (clients c) else clients q
+given d held = option_map_or (λ m. given_by (is_delta d.key.query) d m held) (result_ok (document_of d.text)) held
 
 -- what is told of a certified client that was given a document: whether it was taken, and the run and the version of the copy then
 pub record IsGiven (d : Payload) (held : Option CertifiedCopy) (taken : Bool) (run version : ℕ) : Type 0 where

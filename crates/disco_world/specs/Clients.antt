@@ -1,9 +1,10 @@
 -- Clients' copies, and the versions at which they are known.
-use Rattle.std.specs.Prelude.{◌≡◌, ℕ, ◌==◌, Bool, true, false, List, [], map, if◌then◌else◌, Option, Some, None, option_map, Result, Ok, Err}
+use Rattle.std.specs.Prelude.{◌≡◌, ℕ, ◌==◌, Bool, true, false, List, [], map, if◌then◌else◌, Option, Some, None, option_map, Ok}
+use Rattle.std.specs.Option.{option_map_or}
+use Rattle.std.specs.Result.{result_ok}
 use Rattle.std.specs.FinMap.{FinMap, values}
 use Rattle.disco_values.specs.Key.{key_cmp}
 use Rattle.disco_instance.specs.Row.{Row}
-use Rattle.disco_values.specs.declared.fault.Fault.{Fault}
 use Rattle.disco_history.specs.Mentions.{copied, overlay}
 use Rattle.disco_wire.specs.Documents.{document_of}
 use Rattle.disco_wire.specs.Meaning.{Meaning}
@@ -22,17 +23,13 @@ taken_by false d m held = Some (record { copy = copied m.mentions; known = Some 
 taken_by true d m None = None
 taken_by true d m (Some c) = Some (record { copy = overlay c.copy m.mentions; known = moved c.known d.key.form (cert_of d) })
 
-abbrev pub taken_from : Payload → Result Meaning Fault → Option Client → Option Client
-taken_from d (Ok m) held = taken_by (is_delta d.key.query) d m held
-taken_from d (Err e) held = held
-
 -- a client after it took a document
 abbrev pub client_after : Payload → Option Client → Option Client
-client_after d held = taken_from d (document_of d.text) held
+client_after d held = option_map_or (λ m. taken_by (is_delta d.key.query) d m held) (result_ok (document_of d.text)) held
 
--- all clients after one of them took a document
-abbrev pub clients_with : (ℕ → Option Client) → ℕ → Payload → ℕ → Option Client
-clients_with clients c d q = if q == c then client_after d (clients c) else clients q
+-- all clients after one of them has that
+abbrev pub with_one : {A : Type 0} → (ℕ → Option A) → ℕ → Option A → ℕ → Option A
+with_one clients c now q = if q == c then now else clients q
 
 -- what is told of a client that took a document: whether the hash codes are equal, and the version at which the copy is known
 pub record IsTakenReply (d : Payload) (now : Option Client) (equal : Bool) (version : Option ℕ) : Type 0 where

@@ -1,11 +1,11 @@
 -- What events are for, and what has happened after them.
 use Rattle.std.specs.Prelude.{ℕ, zero, suc, ◌+◌, ◌==◌, List, [], ◌∷◌, ◌++◌, drop, length, map, Bool, true, false, if◌then◌else◌, Option, Some, None}
 use Rattle.std.specs.Prelude.{Result, Ok, Err, slice_get}
-use Rattle.disco_instance.specs.Row.{Row}
+use Rattle.std.specs.Option.{ok_or, option_map_or}
+use Rattle.disco_instance.specs.Instance.{if_ok}
 use Rattle.disco_values.specs.Text.{in_upper_case}
 use Rattle.disco_values.specs.declared.fault.Fault.{Fault}
 use Rattle.disco_values.specs.declared.fault.Fault.TheVariants.{OutOfMemory, NotFound}
-use Rattle.disco_values.specs.declared.form.Form.{Form}
 use Rattle.disco_history.specs.Change.{Entry}
 use Rattle.disco_history.specs.Query.{by_id}
 use Rattle.disco_history.specs.Registry.{registry_of}
@@ -25,8 +25,8 @@ use Rattle.disco_query.specs.declared.query.Query.TheVariants as query
 use Rattle.disco_cache.specs.declared.payload.Payload.{Payload}
 use Rattle.disco_client.specs.Tracks.{Histories}
 use Rattle.disco_client.specs.declared.certified.CertifiedCopy.{CertifiedCopy}
-use Rattle.disco_world.specs.Certified.{certified_with}
-use Rattle.disco_world.specs.Clients.{clients_with}
+use Rattle.disco_world.specs.Certified.{given}
+use Rattle.disco_world.specs.Clients.{client_after, with_one}
 use Rattle.disco_world.specs.Rounds.{Press, all_of, press_from}
 use Rattle.disco_world.specs.declared.clients.Client.{Client}
 use Rattle.disco_world.specs.declared.event.Event.{Event}
@@ -76,19 +76,9 @@ query_asked (query.Vip vip) = query.Vip vip
 query_asked (query.Svip svip) = query.Svip svip
 query_asked (query.Instance k) = query.Instance (key_named k.app k.id)
 
--- the document of that key, unless there is a cause against it
-abbrev pub unless : DocKey → Option Fault → Result DocKey Fault
-unless k None = Ok k
-unless k (Some e) = Err e
-
 -- the document of a key after a history, or why it isn't served, where deltas are on or off
 abbrev pub loaded : Bool → DocKey → List Entry → Result DocKey Fault
-loaded on k h = unless k (refusal_of on k.query h)
-
--- that of a record, where there is one
-abbrev pub loaded_of : Option Row → Form → List Entry → Result DocKey Fault
-loaded_of None form h = Err NotFound
-loaded_of (Some r) form h = loaded true (doc_of_key r.key form) h
+loaded on k h = option_map_or (λ e. Err e) (refusal_of on k.query h) (Ok k)
 
 -- a document of all apps, or a delta
 abbrev pub for_clients : Query → Bool
@@ -106,16 +96,7 @@ abbrev pub doc_of_event : List Reply → ℕ → Option Payload
 doc_of_event replies zero = None
 doc_of_event replies (suc i) = doc_in (slice_get replies i)
 
--- a client can take an earlier document alone
-abbrev pub takes_any : ℕ → Option Payload → Effect
-takes_any client None = bad
-takes_any client (Some d) = takes client d
-
-abbrev pub certifies_any : ℕ → Option Payload → Effect
-certifies_any client None = bad
-certifies_any client (Some d) = certifies client d
-
--- the table of events: what each is for after what has happened
+-- the table of events: what each is for after what has happened; a client can take an earlier document of all apps or delta alone
 abbrev pub effect : Rules → World → Event → Effect
 effect rules w (Step (Register now app json)) = writes now (registers app (registration_of json))
 effect rules w (Step (Cancel now app id)) = writes now (Ok (cancel (key_named app id)))
@@ -124,7 +105,8 @@ effect rules w (Step (SetStatus now app id status)) = writes now (Ok (set_status
 effect rules w (Step (DropStatus now app id status)) = writes now (Ok (drop_status (key_named app id) status))
 effect rules w (Step (Metadata now app id entries)) = writes now (Ok (add_metadata (key_named app id) entries))
 effect rules w (Step (Load key)) = loads (loaded rules.delta (record { query = query_asked key.query; form = key.form }) (history w.past))
-effect rules w (Step (LoadById id form)) = loads (loaded_of (by_id (registry_of (history w.past)) id) form (history w.past))
+effect rules w (Step (LoadById id form)) = let h = history w.past in
+    loads (if_ok (ok_or (by_id (registry_of h) id) NotFound) (λ r. loaded true (doc_of_key r.key form) h))
 effect rules w (Step (Clean now)) = cleans now
 effect rules w (Step Minute) = closes
 effect rules w (Step (Expire now)) = expires now
@@ -136,88 +118,45 @@ effect rules w (Step (LookById id form)) = looks None
 effect rules w (Step (Show client)) = shows client
 effect rules w (Step (ShowCertified client)) = shows_certified client
 effect rules w (Step (Restart run)) = restarts run
-effect rules w (Take client event) = takes_any client (doc_of_event w.replies event)
-effect rules w (Certify client event) = certifies_any client (doc_of_event w.replies event)
+effect rules w (Take client event) = option_map_or (takes client) (doc_of_event w.replies event) bad
+effect rules w (Certify client event) = option_map_or (certifies client) (doc_of_event w.replies event) bad
 
 -- what an operation does at a moment after what has happened, where it is one: its change or none, or the first cause against it
 abbrev pub done : Rules → Past → ℕ → Result OpView Fault → Result (Option Entry) Fault
 done rules p now (Err e) = Err e
 done rules p now (Ok ask) = accept_after rules.limits (history p) ask now
 
--- what has happened after a run that says how many instances are gone: their cancels, in the order in which a run takes them
-abbrev pub after_run : Rules → Past → ℕ → Reply → Past
-after_run rules p now (Expired run) = cancelled rules p now (taken_in p now) run.gone
-after_run rules p now _ = p
-
--- what has happened after a restart that says in which run: nothing yet in that
-abbrev pub after_restart : ℕ → Past → Reply → Past
-after_restart run p (Restarted r) = nothing run
-after_restart run p _ = p
-
--- what has happened to the registry after an effect with that answer that found memory
-abbrev pub past_done : Rules → Past → Effect → Reply → Past
-past_done rules p (writes now (Ok ask)) reply = after_ask rules.queue p now ask (accept_after rules.limits (history p) ask now)
-past_done rules p (cleans now) reply = cleaned rules.retention p now
-past_done rules p closes reply = minute_closed p
-past_done rules p (expires now) reply = after_run rules p now reply
-past_done rules p (restarts run) reply = after_restart run p reply
-past_done rules p _ reply = p
-
--- the clients' copies after an effect that found memory
-abbrev pub clients_done : (ℕ → Option Client) → Effect → ℕ → Option Client
-clients_done clients (takes client d) = clients_with clients client d
-clients_done clients _ = clients
-
--- and those of the certified clients
-abbrev pub certified_done : (ℕ → Option CertifiedCopy) → Effect → ℕ → Option CertifiedCopy
-certified_done clients (certifies client d) = certified_with clients client d
-certified_done clients _ = clients
-
--- the changes that there are more
-abbrev pub changes_since : Past → Past → List Entry
-changes_since p q = drop (length (history p)) (history q)
-
--- what was noted after the effect of the event of that number, which made these changes, and its answer
-abbrev pub press_done : Press → List Entry → ℕ → Effect → Reply → Press
-press_done s cs i begins (Begun n) = record s { pending = s.pending ++ press.begin ∷ []; keys = n; begun = i }
-press_done s cs i copies (Copied c) = record s { pending = s.pending ++ note_of c ∷ [] }
-press_done s cs i publishes (Published n) = record s { published = all_of s; pending = []; floor = s.begun }
-press_done s cs i (restarts run) (Restarted r) = press_from i
-press_done s cs i _ _ = record s { pending = s.pending ++ map press.change cs }
-
 -- the history of each run: of the one that is running what has happened, and of each other what had happened when it ended
 abbrev pub history_of : World → Histories
 history_of w r = if r == w.past.run then history w.past else w.ended r
 
--- the histories of the runs that ended, after an effect with that answer: a restart ends the run that is running
-abbrev pub ended_after : World → Effect → Reply → Histories
-ended_after w (restarts run) (Restarted r) = history_of w
-ended_after w _ _ = w.ended
+-- what has happened with that to the registry, of which the new changes are noted
+abbrev pub noting : World → Past → World
+noting w p = record w { past = p; press = record w.press { pending = w.press.pending ++ map press.change (drop (length (history w.past)) (history p)) } }
+
+-- what has happened after an effect with that answer that found memory
+abbrev pub performed : Rules → World → Effect → Reply → World
+performed rules w (writes now (Ok ask)) reply = noting w (after_ask rules.queue w.past now ask (accept_after rules.limits (history w.past) ask now))
+performed rules w (cleans now) reply = record w { past = cleaned rules.retention w.past now }
+performed rules w closes reply = record w { past = minute_closed w.past }
+performed rules w (expires now) (Expired run) = noting w (cancelled rules w.past now (taken_in w.past now) run.gone)
+performed rules w begins (Begun n) =
+    record w { press = record w.press { pending = w.press.pending ++ press.begin ∷ []; keys = n; begun = length w.replies + 1 } }
+performed rules w copies (Copied c) = record w { press = record w.press { pending = w.press.pending ++ note_of c ∷ [] } }
+performed rules w publishes (Published n) = record w { press = record w.press { published = all_of w.press; pending = []; floor = w.press.begun } }
+performed rules w (takes client d) reply = record w { clients = with_one w.clients client (client_after d (w.clients client)) }
+performed rules w (certifies client d) reply = record w { certified = with_one w.certified client (given d (w.certified client)) }
+performed rules w (restarts run) (Restarted r) = record w { past = nothing run; ended = history_of w; press = press_from (length w.replies + 1) }
+performed rules w _ _ = w
 
 -- the event found no memory
 abbrev pub ran_out : Reply → Bool
 ran_out (Refused OutOfMemory) = true
 ran_out _ = false
 
-abbrev pub past_after : Rules → Past → Effect → Reply → Past
-past_after rules p what reply = if ran_out reply then p else past_done rules p what reply
-
-abbrev pub clients_after : (ℕ → Option Client) → Effect → Reply → ℕ → Option Client
-clients_after clients what reply = if ran_out reply then clients else clients_done clients what
-
-abbrev pub certified_after : (ℕ → Option CertifiedCopy) → Effect → Reply → ℕ → Option CertifiedCopy
-certified_after clients what reply = if ran_out reply then clients else certified_done clients what
-
 -- what has happened after an effect with that answer: nothing but the answer where there was no memory
 abbrev pub after : Rules → World → Effect → Reply → World
-after rules w what reply = record {
-  past = past_after rules w.past what reply;
-  ended = ended_after w what reply;
-  replies = w.replies ++ reply ∷ [];
-  clients = clients_after w.clients what reply;
-  certified = certified_after w.certified what reply;
-  press = press_done w.press (changes_since w.past (past_after rules w.past what reply)) (length w.replies + 1) what reply;
-}
+after rules w what reply = record (if ran_out reply then w else performed rules w what reply) { replies = w.replies ++ reply ∷ [] }
 
 -- nothing has happened yet, and this is the first run
 abbrev pub new_world : ℕ → World

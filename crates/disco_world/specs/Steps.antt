@@ -1,5 +1,7 @@
 -- What private contracts say of one event. Nothing here is to be believed: the clauses of `run` don't cite it.
-use Rattle.std.specs.Prelude.{◌≡◌, ◌≢◌, ℕ, Bool, List, Option, Some, None, Result, Ok, Err}
+use Rattle.std.specs.Prelude.{◌≡◌, ◌≢◌, ℕ, Bool, true, false, List, drop, length, if◌then◌else◌, Option, Some, None, Result, Ok, Err}
+use Rattle.std.specs.Option.{option_flatten}
+use Rattle.std.specs.Result.{result_ok}
 use Rattle.std.specs.BTreeMap as tree
 use Rattle.std.specs.Ordering.{nat_cmp}
 use Rattle.std.specs.declared.alloc.Global.{Global}
@@ -7,24 +9,32 @@ use Rattle.std.specs.declared.sync.Arc.{Arc}
 use Rattle.disco_instance.specs.Row.{Row}
 use Rattle.disco_values.specs.declared.fault.Fault.{Fault}
 use Rattle.disco_values.specs.declared.fault.Fault.TheVariants.{NotFetched, OutOfMemory}
+use Rattle.disco_history.specs.Change.{Entry}
+use Rattle.disco_registry.specs.Accept.{accept_after}
 use Rattle.disco_registry.specs.declared.op.Applied.{Applied}
 use Rattle.disco_registry.specs.declared.op.Applied.TheVariants as applied
 use Rattle.disco_wire.specs.Documents.{document_of}
 use Rattle.disco_wire.specs.Meaning.{Meaning}
 use Rattle.disco_wire.specs.declared.wire.Shape.TheVariants.{Many}
 use Rattle.disco_cache.specs.declared.payload.Payload.{Payload}
+use Rattle.disco_core.specs.Past.{Past, after_ask, cleaned, history, minute_closed, nothing, taken_in}
+use Rattle.disco_core.specs.State.{Rules}
+use Rattle.disco_hub.specs.Expiry.{cancelled}
 use Rattle.disco_hub.specs.State.{HubState, HubStandsFor, rules_of}
 use Rattle.disco_world.specs.Answers.{IsAnswer}
 use Rattle.disco_world.specs.Caching.{Cache, Caches}
+use Rattle.disco_client.specs.Tracks.{Histories}
 use Rattle.disco_client.specs.declared.certified.CertifiedCopy.{CertifiedCopy}
 use Rattle.disco_client.specs.declared.known.Known.{Known}
-use Rattle.disco_world.specs.Certified.{IsGiven, certified_with, given, takes_it}
-use Rattle.disco_world.specs.Clients.{IsTakenReply, clients_with, client_after}
-use Rattle.disco_world.specs.Events.{Effect, World, certified_after, clients_after, doc_of_event, past_after}
+use Rattle.disco_world.specs.Certified.{IsGiven, given, takes_it}
+use Rattle.disco_world.specs.Clients.{IsTakenReply, client_after, with_one}
+use Rattle.disco_world.specs.Events.{Effect, World, doc_of_event, history_of, ran_out}
+use Rattle.disco_world.specs.Events.{writes, cleans, closes, expires, begins, copies, publishes, takes, certifies, restarts}
 use Rattle.disco_world.specs.declared.clients.Client.{Client}
 use Rattle.disco_world.specs.declared.clients.Clients.{Clients}
 use Rattle.disco_world.specs.declared.event.Reply.{Reply}
-use Rattle.disco_world.specs.declared.event.Reply.TheVariants.{Changed, Same, Doc, Taken, Certified, Held, Refused}
+use Rattle.disco_world.specs.declared.event.Reply.TheVariants.{Changed, Same, Doc, Expired, Begun, Copied, Published, Restarted, Refused}
+use Rattle.disco_world.specs.declared.event.Reply.TheVariants.{Taken, Certified, Held}
 use Rattle.disco_world.specs.declared.instance_summary.InstanceSummary.{InstanceSummary}
 
 -- the reply to a write, after which there are so many versions
@@ -53,6 +63,67 @@ abbrev pub reply_to_show : Result (List InstanceSummary) Fault → Reply
 reply_to_show (Ok listed) = Held listed
 reply_to_show (Err e) = Refused e
 
+-- ---- what an effect with that answer does to each part of what has happened
+
+abbrev pub after_run : Rules → Past → ℕ → Reply → Past
+after_run rules p now (Expired run) = cancelled rules p now (taken_in p now) run.gone
+after_run rules p now _ = p
+
+abbrev pub after_restart : ℕ → Past → Reply → Past
+after_restart run p (Restarted r) = nothing run
+after_restart run p _ = p
+
+-- to the registry, where there was memory
+abbrev pub past_done : Rules → Past → Effect → Reply → Past
+past_done rules p (writes now (Ok ask)) reply = after_ask rules.queue p now ask (accept_after rules.limits (history p) ask now)
+past_done rules p (cleans now) reply = cleaned rules.retention p now
+past_done rules p closes reply = minute_closed p
+past_done rules p (expires now) reply = after_run rules p now reply
+past_done rules p (restarts run) reply = after_restart run p reply
+past_done rules p _ reply = p
+
+-- to the clients' copies
+abbrev pub clients_done : (ℕ → Option Client) → Effect → ℕ → Option Client
+clients_done clients (takes client d) = with_one clients client (client_after d (clients client))
+clients_done clients _ = clients
+
+-- and to those of the certified clients
+abbrev pub certified_done : (ℕ → Option CertifiedCopy) → Effect → ℕ → Option CertifiedCopy
+certified_done clients (certifies client d) = with_one clients client (given d (clients client))
+certified_done clients _ = clients
+
+-- to the histories of the runs that ended
+abbrev pub ended_after : World → Effect → Reply → Histories
+ended_after w (restarts run) (Restarted r) = history_of w
+ended_after w _ _ = w.ended
+
+-- the changes that there are more
+abbrev pub changes_since : Past → Past → List Entry
+changes_since p q = drop (length (history p)) (history q)
+
+-- the change that an operation makes, if it makes one
+abbrev pub change_made : Result (Option Entry) Fault → Option Entry
+change_made result = option_flatten (result_ok result)
+
+-- it is no step of a round and no restart, so that of readers nothing but changes is noted
+abbrev pub is_plain : Effect → Reply → Bool
+is_plain begins (Begun n) = false
+is_plain copies (Copied c) = false
+is_plain publishes (Published n) = false
+is_plain (restarts run) (Restarted r) = false
+is_plain _ _ = true
+
+abbrev pub past_after : Rules → Past → Effect → Reply → Past
+past_after rules p what reply = if ran_out reply then p else past_done rules p what reply
+
+abbrev pub clients_after : (ℕ → Option Client) → Effect → Reply → ℕ → Option Client
+clients_after clients what reply = if ran_out reply then clients else clients_done clients what
+
+abbrev pub certified_after : (ℕ → Option CertifiedCopy) → Effect → Reply → ℕ → Option CertifiedCopy
+certified_after clients what reply = if ran_out reply then clients else certified_done clients what
+
+-- ---- calls
+
 -- what a hub keeps and copies
 abbrev pub cache_of : HubState → Cache
 cache_of s = record { docs = s.docs; rounds = s.rounds }
@@ -72,7 +143,8 @@ IsReadable d = (m : Meaning) × IsMeant d m
 
 -- a client takes a document, or is refused it and all is as before
 abbrev pub ClientTakes : (ℕ → Option Client) → (ℕ → Option Client) → ℕ → Payload → Result (Bool × Option ℕ) Fault → Type 0
-ClientTakes old new client d (Ok told) = IsTakenReply d (client_after d (old client)) told.0 told.1 × ((q : ℕ) → new q ≡ clients_with old client d q)
+ClientTakes old new client d (Ok told) = IsTakenReply d (client_after d (old client)) told.0 told.1
+    × ((q : ℕ) → new q ≡ with_one old client (client_after d (old client)) q)
 ClientTakes old new client d (Err e) = (e ≢ OutOfMemory → (e ≡ NotFetched) × (client_after d (old client) ≡ None)) × ((q : ℕ) → new q ≡ old q)
 
 -- a copy is given a document: so it is then, and so is told
@@ -82,7 +154,8 @@ pub record IsTurned (delta : Bool) (d : Payload) (old new : CertifiedCopy) (take
 
 -- a certified client is given a document, or is refused it and all is as before
 abbrev pub ClientIsGiven : (ℕ → Option CertifiedCopy) → (ℕ → Option CertifiedCopy) → ℕ → Payload → Result (Bool × Known) Fault → Type 0
-ClientIsGiven old new client d (Ok told) = IsGiven d (old client) told.0 told.1.run told.1.version × ((q : ℕ) → new q ≡ certified_with old client d q)
+ClientIsGiven old new client d (Ok told) = IsGiven d (old client) told.0 told.1.run told.1.version
+    × ((q : ℕ) → new q ≡ with_one old client (given d (old client)) q)
 ClientIsGiven old new client d (Err e) = (e ≢ OutOfMemory → (e ≡ NotFetched) × (given d (old client) ≡ None)) × ((q : ℕ) → new q ≡ old q)
 
 -- each of these documents can be read
