@@ -1,1 +1,2 @@
+mod Merged
 mod Puts

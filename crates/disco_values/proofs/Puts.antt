@@ -11,13 +11,13 @@ use Rattle.std.proofs.lemmas.Map.Lookups.{exact_bytes}
 use Rattle.disco_values.specs.Entries.{is_before, is_by_name}
 use Rattle.disco_values.specs.Places.{IsNameAt, IsNameGap, NameComesAfter}
 
-abbrev Pair : Type 0
+abbrev pub Pair : Type 0
 Pair = List ℕ × List ℕ
 
-abbrev Pairs : Type 0
+abbrev pub Pairs : Type 0
 Pairs = List Pair
 
-abbrev placed : Ordering → List ℕ → List ℕ → Pair → Pairs → Pairs → Pairs
+abbrev pub placed : Ordering → List ℕ → List ℕ → Pair → Pairs → Pairs → Pairs
 placed o k v e es rest = by_order o ((k, v) ∷ e ∷ es) ((e.0, v) ∷ es) (e ∷ rest)
 
 later : (k : List ℕ) (x : Pair) (xs : Pairs) (i : ℕ) → NameComesAfter k (x ∷ xs) (suc i) → NameComesAfter k xs i
@@ -38,7 +38,7 @@ put_at (x ∷ xs) (suc i) k v at =
     ap (λ o. placed o k v x xs (put (slice_cmp nat_cmp) k v xs)) (at.before 0 x (omega arith))
     ∙ ap (λ es. x ∷ es) (put_at xs i k v (record { in_range = omega (arith, at.in_range); before = later k x xs i at.before; here = at.here }))
 
-both : (a b : Bool) → (a && b) ≡ true → (a ≡ true) × (b ≡ true)
+pub both : (a b : Bool) → (a && b) ≡ true → (a ≡ true) × (b ≡ true)
 both true b p = (refl, p)
 both false b p = absurd (cc)
 
@@ -50,10 +50,10 @@ not_class : (b : Bool) → b ≡ false → not b ≡ true
 not_class true e = absurd (cc)
 not_class false e = refl
 
-abbrev cmp : List ℕ → List ℕ → Ordering
+abbrev pub cmp : List ℕ → List ℕ → Ordering
 cmp = slice_cmp nat_cmp
 
-turned : (a b : List ℕ) (o : Ordering) → cmp a b ≡ o → cmp b a ≡ ordering_reverse o
+pub turned : (a b : List ℕ) (o : Ordering) → cmp a b ≡ o → cmp b a ≡ ordering_reverse o
 turned a b o e = nat_list_cmp_total.antisymm b a ∙ ap ordering_reverse e
 
 before_put : (n k v : List ℕ) (es : Pairs) → cmp n k ≡ Less → is_before n es ≡ true → is_before n (put (slice_cmp nat_cmp) k v es) ≡ true

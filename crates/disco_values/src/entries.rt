@@ -9,6 +9,7 @@ ghost use Rattle.disco_values.specs.Places.{IsNameAt, IsNameGap};
 ghost use Rattle.disco_values.specs.declared.fault.Fault.TheVariants.{OutOfMemory};
 
 use crate::fault::Fault;
+use crate::merging::merged;
 use crate::text::Text;
 use std::alloc::{AllocError, Global};
 use std::cmp::Ordering;
@@ -123,7 +124,7 @@ impl Entries {
         Ok(())
     }
 
-    /// Puts all of the other entries in.
+    /// Puts all of the other entries in, by one pass over both.
     ///
     /// # Errors
     ///
@@ -133,9 +134,8 @@ impl Entries {
     {
         // For the proof alone: the names stand in byte order, each once.
         others.ordered();
-        for (name, text) in others.as_slice() {
-            self.put(name.clone()?, text.clone()?)?;
-        }
+        let alloc = *self.entries.allocator();
+        self.entries = merged(alloc, &self.entries, others.as_slice())?;
         Ok(())
     }
 }

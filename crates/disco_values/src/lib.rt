@@ -9,6 +9,7 @@ mod entries;
 mod fault;
 mod form;
 mod key;
+mod merging;
 mod status;
 mod text;
 

@@ -1,13 +1,10 @@
-use Rattle.std.proofs.Common.{◌≡◌, List, ℕ, codes, true, ap, ◌∙◌}
-use Rattle.std.specs.Str.{bytes_eq}
+use Rattle.std.proofs.Common.{◌≡◌, true, ap, ◌∙◌}
 use Rattle.disco_values.specs.Entries.{is_by_name}
-use Rattle.disco_values.proofs.Puts.{named_at}
+use Rattle.disco_values.proofs.Merged.{by_name-with}
 use Rattle.disco_values.proofs.entries.Entries.put_all.Goals as goal
 
-pub put-requires : goal.put-requires
-put-requires c =
-    let items = c.as_slice-name-items.result.now in
-    let sorted : is_by_name items ≡ true = ap is_by_name c.as_slice-name-items.ensures ∙ c.ordered.ensures in
-    ap (λ (n : List ℕ). bytes_eq n (codes "@class")) c.in_ok-clone.ensures.cases
-    ∙ ap (λ (p : List ℕ × List ℕ). bytes_eq p.0 (codes "@class")) c.loop-name-item.is
-    ∙ named_at items c.loop-name.name-index c.loop-name-item.result sorted c.loop-name-test.true
+pub invariant_of-self : goal.invariant_of-self
+invariant_of-self c =
+    let mine : is_by_name c.deref.result.now ≡ true = ap is_by_name c.deref.ensures.value ∙ c.self.invariant in
+    let others : is_by_name c.as_slice.result.now ≡ true = ap is_by_name c.as_slice.ensures ∙ c.ordered.ensures in
+    ap is_by_name c.in_ok-self-inside.ensures ∙ by_name-with c.deref.result.now c.as_slice.result.now mine others
