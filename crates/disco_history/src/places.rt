@@ -1,5 +1,5 @@
 //! Places by key, which may stand empty.
-ghost use Rattle.std.specs.Prelude.{◌≡◌, IsSome, None, OnErr, OnOk, Some, is_some};
+ghost use Rattle.std.specs.Prelude.{◌≡◌, IsSome, None, OnErr, OnOk, Some};
 ghost use Rattle.std.specs.BTreeMap as tree;
 ghost use Rattle.std.specs.FinMap as finmap;
 ghost use Rattle.std.specs.Option.{option_copied, option_flatten};
@@ -64,13 +64,6 @@ impl<V: Drop> Places<V> {
         self.places.len()
     }
 
-    /// Whether there is a place for a key.
-    pub fn has(&self, key: &Key) -> bool
-        ensures { result ≡ is_some (finmap.get self.now key.now) }
-    {
-        self.places.contains_key(key)
-    }
-
     /// The value in the place of a key.
     pub fn get(&self, key: &Key) -> Option<&V>
         ensures { option_copied result ≡ option_flatten (finmap.get self.now key.now) }
@@ -90,17 +83,22 @@ impl<V: Drop> Places<V> {
         &self.places
     }
 
-    /// Makes an empty place for a key that has none.
+    /// Makes an empty place for a key where it has none.
     ///
     /// # Errors
     ///
     /// `AllocError` where memory is refused. The places are then as they were.
-    pub fn open(&mut self, key: Key) -> Result<(), AllocError>
-        requires { finmap.get self.old key ≡ None }
-        ensures ok { OnOk result (self.new ≡ finmap.insert self.old key None) }
+    pub fn make(&mut self, key: &Key) -> Result<(), AllocError>
+        ensures ok { OnOk result (self.new ≡ finmap.insert self.old key.now (option_flatten (finmap.get self.old key.now))) }
         ensures err { OnErr result (self.new ≡ self.old) }
     {
-        self.places.insert(key, None)?;
+        let own = key.clone()?;
+        // One search where the key is new: what stood in a place of its own is put back.
+        match self.places.insert(own, None)? {
+            Some(Some(value)) => set(&mut self.places, key, value),
+            Some(None) => {}
+            None => {}
+        }
         Ok(())
     }
 

@@ -53,19 +53,28 @@ one_put es fs k p h = same_map keys_total exact_keys _ _ (λ q. get_updated es f
 pub one_out : (es fs : Entries) (k : Key) → Updated es fs k None → seen_places fs ≡ remove (seen_places es) k
 one_out es fs k h = same_map keys_total exact_keys _ _ (λ q. get_updated es fs k None h q ∙ sym (get-remove keys_total (seen_places es) k q))
 
-some_seen : (o : Option (Option Lease)) → is_some (seen_place o) ≡ is_some o
-some_seen None = refl
-some_seen (Some p) = refl
-
-pub has_seen : (es : Entries) (q : Key) → is_some (at_key es q) ≡ is_some (get (seen_places es) q)
-has_seen es q = sym (ap is_some (get_seen es q) ∙ some_seen (at_key es q))
-
 flat : (o : Option (Option Lease)) → option_map plain_lease (option_flatten o) ≡ option_flatten (seen_place o)
 flat None = refl
 flat (Some p) = refl
 
 pub lease_seen : (es : Entries) (q : Key) → option_map plain_lease (option_flatten (at_key es q)) ≡ option_flatten (get (seen_places es) q)
 lease_seen es q = flat (at_key es q) ∙ ap option_flatten (sym (get_seen es q))
+
+-- an empty place for a key, in place of none or of an empty one
+pub one_made : (es fs : Entries) (k : Key) (o : Option (Option Lease)) → Updated es fs k (Some None) → o ≡ at_key es k → option_flatten o ≡ None → seen_places fs ≡ insert (seen_places es) k (option_flatten (get (seen_places es) k))
+one_made es fs k o h was none =
+    one_put es fs k None h
+    ∙ ap (insert (seen_places es) k) (sym (ap (option_map plain_lease) none) ∙ ap (λ x. option_map plain_lease (option_flatten x)) was ∙ lease_seen es k)
+
+twice : (b : Bool) (w v x y : Option (Option Lease)) → y ≡ cond b w x → cond b v y ≡ cond b v x
+twice true w v x y e = refl
+twice false w v x y e = e
+
+-- and what stood in its place is put back
+pub put_back : (es fs gs : Entries) (k : Key) (l : Lease) → Updated es fs k (Some None) → Updated fs gs k (Some (Some l)) → Some (Some l) ≡ at_key es k → seen_places gs ≡ insert (seen_places es) k (option_flatten (get (seen_places es) k))
+put_back es fs gs k l made back was =
+    one_put es gs k (Some l) (λ q. back q ∙ twice (is_at (key_cmp k) q) (Some None) (Some (Some l)) (at_key es q) (at_key fs q) (made q))
+    ∙ ap (insert (seen_places es) k) (ap (λ x. option_map plain_lease (option_flatten x)) was ∙ lease_seen es k)
 
 seen_some : (o : Option (Option Lease)) → IsSome (seen_place o) → IsSome o
 seen_some None h = h

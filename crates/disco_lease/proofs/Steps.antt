@@ -1,5 +1,5 @@
 -- What a step does to the leases, and which places it leaves.
-use Rattle.std.proofs.Common.{◌≡◌, ℕ, Bool, true, false, cond, Option, Some, None, option_map, is_some, IsSome, refl, sym, ap, subst, ◌∙◌}
+use Rattle.std.proofs.Common.{◌≡◌, ℕ, Bool, true, false, cond, Option, Some, None, option_map, IsSome, refl, sym, ap, subst, ◌∙◌}
 use Rattle.std.specs.Ordering.{is_eq}
 use Rattle.std.specs.Cmp.{tied_itself}
 use Rattle.std.specs.Option.{option_flatten}
@@ -25,19 +25,15 @@ lease-touch m n k now e q = ap (λ p. option_flatten (get p q)) e ∙ ap option_
 pub lease-out : (m n : Places) (k : Key) → n ≡ remove m k → (q : Key) → option_flatten (get n q) ≡ cond (same_key q k) None (option_flatten (get m q))
 lease-out m n k e q = ap (λ p. option_flatten (get p q)) e ∙ ap option_flatten (get-remove keys_total m k q) ∙ flat_cond (same_key q k) None (get m q)
 
-absent : (o : Option (Option Lease)) → is_some o ≡ false → o ≡ None
-absent None e = refl
-absent (Some p) e = absurd (cc)
+made : (m : Places) (k q : Key) (b : Bool) → same_key q k ≡ b → option_flatten (cond b (Some (option_flatten (get m k))) (get m q)) ≡ option_flatten (get m q)
+made m k q true same = ap (λ p. option_flatten (get m p)) (sym (same_is q k same))
+made m k q false same = refl
 
-opened : (m : Places) (k q : Key) (b : Bool) → get m k ≡ None → same_key q k ≡ b → option_flatten (cond b (Some None) (get m q)) ≡ option_flatten (get m q)
-opened m k q true none same = ap option_flatten (sym (ap (get m) (same_is q k same) ∙ none))
-opened m k q false none same = refl
-
--- an empty place where there was none shows nothing
-pub lease-open : (m n : Places) (k : Key) → is_some (get m k) ≡ false → n ≡ insert m k None → (q : Key) → option_flatten (get n q) ≡ option_flatten (get m q)
-lease-open m n k none e q =
-    ap (λ p. option_flatten (get p q)) e ∙ ap option_flatten (get-insert keys_total m k None q)
-    ∙ opened m k q (same_key q k) (absent (get m k) none) refl
+-- a place that is made shows what stood there
+pub lease-made : (m n : Places) (k : Key) → n ≡ insert m k (option_flatten (get m k)) → (q : Key) → option_flatten (get n q) ≡ option_flatten (get m q)
+lease-made m n k e q =
+    ap (λ p. option_flatten (get p q)) e ∙ ap option_flatten (get-insert keys_total m k (option_flatten (get m k)) q)
+    ∙ made m k q (same_key q k) refl
 
 stays : (b : Bool) (v : Option Lease) (o : Option (Option Lease)) → IsSome o → IsSome (cond b (Some v) o)
 stays true v o h = refl

@@ -60,9 +60,7 @@ impl LeaseBook {
         ensures others { KeepsOthers key.now self.old self.new }
         ensures memory { IfErr result (λ e. e ≡ OutOfMemory) }
     {
-        if !self.places.has(key) {
-            self.places.open(key.clone()?)?;
-        }
+        self.places.make(key)?;
         Ok(())
     }
 

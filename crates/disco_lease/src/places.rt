@@ -87,24 +87,24 @@ impl Places {
         }
     }
 
-    pub(crate) fn has(&self, key: &Key) -> bool
-        ensures { result ≡ is_some (finmap.get self.now key.now) }
-    {
-        self.places.contains_key(key)
-    }
-
     pub(crate) fn lease(&self, key: &Key) -> Option<Lease>
         ensures { option_map plain_lease result ≡ option_flatten (finmap.get self.now key.now) }
     {
         self.places.get(key).copied().flatten()
     }
 
-    /// Makes an empty place for a key.
-    pub(crate) fn open(&mut self, key: Key) -> Result<(), AllocError>
-        ensures ok { OnOk result (self.new ≡ finmap.insert self.old key None) }
+    /// Makes an empty place for a key where it has none.
+    pub(crate) fn make(&mut self, key: &Key) -> Result<(), AllocError>
+        ensures ok { OnOk result (self.new ≡ finmap.insert self.old key.now (option_flatten (finmap.get self.old key.now))) }
         ensures err { OnErr result (self.new ≡ self.old) }
     {
-        self.places.insert(key, None)?;
+        let own = key.clone()?;
+        // One search where the key is new: what stood in a place of its own is put back.
+        match self.places.insert(own, None)? {
+            Some(Some(lease)) => set(&mut self.places, key, lease),
+            Some(None) => {}
+            None => {}
+        }
         Ok(())
     }
 

@@ -222,7 +222,7 @@ impl Records {
         ensures next { OnOk result (self.new.next ≡ Some next.rec.value.key) }
     {
         self.forget();
-        self.places.open(next.rec.key.clone()?)?;
+        self.places.make(&next.rec.key)?;
         self.next = Some(next);
         Ok(())
     }

@@ -1,5 +1,5 @@
 -- What a step does to the texts, and which places it leaves empty.
-use Rattle.std.proofs.Common.{◌≡◌, ℕ, List, Bool, true, false, cond, Option, Some, None, is_some, IsSome, refl, sym, ap, subst, ◌∙◌}
+use Rattle.std.proofs.Common.{◌≡◌, ℕ, List, Bool, true, false, cond, Option, Some, None, is_some, IsSome, Result, Ok, Err, OnErr, OnOk, refl, sym, ap, subst, ◌∙◌}
 use Rattle.std.specs.Ordering.{is_eq}
 use Rattle.std.specs.Cmp.{tied_itself}
 use Rattle.std.specs.Borrow.{Bor}
@@ -8,7 +8,7 @@ use Rattle.std.specs.FinMap.{empty, get, insert, remove, get-empty, get-insert, 
 use Rattle.disco_values.specs.Key.{key_cmp, same_key}
 use Rattle.disco_values.specs.declared.key.Key.{Key}
 use Rattle.disco_history.proofs.Keys.{keys_total, same_is}
-use Rattle.disco_writer.specs.Empty.{OnlyNextIsEmpty, OpensOnly, SweepsAt}
+use Rattle.disco_writer.specs.Empty.{OnlyNextIsEmpty, OpensOnly, ShowSame, SweepsAt}
 use Rattle.disco_writer.specs.Kept.{HasNoEmpty, Places}
 
 abbrev Text : Type 0
@@ -33,20 +33,42 @@ pub absent : (o : Option (Option Text)) → is_some o ≡ false → o ≡ None
 absent None e = refl
 absent (Some p) e = absurd (cc)
 
-opened : (m : Places) (k q : Key) (b : Bool) → get m k ≡ None → same_key q k ≡ b → option_flatten (cond b (Some None) (get m q)) ≡ option_flatten (get m q)
-opened m k q true none same = ap option_flatten (sym (ap (get m) (same_is q k same) ∙ none))
-opened m k q false none same = refl
+made : (m : Places) (k q : Key) (b : Bool) → same_key q k ≡ b → option_flatten (cond b (Some (option_flatten (get m k))) (get m q)) ≡ option_flatten (get m q)
+made m k q true same = ap (λ p. option_flatten (get m p)) (sym (same_is q k same))
+made m k q false same = refl
 
--- an empty place where there was none shows nothing
-pub text-open : (m n : Places) (k : Key) → is_some (get m k) ≡ false → n ≡ insert m k None → (q : Key) → option_flatten (get n q) ≡ option_flatten (get m q)
-text-open m n k none e q =
-    ap (λ p. option_flatten (get p q)) e ∙ ap option_flatten (get-insert keys_total m k None q)
-    ∙ opened m k q (same_key q k) (absent (get m k) none) refl
+-- a place that is made shows what stood there
+text-made : (m n : Places) (k : Key) → n ≡ insert m k (option_flatten (get m k)) → (q : Key) → option_flatten (get n q) ≡ option_flatten (get m q)
+text-made m n k e q =
+    ap (λ p. option_flatten (get p q)) e ∙ ap option_flatten (get-insert keys_total m k (option_flatten (get m k)) q)
+    ∙ made m k q (same_key q k) refl
 
-pub place-open : (m n : Places) (k : Key) (v : Option Text) → n ≡ insert m k v → IsSome (get n k)
+place-open : (m n : Places) (k : Key) (v : Option Text) → n ≡ insert m k v → IsSome (get n k)
 place-open m n k v e =
     let now : get n k ≡ Some v = ap (λ p. get p k) e ∙ get-insert keys_total m k v k ∙ ap (λ b. cond b (Some v) (get m k)) (itself k) in
     subst (λ (o : Option (Option Text)). IsSome o) (sym now) refl
+
+apart : (o : Option (Option Text)) (v x : Option Text) (b : Bool) → cond b (Some v) o ≡ Some x → b ≡ false → o ≡ Some x
+apart o v x true is other = absurd (cc)
+apart o v x false is other = is
+
+-- ... and is the only new one
+opens : (m n : Places) (k : Key) (v : Option Text) → n ≡ insert m k v → OpensOnly k m n
+opens m n k v e q other is = apart (get m q) v None (same_key q k) (sym (get-insert keys_total m k v q) ∙ sym (ap (λ p. get p q) e) ∙ is) other
+
+-- what a place that was made for a key shows, where memory was there or not
+module _ {U E : Type 0} where
+  pub show_made : (m n : Places) (k : Key) (r : Result U E) → OnOk r (n ≡ insert m k (option_flatten (get m k))) → OnErr r (n ≡ m) → ShowSame m n
+  show_made m n k (Ok u) made same q = text-made m n k made q
+  show_made m n k (Err e) made same q = ap (λ p. option_flatten (get p q)) same
+
+  pub place_made : (m n : Places) (k : Key) (r : Result U E) → OnOk r (n ≡ insert m k (option_flatten (get m k))) → OnOk r (IsSome (get n k))
+  place_made m n k (Ok u) made = place-open m n k (option_flatten (get m k)) made
+  place_made m n k (Err e) made = tt
+
+  pub opens_made : (m n : Places) (k : Key) (r : Result U E) → OnOk r (n ≡ insert m k (option_flatten (get m k))) → OnErr r (n ≡ m) → OpensOnly k m n
+  opens_made m n k (Ok u) made same q other is = opens m n k (option_flatten (get m k)) made q other is
+  opens_made m n k (Err e) made same q other is = ap (λ p. get p q) (sym same) ∙ is
 
 emptied : (m : Places) (k q : Key) (b : Bool) → option_flatten (get m k) ≡ None → same_key q k ≡ b → cond b None (option_flatten (get m q)) ≡ option_flatten (get m q)
 emptied m k q true none same = sym (ap (λ p. option_flatten (get m p)) (same_is q k same) ∙ none)
@@ -68,17 +90,6 @@ text-ready m n key k text t same e =
     pick key text (Some p) = p
 
 -- ---- places that stand empty
-
-apart : (o : Option (Option Text)) (v x : Option Text) (b : Bool) → cond b (Some v) o ≡ Some x → b ≡ false → o ≡ Some x
-apart o v x true is other = absurd (cc)
-apart o v x false is other = is
-
--- an empty place that was opened is the only new one
-pub opens : (m n : Places) (k : Key) → n ≡ insert m k None → OpensOnly k m n
-opens m n k e q other is = apart (get m q) None None (same_key q k) (sym (get-insert keys_total m k None q) ∙ sym (ap (λ p. get p q) e) ∙ is) other
-
-pub opens_none : (m : Places) (k : Key) → OpensOnly k m m
-opens_none m k q other is = is
 
 gone : (m : Places) (q : Key) (b : Bool) → cond b None (get m q) ≡ Some None → (b ≡ false) × (get m q ≡ Some None)
 gone m q true is = absurd (cc)

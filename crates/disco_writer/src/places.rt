@@ -66,11 +66,7 @@ pub(crate) fn make(places: &mut Places<Bytes>, key: &Key) -> Result<(), AllocErr
     ensures opens { OpensOnly key.now places.old places.new }
     ensures err { OnErr result (places.new ≡ places.old) }
 {
-    if places.has(key) {
-        return Ok(());
-    }
-    places.open(key.clone()?)?;
-    Ok(())
+    places.make(key)
 }
 
 /// Takes the place of a key out if it is empty.

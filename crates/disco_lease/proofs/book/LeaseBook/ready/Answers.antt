@@ -1,32 +1,33 @@
-use Rattle.std.proofs.Common.{None, refl, sym, ap, ◌∙◌}
-use Rattle.std.specs.FinMap.{insert}
-use Rattle.disco_values.specs.declared.key.Key.{Key}
-use Rattle.disco_lease.proofs.Steps.{lease-open, others-put, place-open, place-put}
+use Rattle.std.proofs.Common.{refl}
+use Rattle.std.specs.FinMap.{get}
+use Rattle.std.specs.Option.{option_flatten}
+use Rattle.disco_lease.proofs.Steps.{lease-made, others-put, place-open, place-put}
 use Rattle.disco_lease.proofs.book.LeaseBook.ready.Goals as goal
 
-pub returns-in_ok-open-clause-same : goal.returns-in_ok-open-clause-same
-returns-in_ok-open-clause-same c =
+pub returns-clause-same : goal.returns-clause-same
+returns-clause-same c =
     let m = c.self.inside.places in
     rw (← c.self.view_is)
     (record {
-      leases = lease-open m c.open.new.self c.args.key.now (sym c.has.ensures ∙ c.if-not-has.true) (c.in_ok-open.ensures.ok ∙ ap (λ (k : Key). insert m k None) c.in_ok-clone.ensures.cases);
+      leases = lease-made m c.make.new.self c.args.key.now c.in_ok-make.ensures.ok;
       renewals = refl;
       closed = refl;
     })
 
-pub returns-in_ok-open-clause-place : goal.returns-in_ok-open-clause-place
-returns-in_ok-open-clause-place c =
+pub returns-clause-place : goal.returns-clause-place
+returns-clause-place c =
     let m = c.self.inside.places in
-    place-open m c.open.new.self c.args.key.now None (c.in_ok-open.ensures.ok ∙ ap (λ (k : Key). insert m k None) c.in_ok-clone.ensures.cases)
+    let k = c.args.key.now in
+    place-open m c.make.new.self k (option_flatten (get m k)) c.in_ok-make.ensures.ok
 
-pub returns-in_ok-open-clause-places : goal.returns-in_ok-open-clause-places
-returns-in_ok-open-clause-places c =
+pub returns-clause-places : goal.returns-clause-places
+returns-clause-places c =
     let m = c.self.inside.places in
-    rw (← c.self.view_is)
-    (place-put m c.open.new.self c.args.key.now None (c.in_ok-open.ensures.ok ∙ ap (λ (k : Key). insert m k None) c.in_ok-clone.ensures.cases))
+    let k = c.args.key.now in
+    rw (← c.self.view_is) (place-put m c.make.new.self k (option_flatten (get m k)) c.in_ok-make.ensures.ok)
 
-pub returns-in_ok-open-clause-others : goal.returns-in_ok-open-clause-others
-returns-in_ok-open-clause-others c =
+pub returns-clause-others : goal.returns-clause-others
+returns-clause-others c =
     let m = c.self.inside.places in
-    rw (← c.self.view_is)
-    (others-put m c.open.new.self c.args.key.now None (c.in_ok-open.ensures.ok ∙ ap (λ (k : Key). insert m k None) c.in_ok-clone.ensures.cases))
+    let k = c.args.key.now in
+    rw (← c.self.view_is) (others-put m c.make.new.self k (option_flatten (get m k)) c.in_ok-make.ensures.ok)
