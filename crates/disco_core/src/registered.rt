@@ -15,7 +15,7 @@ ghost use Rattle.disco_queue.specs.Queue as recent;
 ghost use Rattle.disco_registry.specs.Accept.{MayRefuse, accepts};
 ghost use Rattle.disco_registry.specs.Commit as commit;
 ghost use Rattle.disco_registry.specs.Commit.{Takes, changes_properly, done_by, held_after};
-ghost use Rattle.disco_registry.specs.Op.{OpView, op_view, op_key};
+ghost use Rattle.disco_registry.specs.Op.{OpView, op_view, op_key, renew};
 ghost use Rattle.disco_registry.specs.State as registry;
 ghost use Rattle.disco_documents.specs.Documents.{IsWritten, asked_by};
 ghost use Rattle.disco_query.specs.Query.{is_delta};
@@ -158,8 +158,33 @@ fn with_kept(
     })
 }
 
-/// Makes the registry ready for an operation. Refused as the operation is, and as `OutOfMemory`.
+/// Makes the registry ready for an operation. Refused as the operation is, and as `OutOfMemory`. A
+/// renewal's key is handed on, and not copied.
 fn accept(held: &mut Registry, op: Op, now: u64) -> Result<Ready, Fault>
+    ensures same { registry.IsSameRegistry held.old held.new }
+    ensures ready { IfOk result (λ r. accepts held.old (op_view op) now ≡ Ok r.change × commit.IsReady held.new r.change) }
+    ensures moment { IfOk result (λ r. r.moment ≡ now) }
+    ensures asked { IfOk result (λ r. (r.key ≡ op_key (op_view op)) × (r.renewal ≡ is_renewal (op_view op))) }
+    ensures refused { IfErr result (MayRefuse held.old (op_view op) now) }
+{
+    match op {
+        Op::Renew(key) => accept_renewal(held, key, now),
+        other => accept_other(held, other, now),
+    }
+}
+
+fn accept_renewal(held: &mut Registry, key: Key, now: u64) -> Result<Ready, Fault>
+    ensures same { registry.IsSameRegistry held.old held.new }
+    ensures ready { IfOk result (λ r. accepts held.old (renew key) now ≡ Ok r.change × commit.IsReady held.new r.change) }
+    ensures moment { IfOk result (λ r. r.moment ≡ now) }
+    ensures asked { IfOk result (λ r. (r.key ≡ key) × (r.renewal ≡ true)) }
+    ensures refused { IfErr result (MayRefuse held.old (renew key) now) }
+{
+    let ready = held.ready_renewal(&key, now)?;
+    with_kept(ready, key, true, now)
+}
+
+fn accept_other(held: &mut Registry, op: Op, now: u64) -> Result<Ready, Fault>
     ensures same { registry.IsSameRegistry held.old held.new }
     ensures ready { IfOk result (λ r. accepts held.old (op_view op) now ≡ Ok r.change × commit.IsReady held.new r.change) }
     ensures moment { IfOk result (λ r. r.moment ≡ now) }

@@ -1,18 +1,20 @@
 -- When an operation is accepted.
-use Rattle.std.proofs.Common.{◌≡◌, ℕ, ◌<◌, ◌&&◌, Bool, true, false, not, nat_lt, cond, List, Option, Some, None, IfSome, is_some, option_map, Result, Ok, Err, refl, sym, ap, ◌∙◌, arith}
+use Rattle.std.proofs.Common.{◌≡◌, ℕ, ◌<◌, ◌&&◌, Bool, true, false, not, nat_lt, cond, List, Option, Some, None, IfSome, is_some, is_none, option_map, Result, Ok, Err, refl, sym, ap, ◌∙◌, arith}
 use Rattle.std.specs.FinMap.{FinMap, get, len}
 use Rattle.std.proofs.lemmas.Bool.Decides.{nat_tests}
 use Rattle.disco_values.specs.Entries.{with_entries}
 use Rattle.disco_values.specs.Key.{key_cmp}
 use Rattle.std.specs.Borrow.{Bor}
+use Rattle.std.specs.Option.{ok_or}
+use Rattle.disco_instance.specs.Instance.{if_ok}
 use Rattle.disco_instance.specs.Row.{Row, row}
 use Rattle.disco_instance.specs.declared.record.Record.{Record}
 use Rattle.disco_values.specs.declared.action.Action.TheVariants.{Added}
 use Rattle.disco_values.specs.declared.fault.Fault.{Fault}
-use Rattle.disco_values.specs.declared.fault.Fault.TheVariants.{TooManyInstances}
+use Rattle.disco_values.specs.declared.fault.Fault.TheVariants.{NotFound, TooManyInstances}
 use Rattle.disco_values.specs.declared.key.Key.{Key}
 use Rattle.disco_history.specs.Change.{Entry}
-use Rattle.disco_registry.specs.Accept.{Limits, accepts, change_asked, if_left, is_new, limits_of, metadata_added}
+use Rattle.disco_registry.specs.Accept.{Limits, accepts, change_asked, if_left, limits_of}
 use Rattle.disco_history.specs.Held.{record_at, seen_record}
 use Rattle.disco_registry.specs.Op.{register}
 use Rattle.disco_registry.specs.Settle.{settle}
@@ -22,14 +24,15 @@ use Rattle.disco_registry.specs.State.{RegistryState}
 pub left_version : (limits : Limits) (version : ℕ) (c : Entry) (a : Result (Option Entry) Fault) → a ≡ Ok (Some c) → version < limits.versions → if_left limits version a ≡ Ok (Some c)
 left_version limits version c a e left = ap (if_left limits version) e ∙ grind (arith, nat_tests, left)
 
-pub accepted_new : (s : RegistryState) (p : Row) (now : ℕ) → (is_new (record_at s.held p.key) && not (nat_lt (len s.held) s.instances)) ≡ false → s.version < s.versions
+pub accepted_new : (s : RegistryState) (p : Row) (now : ℕ) → (is_none (record_at s.held p.key) && not (nat_lt (len s.held) s.instances)) ≡ false → s.version < s.versions
     → accepts s (register p) now ≡ Ok (Some (settle (record_at s.held p.key) p now, Added))
 accepted_new s p now place left =
     left_version (limits_of s) s.version (settle (record_at s.held p.key) p now, Added) (change_asked (limits_of s) (record_at s.held) (len s.held) (register p) now)
     (ap (λ b. cond b (Err TooManyInstances) (Ok (Some (settle (record_at s.held p.key) p now, Added)))) place) left
 
-pub metadata_asked : (o : Option Row) (r : Row) (entries : List (List ℕ × List ℕ)) (now : ℕ) → o ≡ Some r → metadata_added o entries now ≡ Ok (Some (settle (Some r) (record r { metadata = with_entries r.metadata entries }) now, Added))
-metadata_asked o r entries now is = ap (λ p. metadata_added p entries now) is
+pub metadata_asked : (o : Option Row) (r : Row) (entries : List (List ℕ × List ℕ)) (now : ℕ) → o ≡ Some r
+    → if_ok {B = Option Entry} (ok_or o NotFound) (λ x. Ok (Some (settle (Some x) (record x { metadata = with_entries x.metadata entries }) now, Added))) ≡ Ok (Some (settle (Some r) (record r { metadata = with_entries r.metadata entries }) now, Added))
+metadata_asked o r entries now is = ap (λ p. if_ok {B = Option Entry} (ok_or p NotFound) (λ x. Ok (Some (settle (Some x) (record x { metadata = with_entries x.metadata entries }) now, Added)))) is
 
 -- the record that is registered again is of the held record's key
 settled_key : (b : Bool) (r p : Row) → p.key ≡ r.key → (cond b r p).key ≡ r.key

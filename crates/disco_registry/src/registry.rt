@@ -1,5 +1,5 @@
 //! The registry.
-ghost use Rattle.std.specs.Prelude.{◌≡◌, ◌<◌, ◌^◌, ◌&&◌, not, nat_lt, List, [], map, IfOk, IfErr, IfSome, IsTrue, None, Some, Ok, OnOk, false};
+ghost use Rattle.std.specs.Prelude.{◌≡◌, ◌<◌, ◌^◌, ◌&&◌, not, nat_lt, List, [], map, IfOk, IfErr, IfSome, IsTrue, None, Some, Ok, OnOk, false, is_none};
 ghost use Rattle.std.specs.Prelude.{filter, option_map, true};
 ghost use Rattle.std.specs.FinMap.{get, len, values};
 ghost use Rattle.std.specs.List.{filter_map, find};
@@ -11,7 +11,7 @@ ghost use Rattle.disco_values.specs.declared.fault.Fault.TheVariants.{OutOfMemor
 ghost use Rattle.disco_history.specs.Change.{Entry, is_proper, change_view};
 ghost use Rattle.disco_history.specs.Query.{by_id};
 ghost use Rattle.disco_history.specs.Registry.{put_of, registry_of};
-ghost use Rattle.disco_registry.specs.Accept.{MayRefuse, accept_after, accepts, is_new, limits_of, status_given};
+ghost use Rattle.disco_registry.specs.Accept.{MayRefuse, accept_after, accepts, limits_of, status_given};
 ghost use Rattle.disco_history.specs.Apps.{is_of_app, is_of_id};
 ghost use Rattle.disco_registry.specs.Commit.{IsPrepared, IsReady, Takes, changes_properly, done_by, appended, outcome};
 ghost use Rattle.disco_history.specs.Held.{entry_of, record_at, seen_record};
@@ -264,6 +264,20 @@ impl Registry {
         }
     }
 
+    /// Makes a renewal ready, as [`Registry::ready`] does, of a key that stays its caller's.
+    ///
+    /// # Errors
+    ///
+    /// `NotFound`, and `OutOfMemory`.
+    pub fn ready_renewal(&mut self, key: &Key, now: u64) -> Result<Ready, Fault>
+        ensures same { IsSameRegistry self.old self.new }
+        ensures ready { IfOk result (λ r. accepts self.old (renew key.now) now ≡ Ok r × IsReady self.new r) }
+        ensures refused { IfErr result (MayRefuse self.old (renew key.now) now) }
+    {
+        self.seek(key);
+        self.ready_renew(key, now)
+    }
+
     /// Takes out the place that was made for another operation, and seeks the record of a key once,
     /// for all that is asked of the key until its change is made. No answer shows it.
     fn seek(&mut self, key: &Key)
@@ -274,7 +288,7 @@ impl Registry {
     }
 
     fn has_no_place(&self, held: Option<&Record>) -> bool
-        ensures { result ≡ (is_new (seen_record held.entry) && not (nat_lt (len self.now.held) self.now.instances)) }
+        ensures { result ≡ (is_none (seen_record held.entry) && not (nat_lt (len self.now.held) self.now.instances)) }
     {
         held.is_none() && self.records.len() as u64 >= self.instances
     }
@@ -282,7 +296,7 @@ impl Registry {
     /// Whether a registration over what is held under its key is admitted at a moment.
     fn admit(&self, held: Option<&Record>, posted: &Record, now: u64) -> Result<(), Fault>
         requires { seen_record held ≡ record_at self.now.held posted.now.key }
-        ensures place { OnOk result ((is_new (record_at self.now.held posted.now.key) && not (nat_lt (len self.now.held) self.now.instances)) ≡ false) }
+        ensures place { OnOk result ((is_none (record_at self.now.held posted.now.key) && not (nat_lt (len self.now.held) self.now.instances)) ≡ false) }
         ensures left { OnOk result (self.now.version < self.now.versions) }
         ensures refused { IfErr result (MayRefuse self.now (register (row posted.now)) now) }
     {
