@@ -1,19 +1,24 @@
 -- What a hub does is answered.
-use Rattle.std.proofs.Common.{◌≡◌, ◌≢◌, ◌⊎◌, inl, inr, ℕ, true, List, [], ◌∷◌, ◌++◌, Option, Some, None, Result, Ok, Err, IfOk, IfErr, MatchResult, refl, sym, ap, subst, ◌∙◌, arith, append-nil}
+use Rattle.std.proofs.Common.{◌≡◌, ◌≢◌, ◌⊎◌, inl, inr, ℕ, true, List, [], ◌∷◌, ◌++◌, Option, Some, None, option_map, Result, Ok, Err, IfOk, IfErr, MatchResult, refl, sym, ap, subst, ◌∙◌, arith, append-nil}
 use Rattle.std.proofs.lemmas.List.{map-append}
+use Rattle.std.specs.Option.{ok_or, option_map_or}
 use Rattle.std.specs.declared.alloc.Global.{Global}
 use Rattle.std.specs.declared.sync.Arc.{Arc}
 use Rattle.disco_values.specs.Fault.{fault_number}
 use Rattle.disco_values.specs.declared.fault.Fault.{Fault}
-use Rattle.disco_values.specs.declared.fault.Fault.TheVariants.{OutOfMemory}
+use Rattle.disco_values.specs.declared.fault.Fault.TheVariants.{OutOfMemory, NotFound}
 use Rattle.disco_values.specs.declared.form.Form.{Form}
 use Rattle.disco_values.specs.declared.key.Key.{Key}
+use Rattle.disco_instance.specs.Instance.{if_ok}
+use Rattle.disco_instance.specs.Row.{Row}
 use Rattle.disco_history.specs.Change.{Entry}
+use Rattle.disco_history.specs.Query.{by_id}
+use Rattle.disco_history.specs.Registry.{registry_of}
 use Rattle.disco_query.specs.declared.key.DocKey.{DocKey}
 use Rattle.disco_cache.specs.declared.payload.Payload.{Payload}
 use Rattle.disco_queue.specs.Timed.{Timed}
 use Rattle.disco_core.specs.Past.{Past, history, with_done}
-use Rattle.disco_core.specs.Refusals.{doc_of_id, doc_of_key}
+use Rattle.disco_core.specs.Refusals.{doc_of_id, doc_of_key, loaded, loaded_by_id, refusal_by, refusal_of_id}
 use Rattle.disco_hub.specs.State.{MayServe, HubStandsFor, HubState, rules_of}
 use Rattle.disco_hub.specs.Transitions.{Declines, IsDocOf, IsDocOfId, Withholds, WithholdsId, Writes}
 use Rattle.disco_message.specs.ReplyText.{ReplyView}
@@ -23,7 +28,7 @@ use Rattle.disco_registry.specs.declared.op.Applied.{Applied}
 use Rattle.disco_registry.proofs.Histories.{accepts_after}
 use Rattle.disco_message.specs.declared.status_line.Allow.{Allow}
 use Rattle.disco_calls.specs.Calls.{CallView, loads, shows, shows_id, writes, lacks}
-use Rattle.disco_answers.specs.Replies.{IsAnswered, IsReply, Replies, ShowsDocument, IsDone, document_asked, document_of_id, unless_refused, plain, refusal_answer, success_of, with_document, lacking}
+use Rattle.disco_answers.specs.Replies.{IsAnswered, IsReply, Replies, ShowsDocument, IsDone, plain, refusal_answer, success_of, with_document, lacking}
 
 memory_or : (e : Fault) → (e ≡ OutOfMemory) ⊎ (e ≢ OutOfMemory)
 memory_or OutOfMemory = inl refl
@@ -93,29 +98,41 @@ refused_so s asked e now y why is = λ p stands.
       | inr other ↦ (p, inl (subst (λ r. Replies (rules_of s) p r now y p) (sym (why other)) (is, refl)), none, stands)
     ]
 
+-- the document of a key, unless there is a cause against it
+abbrev unless_refused : Option DocKey → Option Fault → Result DocKey Fault
+unless_refused key cause = option_map_or (λ e. Err e) cause (ok_or key NotFound)
+
+-- that of an id
+by_id_is : (id : List ℕ) (form : Form) (h : List Entry) → loaded_by_id id form h ≡ unless_refused (doc_of_id id form h) (refusal_of_id id h)
+by_id_is id form h = one (by_id (registry_of h) id)
+  where
+    one : (o : Option Row) → if_ok (ok_or o NotFound) (λ r. loaded true (doc_of_key r.key form) h) ≡ unless_refused (option_map (λ r. doc_of_key r.key form) o) (refusal_by o h)
+    one None = refl
+    one (Some r) = refl
+
 -- a load of a key
 pub load_so : (old new : HubState) (key : DocKey) (now : ℕ) (y : ReplyView) (r : Result (Arc Payload Global) Fault) → IfOk r (λ d. IsDocOf old (rules_of old).delta key d.value) → IfErr r (Withholds old (rules_of old).delta key)
     → MatchResult r (λ d. y ≡ with_document d.value) (λ e. y ≡ refusal_answer e) → ((p : Past) → HubStandsFor old p → HubStandsFor new p) → IsAnswered old new (Ok (loads key)) now y
 load_so old new key now y (Ok d) may why shown on =
-    served old new now y (loads key) (λ p. document_asked (rules_of old).delta key (history p)) (λ p q so. so) on (Ok d) (λ p stands. ap (unless_refused (Some key)) (may.allowed p stands) ∙ ap (λ k. Ok k) (sym may.key)) may.served tt shown
+    served old new now y (loads key) (λ p. loaded (rules_of old).delta key (history p)) (λ p q so. so) on (Ok d) (λ p stands. ap (unless_refused (Some key)) (may.allowed p stands) ∙ ap (λ k. Ok k) (sym may.key)) may.served tt shown
 load_so old new key now y (Err e) may why shown on =
-    served old new now y (loads key) (λ p. document_asked (rules_of old).delta key (history p)) (λ p q so. so) on (Err e) tt tt (λ other p stands. ap (unless_refused (Some key)) (why other p stands)) shown
+    served old new now y (loads key) (λ p. loaded (rules_of old).delta key (history p)) (λ p q so. so) on (Err e) tt tt (λ other p stands. ap (unless_refused (Some key)) (why other p stands)) shown
 
 -- the document of an instance
 pub instance_so : (s : HubState) (key : Key) (form : Form) (now : ℕ) (y : ReplyView) (r : Result (Arc Payload Global) Fault) → IfOk r (λ d. IsDocOf s true (doc_of_key key form) d.value) → IfErr r (Withholds s true (doc_of_key key form))
     → MatchResult r (λ d. y ≡ with_document d.value) (λ e. y ≡ refusal_answer e) → IsAnswered s s (Ok (shows key form)) now y
 instance_so s key form now y (Ok d) may why shown =
-    served s s now y (shows key form) (λ p. document_asked true (doc_of_key key form) (history p)) (λ p q so. so) (λ p stands. stands) (Ok d) (λ p stands. ap (unless_refused (Some (doc_of_key key form))) (may.allowed p stands) ∙ ap (λ k. Ok k) (sym may.key)) may.served tt shown
+    served s s now y (shows key form) (λ p. loaded true (doc_of_key key form) (history p)) (λ p q so. so) (λ p stands. stands) (Ok d) (λ p stands. ap (unless_refused (Some (doc_of_key key form))) (may.allowed p stands) ∙ ap (λ k. Ok k) (sym may.key)) may.served tt shown
 instance_so s key form now y (Err e) may why shown =
-    served s s now y (shows key form) (λ p. document_asked true (doc_of_key key form) (history p)) (λ p q so. so) (λ p stands. stands) (Err e) tt tt (λ other p stands. ap (unless_refused (Some (doc_of_key key form))) (why other p stands)) shown
+    served s s now y (shows key form) (λ p. loaded true (doc_of_key key form) (history p)) (λ p q so. so) (λ p stands. stands) (Err e) tt tt (λ other p stands. ap (unless_refused (Some (doc_of_key key form))) (why other p stands)) shown
 
 -- the document of the instance of an id
 pub by_id_so : (s : HubState) (id : List ℕ) (form : Form) (now : ℕ) (y : ReplyView) (r : Result (Arc Payload Global) Fault) → IfOk r (λ d. IsDocOfId s id form d.value) → IfErr r (WithholdsId s id)
     → MatchResult r (λ d. y ≡ with_document d.value) (λ e. y ≡ refusal_answer e) → IsAnswered s s (Ok (shows_id id form)) now y
 by_id_so s id form now y (Ok d) may why shown =
-    served s s now y (shows_id id form) (λ p. document_of_id id form (history p)) (λ p q so. so) (λ p stands. stands) (Ok d) (λ p stands. ap (unless_refused (doc_of_id id form (history p))) (may.allowed p stands) ∙ ap (λ k. unless_refused k None) (may.key p stands)) may.served tt shown
+    served s s now y (shows_id id form) (λ p. loaded_by_id id form (history p)) (λ p q so. so) (λ p stands. stands) (Ok d) (λ p stands. by_id_is id form (history p) ∙ ap (unless_refused (doc_of_id id form (history p))) (may.allowed p stands) ∙ ap (λ k. unless_refused k None) (may.key p stands)) may.served tt shown
 by_id_so s id form now y (Err e) may why shown =
-    served s s now y (shows_id id form) (λ p. document_of_id id form (history p)) (λ p q so. so) (λ p stands. stands) (Err e) tt tt (λ other p stands. ap (unless_refused (doc_of_id id form (history p))) (why other p stands) ∙ refused_of (doc_of_id id form (history p)) e) shown
+    served s s now y (shows_id id form) (λ p. loaded_by_id id form (history p)) (λ p q so. so) (λ p stands. stands) (Err e) tt tt (λ other p stands. by_id_is id form (history p) ∙ ap (unless_refused (doc_of_id id form (history p))) (why other p stands) ∙ refused_of (doc_of_id id form (history p)) e) shown
   where
     refused_of : (k : Option DocKey) (e : Fault) → unless_refused k (Some e) ≡ Err e
     refused_of None e = refl

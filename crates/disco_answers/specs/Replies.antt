@@ -1,9 +1,7 @@
 -- Replies to requests (Eureka's REST operations), by what has happened before and happens after.
-use Rattle.std.specs.Prelude.{◌≡◌, ◌⊎◌, ℕ, Bool, true, List, Option, Some, None, Result, Ok, Err}
+use Rattle.std.specs.Prelude.{◌≡◌, ◌⊎◌, ℕ, true, List, Option, Some, None, Result, Ok, Err}
 use Rattle.std.specs.Arc.{arc_value}
 use Rattle.disco_values.specs.declared.fault.Fault.{Fault}
-use Rattle.disco_values.specs.declared.fault.Fault.TheVariants.{NotFound}
-use Rattle.disco_values.specs.declared.form.Form.{Form}
 use Rattle.disco_history.specs.Change.{Entry}
 use Rattle.disco_registry.specs.Accept.{accept_after}
 use Rattle.disco_registry.specs.Op.{OpView, register}
@@ -11,7 +9,7 @@ use Rattle.disco_query.specs.declared.key.DocKey.{DocKey}
 use Rattle.disco_cache.specs.Payloads.{cert_of}
 use Rattle.disco_cache.specs.declared.payload.Payload.{Payload}
 use Rattle.disco_core.specs.Past.{Past, history, with_done}
-use Rattle.disco_core.specs.Refusals.{doc_of_id, doc_of_key, refusal_of, refusal_of_id}
+use Rattle.disco_core.specs.Refusals.{doc_of_key, loaded, loaded_by_id}
 use Rattle.disco_core.specs.State.{Rules}
 use Rattle.disco_hub.specs.State.{MayServe, HubStandsFor, HubState, rules_of}
 use Rattle.disco_message.specs.ReplyText.{ReplyView}
@@ -46,19 +44,6 @@ abbrev pub success_of : OpView → StatusLine
 success_of (register r) = NoContent
 success_of _ = Success
 
--- the document of a key, unless there is a cause against it
-abbrev pub unless_refused : Option DocKey → Option Fault → Result DocKey Fault
-unless_refused key (Some fault) = Err fault
-unless_refused (Some key) None = Ok key
-unless_refused None None = Err NotFound
-
--- the document that is asked for after a history, or why it isn't served, where deltas are on or off
-abbrev pub document_of_id : List ℕ → Form → List Entry → Result DocKey Fault
-document_of_id id form h = unless_refused (doc_of_id id form h) (refusal_of_id id h)
-
-abbrev pub document_asked : Bool → DocKey → List Entry → Result DocKey Fault
-document_asked on key h = unless_refused (Some key) (refusal_of on key.query h)
-
 -- the document may be served, or the cause against it is told
 abbrev pub ShowsDocument : Past → Result DocKey Fault → ReplyView → Type 0
 ShowsDocument p (Err fault) y = y ≡ refusal_answer fault
@@ -73,9 +58,9 @@ IsDone rules p ask now (Ok change) y q = (y ≡ plain (success_of ask)) × (q �
 abbrev pub Replies : Rules → Past → Result CallView Fault → ℕ → ReplyView → Past → Type 0
 Replies rules p (Err fault) now y q = (y ≡ refusal_answer fault) × (q ≡ p)
 Replies rules p (Ok (lacks allow)) now y q = (y ≡ lacking allow) × (q ≡ p)
-Replies rules p (Ok (loads key)) now y q = ShowsDocument p (document_asked rules.delta key (history p)) y × (q ≡ p)
-Replies rules p (Ok (shows key form)) now y q = ShowsDocument p (document_asked true (doc_of_key key form) (history p)) y × (q ≡ p)
-Replies rules p (Ok (shows_id id form)) now y q = ShowsDocument p (document_of_id id form (history p)) y × (q ≡ p)
+Replies rules p (Ok (loads key)) now y q = ShowsDocument p (loaded rules.delta key (history p)) y × (q ≡ p)
+Replies rules p (Ok (shows key form)) now y q = ShowsDocument p (loaded true (doc_of_key key form) (history p)) y × (q ≡ p)
+Replies rules p (Ok (shows_id id form)) now y q = ShowsDocument p (loaded_by_id id form (history p)) y × (q ≡ p)
 Replies rules p (Ok (writes ask)) now y q = IsDone rules p ask now (accept_after rules.limits (history p) ask now) y q
 
 -- memory may always be refused, and then nothing has happened

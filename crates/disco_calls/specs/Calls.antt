@@ -1,5 +1,6 @@
 -- What a request asks for, or why it is refused (Eureka's REST operations; the order of refusals is this project's own rule).
-use Rattle.std.specs.Prelude.{ℕ, List, Option, Some, None, Result, Ok, Err, if◌then◌else◌}
+use Rattle.std.specs.Prelude.{ℕ, List, Option, Result, Ok, Err, if◌then◌else◌}
+use Rattle.std.specs.Option.{ok_or}
 use Rattle.std.specs.Str.{is_utf8}
 use Rattle.disco_query.specs.declared.key.DocKey.{DocKey}
 use Rattle.disco_values.specs.Text.{in_upper_case}
@@ -7,6 +8,7 @@ use Rattle.disco_values.specs.declared.fault.Fault.{Fault}
 use Rattle.disco_values.specs.declared.fault.Fault.TheVariants.{BadMethod, BadRequest, BadStatus, NotAcceptable, NotFound}
 use Rattle.disco_values.specs.declared.form.Form.{Form}
 use Rattle.disco_values.specs.declared.key.Key.{Key}
+use Rattle.disco_instance.specs.Instance.{if_ok}
 use Rattle.disco_message.specs.RequestView.{RequestView}
 use Rattle.disco_message.specs.declared.status_line.Allow.{Allow}
 use Rattle.disco_registry.specs.Op.{OpView, op_view, cancel, renew, set_status, drop_status, add_metadata}
@@ -69,8 +71,7 @@ post_of _ body = Err BadMethod
 
 -- a change of status to the value of a query: one that isn't given is no status
 abbrev pub sets : Key → Option (List ℕ) → Result OpView Fault
-sets key None = Err BadStatus
-sets key (Some value) = Ok (set_status key value)
+sets key value = if_ok (ok_or value BadStatus) (λ v. Ok (set_status key v))
 
 -- PUT, with a query
 abbrev pub put_call : Place (List ℕ) → List ℕ → Result OpView Fault
@@ -86,8 +87,7 @@ delete_of (place.Status app id) q = Ok (drop_status (key_named app id) (value_of
 delete_of _ q = Err BadMethod
 
 abbrev pub writing : Result OpView Fault → Result CallView Fault
-writing (Err e) = Err e
-writing (Ok ask) = Ok (writes ask)
+writing asked = if_ok asked (λ ask. Ok (writes ask))
 
 -- what a method asks for at a place
 abbrev pub call_by : Method → Place (List ℕ) → RequestView → List ℕ → Result CallView Fault
@@ -99,16 +99,14 @@ call_by Other place a q = Err BadMethod
 
 -- the same where the place's names are text
 abbrev pub call_with : Method → Option (Place (List ℕ)) → RequestView → List ℕ → Result CallView Fault
-call_with method None a q = Err BadRequest
-call_with method (Some place) a q = call_by method place a q
+call_with method place a q = if_ok (ok_or place BadRequest) (λ p. call_by method p a q)
 
 -- what a method asks for at a place whose names are still encoded: the method is looked at first
 abbrev pub called : Method → Place (List ℕ) → RequestView → List ℕ → Result CallView Fault
 called method place a q = if lists_method (allow_of place) method then call_with method (decoded place) a q else Ok (lacks (allow_of place))
 
 abbrev pub called_in : Method → Option (Place (List ℕ)) → RequestView → List ℕ → Result CallView Fault
-called_in method None a q = Err NotFound
-called_in method (Some place) a q = called method place a q
+called_in method place a q = if_ok (ok_or place NotFound) (λ p. called method p a q)
 
 -- what a request asks for, or why it is refused
 abbrev pub call : RequestView → Result CallView Fault

@@ -4,7 +4,7 @@ use Rattle.std.specs.Str.{bytes_eq}
 use Rattle.disco_message.specs.declared.status_line.Allow.{Allow}
 use Rattle.disco_message.specs.declared.status_line.Allow.TheVariants as allow
 use Rattle.disco_routes.specs.declared.place.Place.{Place}
-use Rattle.disco_routes.specs.declared.place.Place.TheVariants.{Apps, Delta, App, Instance, Status, Metadata, Id, Vip, Svip}
+use Rattle.disco_routes.specs.declared.place.Place.TheVariants.{App, Instance, Status, Metadata}
 use Rattle.disco_calls.specs.declared.method.Method.{Method}
 use Rattle.disco_calls.specs.declared.method.Method.TheVariants.{Get, Post, Put, Delete, Other}
 
@@ -18,15 +18,11 @@ method_of name =
 
 -- the methods of the path of a place
 abbrev pub allow_of : {T : Type 0} → Place T → Allow
-allow_of Apps = allow.Get
-allow_of Delta = allow.Get
 allow_of (App app) = allow.GetPost
 allow_of (Instance app id) = allow.GetPutDelete
 allow_of (Status app id) = allow.PutDelete
 allow_of (Metadata app id) = allow.Put
-allow_of (Id id) = allow.Get
-allow_of (Vip vip) = allow.Get
-allow_of (Svip svip) = allow.Get
+allow_of _ = allow.Get
 
 -- whether a method is among them
 abbrev pub lists_method : Allow → Method → Bool

@@ -1,13 +1,13 @@
 -- Texts that are one but for the case of their letters.
 use Rattle.std.proofs.Common.{◌≡◌, ◌↔◌, IsTrue, ℕ, ◌==◌, Bool, true, false, not, ◌&&◌, ◌||◌, cond, List, [], ◌∷◌, map, filter, length, refl, sym, ap, ◌∙◌, arith}
 use Rattle.std.specs.Char.{to_ascii_lowercase, to_ascii_uppercase}
-use Rattle.std.specs.List.{list_any, onto_first, slice_split}
+use Rattle.std.specs.List.{list_any, slice_split}
 use Rattle.std.specs.Str.{bytes_eq}
 use Rattle.std.proofs.lemmas.Bool.Decides.{nat_tests, same_from_decides}
 use Rattle.std.proofs.lemmas.Slice.Eq.{bytes_eq-Decides}
 use Rattle.std.proofs.lemmas.Str.Ascii.{lowercase-uppercase}
 use Rattle.disco_values.specs.Text.{in_upper_case}
-use Rattle.disco_history.specs.Query.{between_commas, vips}
+use Rattle.disco_history.specs.Query.{vips}
 
 uppercase-lowercase : (c : ℕ) → to_ascii_uppercase (to_ascii_lowercase c) ≡ to_ascii_uppercase c
 uppercase-lowercase c = grind (arith, nat_tests)
@@ -47,13 +47,6 @@ any_kept vip (p ∷ ps) = one (not (length p == 0)) (any_kept vip ps)
     one true ih = ap (λ rest. bytes_eq (in_upper_case vip) (in_upper_case p) || rest) ih
     one false ih = ih
 
-same_cut : (c : ℕ) (ps qs : List (List ℕ)) (b : Bool) → ps ≡ qs → cond b ([] ∷ ps) (onto_first c ps) ≡ cond b ([] ∷ qs) (onto_first c qs)
-same_cut c ps qs b e = ap (λ xs. cond b ([] ∷ xs) (onto_first c xs)) e
-
-by_split : (s : List ℕ) → slice_split (λ b. b == 44) s ≡ between_commas s
-by_split [] = refl
-by_split (c ∷ cs) = same_cut c (slice_split (λ b. b == 44) cs) (between_commas cs) (c == 44) (by_split cs)
-
 -- one of the pieces of an address is that vip where one of its vips is
 pub any_vip : (vip address : List ℕ) → list_any (is_vip vip) (slice_split (λ b. b == 44) address) ≡ list_any (bytes_eq (in_upper_case vip)) (map in_upper_case (vips address))
-any_vip vip address = ap (list_any (is_vip vip)) (by_split address) ∙ any_kept vip (between_commas address)
+any_vip vip address = any_kept vip (slice_split (λ b. b == 44) address)

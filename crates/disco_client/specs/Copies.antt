@@ -1,5 +1,6 @@
 -- A client's copy of a registry, and what is asked of it.
-use Rattle.std.specs.Prelude.{◌≡◌, ℕ, Bool, false, ◌&&◌, List, map, Option, Some, None}
+use Rattle.std.specs.Prelude.{◌≡◌, ℕ, Bool, false, ◌&&◌, List, map, Option}
+use Rattle.std.specs.Option.{option_map_or}
 use Rattle.std.specs.FinMap.{FinMap, keys, values}
 use Rattle.std.specs.List.{list_any}
 use Rattle.std.specs.Str.{bytes_eq}
@@ -25,8 +26,7 @@ IsCounted m t = t ≡ tally_in m
 
 -- the document has a hash code, and it is that of the records (Eureka's test of a delta)
 abbrev pub hash_equal : Option (List ℕ) → FinMap key_cmp Row → Bool
-hash_equal None s = false
-hash_equal (Some text) s = bytes_eq text (hash (values s))
+hash_equal text s = option_map_or (λ t. bytes_eq t (hash (values s))) text false
 
 -- the instance is UP, and one of its vips is the one asked for, both in upper case (Eureka's client)
 abbrev pub is_up_under : List ℕ → Row → Bool

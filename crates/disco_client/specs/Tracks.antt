@@ -1,5 +1,5 @@
 -- Where a copy is known, and where it is after a document (this project's own rule).
-use Rattle.std.specs.Prelude.{◌≡◌, ◌≤◌, ℕ, ◌==◌, ◌&&◌, ◌||◌, not, nat_le, Bool, true, false, List, length, if◌then◌else◌, Option, Some, None}
+use Rattle.std.specs.Prelude.{◌≡◌, ◌≤◌, ℕ, ◌==◌, ◌&&◌, ◌||◌, not, nat_le, Bool, true, false, List, length, if◌then◌else◌, Option, Some, None, option_and_then}
 use Rattle.std.specs.FinMap.{FinMap}
 use Rattle.disco_values.specs.Key.{key_cmp}
 use Rattle.disco_instance.specs.Row.{Row}
@@ -30,8 +30,7 @@ reaches c k = c.run == k.run && (nat_le c.base k.version && nat_le k.version c.v
 
 -- where a copy is known after a delta: where the delta puts it, if it is of the copy's form and reaches it, and else nowhere
 abbrev pub moved : Option Known → Form → Cert → Option Known
-moved None f c = None
-moved (Some k) f c = if same_form k.form f && reaches c k then Some (known_at f c) else None
+moved known f c = option_and_then (λ k. if same_form k.form f && reaches c k then Some (known_at f c) else None) known
 
 -- a copy gives way to a document of all apps: to one of another run, and to one that isn't older
 abbrev pub gives_way : Cert → Known → Bool

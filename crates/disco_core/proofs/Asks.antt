@@ -1,17 +1,18 @@
 -- What an operation that is accepted asks, and what leases and marks are after it.
-use Rattle.std.proofs.Common.{◌≡◌, ℕ, ◌+◌, ◌*◌, Bool, true, false, cond, nat_lt, List, [], ◌∷◌, Option, Some, None, option_map, IsSome, Result, Ok, Err, refl, sym, ap, subst, ◌∙◌, ◌&&◌, not}
+use Rattle.std.proofs.Common.{◌≡◌, ℕ, ◌+◌, ◌*◌, Bool, true, false, cond, nat_lt, List, [], ◌∷◌, Option, Some, None, option_map, is_none, IsSome, Result, Ok, Err, refl, sym, ap, subst, ◌∙◌, ◌&&◌, not}
 use Rattle.std.specs.FinMap.{FinMap, get, get-empty, insert, remove, get-insert, get-remove, len}
-use Rattle.std.specs.Option.{option_flatten, option_map_or}
+use Rattle.std.specs.Option.{ok_or, option_flatten, option_map_or}
 use Rattle.std.proofs.lemmas.Option.{same_Some}
 use Rattle.std.proofs.lemmas.List.{map-append}
 use Rattle.disco_values.specs.Entries.{with_entries}
 use Rattle.disco_values.specs.Key.{key_cmp, same_key}
+use Rattle.disco_instance.specs.Instance.{if_ok}
 use Rattle.disco_instance.specs.Moments.{cancelled_at, modified_at}
 use Rattle.disco_instance.specs.Row.{Row}
 use Rattle.disco_values.specs.Status.{is_same, status_named}
 use Rattle.disco_values.specs.declared.action.Action.TheVariants.{Added, Modified, Deleted}
 use Rattle.disco_values.specs.declared.fault.Fault.{Fault}
-use Rattle.disco_values.specs.declared.fault.Fault.TheVariants.{NotFound, TooManyInstances, VersionsSpent}
+use Rattle.disco_values.specs.declared.fault.Fault.TheVariants.{BadStatus, NotFound, TooManyInstances, VersionsSpent}
 use Rattle.disco_values.specs.declared.key.Key.{Key}
 use Rattle.disco_values.specs.declared.status.Status.{Status}
 use Rattle.disco_values.specs.declared.status.Status.TheVariants.{Unknown}
@@ -22,7 +23,7 @@ use Rattle.disco_history.proofs.Keys.{keys_total}
 use Rattle.disco_history.proofs.Restrictions.{held_key}
 use Rattle.disco_history.proofs.Sets.{get-reg, get-said_reg}
 use Rattle.disco_lease.specs.Leases.{Lease, Leases, Sets, counted, extended, lease_at, no_leases}
-use Rattle.disco_registry.specs.Accept.{Limits, accepts, change_asked, cancel_accepted, if_left, is_new, limits_of, metadata_added, override_dropped, renewal_accepted, status_given, status_set}
+use Rattle.disco_registry.specs.Accept.{Limits, accepts, change_asked, if_left, limits_of, status_given}
 use Rattle.disco_queue.specs.Queue.{Queue}
 use Rattle.disco_queue.specs.Timed.{Timed}
 use Rattle.disco_registry.specs.Commit as commit
@@ -76,11 +77,11 @@ left limits version (Ok (Some d)) c is = one (nat_lt version (limits.versions)) 
 done : (c d : Option Entry) → ok c ≡ ok d → d ≡ c
 done c d is = cc
 
-goes : (o : Option Row) (now : ℕ) (c : Option Entry) → cancel_accepted o now ≡ Ok c → Goes o c
+goes : (o : Option Row) (now : ℕ) (c : Option Entry) → if_ok (ok_or o NotFound) (λ r. ok (Some (cancelled_at r now, Deleted))) ≡ ok c → Goes o c
 goes None now c is = absurd (cc)
 goes (Some r) now c is = record { row = r; moment = now; there = refl; change = done _ c is }
 
-renews : (o : Option Row) (c : Option Entry) → renewal_accepted o ≡ Ok c → (r : Row) × (o ≡ Some r) × (c ≡ None)
+renews : (o : Option Row) (c : Option Entry) → if_ok (ok_or o NotFound) (λ r. cond (is_same r.status Unknown) (no NotFound) (ok None)) ≡ ok c → (r : Row) × (o ≡ Some r) × (c ≡ None)
 renews None c is = absurd (cc)
 renews (Some r) c is = one (is_same r.status Unknown) is
   where
@@ -88,7 +89,7 @@ renews (Some r) c is = one (is_same r.status Unknown) is
     one true is = absurd (cc)
     one false is = (r, refl, done None c is)
 
-sets_status : (s : Option Status) (o : Option Row) (now : ℕ) (c : Option Entry) → status_set s o now ≡ Ok c → Stays o c
+sets_status : (s : Option Status) (o : Option Row) (now : ℕ) (c : Option Entry) → if_ok (ok_or s BadStatus) (λ t. if_ok (ok_or o NotFound) (λ r. cond (is_same r.status t) (ok None) (ok (Some (modified_at r t t now, Modified))))) ≡ ok c → Stays o c
 sets_status None o now c is = absurd (cc)
 sets_status (Some s) None now c is = absurd (cc)
 sets_status (Some s) (Some r) now c is = one (is_same r.status s) is
@@ -97,7 +98,7 @@ sets_status (Some s) (Some r) now c is = one (is_same r.status s) is
     one true is = same r refl (done None c is)
     one false is = modified r s s now refl (done _ c is)
 
-drops_status : (s : Option Status) (o : Option Row) (now : ℕ) (c : Option Entry) → override_dropped s o now ≡ Ok c → Stays o c
+drops_status : (s : Option Status) (o : Option Row) (now : ℕ) (c : Option Entry) → if_ok (ok_or s BadStatus) (λ t. if_ok (ok_or o NotFound) (λ r. cond (is_same r.overridden_status Unknown) (ok None) (ok (Some (modified_at r t Unknown now, Modified))))) ≡ ok c → Stays o c
 drops_status None o now c is = absurd (cc)
 drops_status (Some s) None now c is = absurd (cc)
 drops_status (Some s) (Some r) now c is = one (is_same r.overridden_status Unknown) is
@@ -114,7 +115,7 @@ settled_key (Some r) p now k held posted = one (nat_lt p.last_dirty r.last_dirty
     one true = held r refl
     one false = posted
 
-adds_metadata : (o : Option Row) (es : List (List ℕ × List ℕ)) (now : ℕ) (k : Key) (c : Option Entry) → ((r : Row) → o ≡ Some r → r.key ≡ k) → metadata_added o es now ≡ Ok c → Comes k c
+adds_metadata : (o : Option Row) (es : List (List ℕ × List ℕ)) (now : ℕ) (k : Key) (c : Option Entry) → ((r : Row) → o ≡ Some r → r.key ≡ k) → if_ok (ok_or o NotFound) (λ r. ok (Some (settle (Some r) (record r { metadata = with_entries r.metadata es }) now, Added))) ≡ ok c → Comes k c
 adds_metadata None es now k c held is = absurd (cc)
 adds_metadata (Some r) es now k c held is = record {
   row = settle (Some r) (record r { metadata = with_entries r.metadata es }) now;
@@ -123,7 +124,7 @@ adds_metadata (Some r) es now k c held is = record {
 }
 
 registers : (limits : Limits) (held : FinMap key_cmp Entry) (p : Row) (now : ℕ) (c : Option Entry) → ((r : Row) → record_at held p.key ≡ Some r → r.key ≡ p.key) → change_asked limits (record_at held) (len held) (register p) now ≡ Ok c → Comes p.key c
-registers limits held p now c own is = one (is_new (record_at held p.key) && not (nat_lt (len held) (limits.instances))) is
+registers limits held p now c own is = one (is_none (record_at held p.key) && not (nat_lt (len held) (limits.instances))) is
   where
     one : (b : Bool) → cond b (no TooManyInstances) (ok (Some (settle (record_at held p.key) p now, Added))) ≡ ok c → Comes p.key c
     one true is = absurd (cc)

@@ -1,5 +1,6 @@
 -- What has happened to a core. Moments and durations are in milliseconds.
-use Rattle.std.specs.Prelude.{ℕ, ◌+◌, ◌*◌, List, [], ◌∷◌, ◌++◌, length, Option, Some, None, option_map, Result, Ok, Err}
+use Rattle.std.specs.Prelude.{ℕ, ◌+◌, ◌*◌, List, [], ◌∷◌, ◌++◌, length, Option, option_map, Result}
+use Rattle.std.specs.Result.{result_ok}
 use Rattle.std.specs.FinMap.{FinMap, empty, get, insert, keys, len, remove}
 use Rattle.std.specs.Option.{option_map_or}
 use Rattle.disco_values.specs.Key.{key_cmp}
@@ -34,8 +35,8 @@ history p = changes p.timed
 
 -- a change more, if there is one, in a queue of at most so many
 abbrev pub with_change : ℕ → Past → ℕ → Option Entry → Past
-with_change most p now None = p
-with_change most p now (Some c) = record p { timed = p.timed ++ (c, now) ∷ []; base = base_after_change most p.base (length p.timed + 1) }
+with_change most p now change =
+    option_map_or (λ c. record p { timed = p.timed ++ (c, now) ∷ []; base = base_after_change most p.base (length p.timed + 1) }) change p
 
 -- how long the lease of the held record of a key lasts
 abbrev pub duration_at : Past → Key → ℕ
@@ -61,8 +62,7 @@ with_done most p now ask c = record (with_change most p now c) { marks = marks_a
 
 -- what has happened after an operation that was accepted, with its change if it made one, or that was refused
 abbrev pub after_ask : ℕ → Past → ℕ → OpView → Result (Option Entry) Fault → Past
-after_ask most p now ask (Ok change) = with_done most p now ask change
-after_ask most p now ask (Err e) = p
+after_ask most p now ask result = option_map_or (with_done most p now ask) (result_ok result) p
 
 -- the queue is cleaned of changes older than the retention
 abbrev pub cleaned : ℕ → Past → ℕ → Past

@@ -19,9 +19,6 @@ use Rattle.disco_core.specs.Past.{Past, history}
 use Rattle.disco_core.specs.Written.{HasTextsFor, IsSameWritten, OpensNoText, KeptTexts}
 use Rattle.disco_settings.specs.declared.settings.Settings.{Settings}
 
-abbrev pub limits : Settings → Limits
-limits s = record { versions = s.versions; instances = s.instances }
-
 -- the number of the run, the registry, beside it the vips, the leases and the texts with their places, the recent changes, how long these are kept,
 -- and whether deltas are served
 pub record CoreState : Type 0 where
@@ -42,7 +39,7 @@ pub record Rules : Type 0 where
   pub delta : Bool
 
 abbrev pub rules : Settings → Rules
-rules s = record { limits = limits s; queue = s.queue; retention = s.retention; delta = s.delta }
+rules s = record { limits = record { versions = s.versions; instances = s.instances }; queue = s.queue; retention = s.retention; delta = s.delta }
 
 abbrev pub core_rules : CoreState → Rules
 core_rules s = record { limits = limits_of s.registry; queue = s.queue.max; retention = s.retention; delta = s.delta }

@@ -40,8 +40,7 @@ asked_by q = (kind q).asked
 -- a document of many apps has a hash code and a version, another one neither
 abbrev pub if_many : {X : Type 0} → Shape → X → Option X
 if_many Many x = Some x
-if_many App x = None
-if_many One x = None
+if_many _ x = None
 
 -- the mentions of the records that are asked for after a history, by app, then id
 abbrev pub mentioned : Selector → List Entry → List Entry

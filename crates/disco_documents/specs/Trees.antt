@@ -11,7 +11,7 @@ use Rattle.disco_values.specs.declared.form.Form.TheVariants.{Full, Compact}
 use Rattle.disco_instance.specs.declared.lease.Lease.{Lease}
 use Rattle.disco_instance.specs.declared.port.Port.{Port}
 use Rattle.disco_history.specs.Change.{Entry}
-use Rattle.disco_history.specs.Query.{Selector, all, of_app, of_vip, of_secure_vip, of_key}
+use Rattle.disco_history.specs.Query.{Selector, of_app, of_key}
 
 -- members in this order
 abbrev pub in_order : List (List ℕ × Data) → Members
@@ -108,24 +108,18 @@ abbrev pub by_app : List Entry → List (List ℕ × List Entry)
 by_app [] = []
 by_app (e ∷ es) = with_first e (by_app es)
 
-abbrev pub app_of : List Data → List ℕ → Data
-app_of instances name = tree ((codes "instance", array (items_of instances)) ∷ (codes "name", string name) ∷ [])
-
 abbrev pub app_tree : Form → List ℕ × List Entry → Data
-app_tree f g = app_of (map (instance_tree f) g.1) g.0
-
-abbrev pub many_tree : List Data → List ℕ → ℕ → Data
-many_tree apps hash version = tree ((
-  codes "applications",
-  tree (
-      (codes "application", array (items_of apps)) ∷
-      (codes "apps__hashcode", string hash) ∷
-      (codes "versions__delta", digits_text version) ∷ []),
-) ∷ [])
+app_tree f g = tree ((codes "instance", array (items_of (map (instance_tree f) g.1))) ∷ (codes "name", string g.0) ∷ [])
 
 -- a document of many apps
 unfoldable pub document_tree : Form → List Entry → List ℕ → ℕ → Data
-document_tree f es hash version = many_tree (map (app_tree f) (by_app es)) hash version
+document_tree f es hash version = tree ((
+  codes "applications",
+  tree (
+      (codes "application", array (items_of (map (app_tree f) (by_app es)))) ∷
+      (codes "apps__hashcode", string hash) ∷
+      (codes "versions__delta", digits_text version) ∷ []),
+) ∷ [])
 
 -- the document of one app
 unfoldable pub app_document : Form → List ℕ → List Entry → Data
@@ -138,8 +132,6 @@ instance_document f (e ∷ es) = tree ((codes "instance", instance_tree f e) ∷
 
 -- the document of these instances, with this hash code where it is of many apps
 abbrev pub tree_of : Form → Selector → List Entry → List ℕ → ℕ → Data
-tree_of f all es hash version = document_tree f es hash version
 tree_of f (of_app name) es hash version = app_document f name es
-tree_of f (of_vip vip) es hash version = document_tree f es hash version
-tree_of f (of_secure_vip vip) es hash version = document_tree f es hash version
 tree_of f (of_key k) es hash version = instance_document f es
+tree_of f _ es hash version = document_tree f es hash version

@@ -1,5 +1,6 @@
 -- What changed in a registry, and what a client makes of it (Eureka's delta update).
-use Rattle.std.specs.Prelude.{ℕ, List, map, drop, ◌++◌, Option, Some, None, option_map}
+use Rattle.std.specs.Prelude.{ℕ, List, map, drop, ◌++◌, Option, Some, option_map}
+use Rattle.std.specs.Option.{option_map_or}
 use Rattle.std.specs.List.{filter_map}
 use Rattle.std.specs.FinMap.{FinMap, get, keys}
 use Rattle.disco_values.specs.Key.{key_cmp}
@@ -26,8 +27,7 @@ abbrev pub known : List Mention → List Entry
 known ms = filter_map (λ m. option_map (λ action. (m.0, action)) m.1) ms
 
 abbrev pub overlaid_by : Option Row → Option Entry → Option Row
-overlaid_by held None = held
-overlaid_by held (Some e) = kept_by e.1 e.0
+overlaid_by held change = option_map_or (λ e. kept_by e.1 e.0) change held
 
 -- the overlay: of each key its last known mention, else the record that is there
 abbrev pub overlay : FinMap key_cmp Row → List Mention → FinMap key_cmp Row

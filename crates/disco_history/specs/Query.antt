@@ -1,6 +1,6 @@
 -- Which records a query asks for (Eureka's REST operations).
-use Rattle.std.specs.Prelude.{ℕ, Bool, true, false, not, ◌==◌, ◌&&◌, ◌||◌, List, [], ◌∷◌, length, filter, if◌then◌else◌, Option, Some, None, option_and_then}
-use Rattle.std.specs.List.{find, list_any, onto_first}
+use Rattle.std.specs.Prelude.{ℕ, Bool, true, false, not, ◌==◌, ◌&&◌, ◌||◌, List, length, filter, if◌then◌else◌, Option, Some, None, option_and_then}
+use Rattle.std.specs.List.{find, list_any, slice_split}
 use Rattle.std.specs.Option.{option_map_or}
 use Rattle.std.specs.Str.{bytes_eq}
 use Rattle.std.specs.FinMap.{FinMap, get, keys, len, values}
@@ -17,14 +17,9 @@ pub data Selector : Type 0 where
   of_secure_vip : List ℕ → Selector
   of_key : Key → Selector
 
--- the pieces between commas, empty ones too
-abbrev pub between_commas : List ℕ → List (List ℕ)
-between_commas [] = [] ∷ []
-between_commas (c ∷ cs) = if c == 44 then [] ∷ between_commas cs else onto_first c (between_commas cs)
-
--- the vips of an address: its pieces that aren't empty, nothing trimmed
+-- the vips of an address: its pieces between commas that aren't empty, nothing trimmed
 abbrev pub vips : List ℕ → List (List ℕ)
-vips address = filter (λ p. not (length p == 0)) (between_commas address)
+vips address = filter (λ p. not (length p == 0)) (slice_split (λ b. b == 44) address)
 
 -- a query asks for the record
 abbrev pub asks_for : Selector → Row → Bool

@@ -4,15 +4,14 @@ use Rattle.std.specs.FinMap.{FinMap, keys}
 use Rattle.disco_values.specs.Key.{key_cmp}
 use Rattle.disco_instance.specs.Row.{Row}
 use Rattle.disco_values.specs.declared.action.Action.{Action}
-use Rattle.disco_values.specs.declared.action.Action.TheVariants.{Added, Modified, Deleted}
+use Rattle.disco_values.specs.declared.action.Action.TheVariants.{Deleted}
 use Rattle.disco_history.specs.Change.{Entry, key_of, last}
 use Rattle.disco_history.specs.MapAt.{map_at}
 
 -- x, unless the action took it out
 abbrev pub kept_by : {X : Type 0} → Action → X → Option X
-kept_by Added x = Some x
-kept_by Modified x = Some x
 kept_by Deleted x = None
+kept_by _ x = Some x
 
 -- a change that put its record
 abbrev pub put_of : Entry → Option Entry

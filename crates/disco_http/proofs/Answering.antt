@@ -1,5 +1,6 @@
 -- Answers one after another.
 use Rattle.std.proofs.Common.{◌≡◌, ℕ, ◌+◌, ◌-◌, ◌<◌, ◌==◌, arith, Bool, true, false, List, [], ◌∷◌, ◌++◌, Option, Some, None, length, sym, ◌∙◌, ap, refl, append_assoc, append-nil, length-append, IfSome, IsTrue, subst}
+use Rattle.std.specs.List.{concat}
 use Rattle.std.proofs.lemmas.Bool.Decides.{nat_tests}
 use Rattle.std.proofs.lemmas.List.{map_push}
 use Rattle.disco_message.specs.declared.limits.Limits.{Limits}
@@ -11,7 +12,6 @@ use Rattle.disco_http.specs.declared.serving.End.TheVariants.{Closed, Limit, Fau
 use Rattle.disco_http.specs.declared.serving.Step.TheVariants.{Goes, Last, Stops}
 use Rattle.disco_http.specs.Served.{Left, Chain, is_last, texts, end_texts, end_behind, ends_by_reply, Requests, EndsStream, AnswersAll}
 use Rattle.disco_http.specs.Exchanges.{open_texts, Closing, SoFar, Exchanged}
-use Rattle.disco_reader.specs.Chunks.{bytes_in_chunks}
 use Rattle.disco_reader.proofs.Chunking.{joined-more, known_is}
 use Rattle.disco_http.proofs.Appended.{Appends-then, Appends-none}
 use Rattle.disco_http.proofs.Breaking.{written_one, written_then}
@@ -27,8 +27,8 @@ texts-shut [] rs end shut = refl
 texts-shut (r ∷ []) rs end shut = ap (λ b. reply_text r b ∷ texts rs end) shut
 texts-shut (r ∷ s ∷ replies) rs end shut = ap (λ xs. reply_text r false ∷ xs) (texts-shut (s ∷ replies) rs end shut)
 
-open-more : (replies : List ReplyView) (r : ReplyView) → bytes_in_chunks (open_texts (replies ++ r ∷ [])) ≡ bytes_in_chunks (open_texts replies) ++ reply_text r false
-open-more replies r = ap bytes_in_chunks (map_push (λ r. reply_text r false) replies r) ∙ joined-more (open_texts replies) (reply_text r false)
+open-more : (replies : List ReplyView) (r : ReplyView) → concat (open_texts (replies ++ r ∷ [])) ≡ concat (open_texts replies) ++ reply_text r false
+open-more replies r = ap concat (map_push (λ r. reply_text r false) replies r) ∙ joined-more (open_texts replies) (reply_text r false)
 
 -- nothing is written behind a last reply
 silent : (closes last : Bool) (end : End) → Closing (end_behind closes last) end → end_texts end ≡ []
@@ -91,7 +91,7 @@ goes_on answers limits most (Some stream) old mid new before b c left next count
       more_asks limits most stream now x.1 asks a count few so.4 x.2 x.4.3,
       chain-then answers old mid new asks (a ∷ []) replies (r ∷ []) so.5 (new, x.4.1, refl),
       one_more asks a count so.6,
-      rw (open-more replies r) (Appends-then before b c (bytes_in_chunks (open_texts replies)) (reply_text r false) so.7 x.4.2),
+      rw (open-more replies r) (Appends-then before b c (concat (open_texts replies)) (reply_text r false) so.7 x.4.2),
     )
 
 pub ends_with : {S : Type 0} (answers : S → message.RequestView → ReplyView → S → Type 0) (limits : Limits) (first : Option (List ℕ)) (old mid new : S) (before b c left : Option (List ℕ)) (next : Left) (count : ℕ) (at : End) → count < limits.requests

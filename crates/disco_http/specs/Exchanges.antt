@@ -1,12 +1,12 @@
 -- Only what code keeps: nothing here is to be believed.
 use Rattle.std.specs.Prelude.{◌≡◌, ◌≢◌, ◌⊎◌, ℕ, ◌-◌, Bool, true, false, List, [], ◌++◌, length, map, Option, Some, None}
+use Rattle.std.specs.List.{concat}
 use Rattle.std.specs.Io.KnownBytes.{Appends}
 use Rattle.disco_values.specs.declared.fault.Fault.TheVariants.{WriteFailed}
 use Rattle.disco_values.specs.declared.fault.Fault as fault
 use Rattle.disco_message.specs.declared.limits.Limits.{Limits}
 use Rattle.disco_message.specs.RequestView as message
 use Rattle.disco_message.specs.ReplyText.{ReplyView, reply_text}
-use Rattle.disco_reader.specs.Chunks.{bytes_in_chunks}
 use Rattle.disco_reader.specs.Requests.{TakesRequest}
 use Rattle.disco_http.specs.declared.serving.End.{End}
 use Rattle.disco_http.specs.declared.serving.End.TheVariants.{Fault}
@@ -69,4 +69,4 @@ SoFar answers limits most stream old new before after left count =
     → Requests limits most stream at (asks ++ more) end)
     × Chain answers old asks replies new
     × (length asks ≡ count)
-    × Appends before after (bytes_in_chunks (open_texts replies))
+    × Appends before after (concat (open_texts replies))

@@ -1,5 +1,6 @@
 -- The answers to the requests of a stream, and how a connection ends.
 use Rattle.std.specs.Prelude.{◌≡◌, ◌≢◌, ◌⊎◌, ℕ, ◌-◌, Bool, true, false, List, [], ◌∷◌, ◌++◌, length, Option, Some, None, if◌then◌else◌, ◌==◌, IsTrue}
+use Rattle.std.specs.List.{concat}
 use Rattle.std.specs.Io.KnownBytes.{Appends}
 use Rattle.disco_values.specs.declared.fault.Fault.TheVariants.{ReadFailed, WriteFailed}
 use Rattle.disco_values.specs.declared.fault.Fault as fault
@@ -7,7 +8,6 @@ use Rattle.disco_message.specs.declared.limits.Limits.{Limits}
 use Rattle.disco_message.specs.RequestView as message
 use Rattle.disco_message.specs.ReplyText.{ReplyView, reply_text}
 use Rattle.disco_message.specs.StatusLine.{refusal}
-use Rattle.disco_reader.specs.Chunks.{bytes_in_chunks}
 use Rattle.disco_reader.specs.Requests.{HasNone, TakesRequest, Refused}
 use Rattle.disco_reader.specs.Streams.{Came, ahead, source_of}
 use Rattle.disco_reader.specs.declared.reader.Reader.{Reader}
@@ -62,20 +62,16 @@ refused f = record { status = refusal f; allow = None; document = None; cert = N
 
 -- what is written at the end, behind all replies: the refusal of a request, and nothing where a read or a write failed
 abbrev pub end_texts : End → List (List ℕ)
-end_texts Closed = []
-end_texts Asked = []
-end_texts Limit = []
 end_texts (Fault ReadFailed) = []
 end_texts (Fault WriteFailed) = []
 end_texts (Fault f) = reply_text (refused f) true ∷ []
+end_texts _ = []
 
 -- the connection ends behind a reply with no other behind it
 abbrev pub is_last : List ReplyView → End → Bool
 is_last [] Asked = true
 is_last [] Limit = true
-is_last [] Closed = false
-is_last [] (Fault f) = false
-is_last (r ∷ replies) end = false
+is_last _ _ = false
 
 -- the text of each reply, in order; the last one says where the connection ends behind it
 abbrev pub texts : List ReplyView → End → List (List ℕ)
@@ -85,7 +81,7 @@ texts (r ∷ replies) end = reply_text r (is_last replies end) ∷ texts replies
 -- all texts but the last were written, and a front of that one
 abbrev pub Breaks : Option (List ℕ) → Option (List ℕ) → List (List ℕ) → Type 0
 Breaks before after texts =
-    (whole : List (List ℕ)) × (last : List ℕ) × (mid : Option (List ℕ)) × (texts ≡ whole ++ last ∷ []) × Appends before mid (bytes_in_chunks whole)
+    (whole : List (List ℕ)) × (last : List ℕ) × (mid : Option (List ℕ)) × (texts ≡ whole ++ last ∷ []) × Appends before mid (concat whole)
     × AppendsProperFront mid after last
 
 -- the connection ends by a reply, and not at the end of its input, nor by a failed read
@@ -96,7 +92,7 @@ ends_by_reply end = true
 
 -- all texts were written, or the write of the last one failed, which ended the connection
 abbrev pub Written : End → End → Option (List ℕ) → Option (List ℕ) → List (List ℕ) → Type 0
-Written at end before after texts = ((at ≡ end) × (at ≢ Fault WriteFailed) × Appends before after (bytes_in_chunks texts))
+Written at end before after texts = ((at ≡ end) × (at ≢ Fault WriteFailed) × Appends before after (concat texts))
     ⊎ ((at ≡ Fault WriteFailed) × IsTrue (ends_by_reply end) × Breaks before after texts)
 
 -- the connection's replies are exactly the answers to the stream's requests

@@ -1,5 +1,6 @@
 -- What has happened after a run that cancels instances whose leases ran out. Moments are in milliseconds.
 use Rattle.std.specs.Prelude.{◌≡◌, ◌≢◌, ◌↔◌, ◌<◌, ◌≤◌, ℕ, zero, suc, List, length, Option, Some, None, IfSome, Result, Ok, Err, IsOk, slice_get}
+use Rattle.std.specs.Option.{option_map_or}
 use Rattle.std.specs.FinMap.{get}
 use Rattle.disco_values.specs.declared.fault.Fault.{Fault}
 use Rattle.disco_values.specs.declared.fault.Fault.TheVariants.{OutOfMemory}
@@ -20,8 +21,7 @@ cancel_of rules p now k = accept_after rules.limits (history p) (cancel k) now
 
 -- what has happened after the next cancel, if there is one
 abbrev pub after_next : Rules → Past → ℕ → Option Key → Past
-after_next rules p now None = p
-after_next rules p now (Some k) = after_ask rules.queue p now (cancel k) (cancel_of rules p now k)
+after_next rules p now next = option_map_or (λ k. after_ask rules.queue p now (cancel k) (cancel_of rules p now k)) next p
 
 -- what has happened after the first i of these keys were cancelled at a moment, one after the other
 unfoldable pub cancelled : Rules → Past → ℕ → List Key → ℕ → Past

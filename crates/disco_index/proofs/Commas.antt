@@ -1,19 +1,12 @@
 -- The vips of an address, piece by piece.
-use Rattle.std.proofs.Common.{◌≡◌, ℕ, ◌<◌, ◌==◌, Bool, false, not, cond, List, [], ◌∷◌, length, filter, refl, sym, ap, ◌∙◌, arith}
-use Rattle.std.specs.List.{slice_split, onto_first, before_first, after_first, position_or_len}
+use Rattle.std.proofs.Common.{◌≡◌, ℕ, ◌<◌, ◌==◌, Bool, false, not, cond, List, [], ◌∷◌, length, filter, sym, ap, ◌∙◌, arith}
+use Rattle.std.specs.List.{before_first, after_first, position_or_len}
 use Rattle.std.proofs.lemmas.List.Splits.{slice_split_first, slice_split_none}
 use Rattle.std.proofs.lemmas.List.Sums.{fails_before_first}
-use Rattle.disco_history.specs.Query.{between_commas, vips}
+use Rattle.disco_history.specs.Query.{vips}
 
 abbrev pub is_comma : ℕ → Bool
 is_comma b = b == 44
-
-same_cut : (c : ℕ) (ps qs : List (List ℕ)) (b : Bool) → ps ≡ qs → cond b ([] ∷ ps) (onto_first c ps) ≡ cond b ([] ∷ qs) (onto_first c qs)
-same_cut c ps qs b e = ap (λ xs. cond b ([] ∷ xs) (onto_first c xs)) e
-
-by_split : (s : List ℕ) → between_commas s ≡ slice_split is_comma s
-by_split [] = refl
-by_split (c ∷ cs) = same_cut c (between_commas cs) (slice_split is_comma cs) (is_comma c) (by_split cs)
 
 abbrev kept : List (List ℕ) → List (List ℕ)
 kept = filter (λ p. not (length p == 0))
@@ -21,8 +14,7 @@ kept = filter (λ p. not (length p == 0))
 -- the vips of an address with a comma: the first piece, where it isn't empty, and those behind the comma
 cut : (s : List ℕ) → position_or_len is_comma s < length s → vips s ≡ cond (not (length (before_first is_comma s) == 0)) (before_first is_comma s ∷ vips (after_first is_comma s)) (vips (after_first is_comma s))
 cut s has =
-    ap kept (by_split s ∙ slice_split_first is_comma s 0 has)
-    ∙ ap (λ ps. kept (before_first is_comma s ∷ ps)) (sym (by_split (after_first is_comma s)))
+    ap kept (slice_split_first is_comma s 0 has)
 
 pub cut_full : (s piece after : List ℕ) → position_or_len is_comma s < length s → piece ≡ before_first is_comma s → after ≡ after_first is_comma s → (length piece == 0) ≡ false → vips s ≡ piece ∷ vips after
 cut_full s piece after has p a full =
@@ -33,5 +25,5 @@ cut_full s piece after has p a full =
 -- an address with no comma is one piece
 pub whole_full : (s : List ℕ) → position_or_len is_comma s ≡ length s → (length s == 0) ≡ false → vips s ≡ s ∷ vips []
 whole_full s none full =
-    ap kept (by_split s ∙ slice_split_none is_comma s (λ k d l. fails_before_first is_comma s k d (omega (arith, none, l))))
+    ap kept (slice_split_none is_comma s (λ k d l. fails_before_first is_comma s k d (omega (arith, none, l))))
     ∙ ap (λ b. cond (not b) (s ∷ []) []) full

@@ -1,5 +1,6 @@
 -- Which entries of an object are kept as metadata, and as what (this project's own rule).
 use Rattle.std.specs.Prelude.{ℕ, List, [], ◌∷◌, codes, if◌then◌else◌, Option, Some, None, option_and_then, option_map, decimal}
+use Rattle.std.specs.Option.{option_map_or}
 use Rattle.std.specs.Str.{bytes_eq}
 use Rattle.serde_json.specs.Data.{Data, boolean, number, string, Members, no_members, member}
 use Rattle.serde_json.specs.Find.{get, as_u64, as_object}
@@ -20,10 +21,6 @@ abbrev pub kept_entries : Members → List (List ℕ × List ℕ)
 kept_entries no_members = []
 kept_entries (member k d ms) = with_entry k (entry_text d) (kept_entries ms)
 
-abbrev pub kept_of : Option Members → List (List ℕ × List ℕ)
-kept_of None = []
-kept_of (Some ms) = kept_entries ms
-
 -- the entries of the object at the name
 abbrev pub entries_at : List ℕ → Data → List (List ℕ × List ℕ)
-entries_at name d = kept_of (option_and_then as_object (get name d))
+entries_at name d = option_map_or kept_entries (option_and_then as_object (get name d)) []

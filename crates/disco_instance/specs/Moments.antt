@@ -2,12 +2,7 @@
 use Rattle.std.specs.Prelude.{ℕ}
 use Rattle.disco_instance.specs.Row.{Row}
 use Rattle.disco_instance.specs.Since.{since}
-use Rattle.disco_instance.specs.declared.lease.Lease.{Lease}
 use Rattle.disco_values.specs.declared.status.Status.{Status}
-
--- the lease of a record that is put at a moment
-abbrev pub put_lease : Lease → ℕ → ℕ → ℕ → Lease
-put_lease l registration service_up now = record l { last_renewal = now; eviction = 0; registration = registration; service_up = service_up }
 
 -- the record that is put at a moment with a status and an override, registered at a moment, and up since the held moment where there is one
 abbrev pub put_at : Row → Status → Status → ℕ → ℕ → ℕ → Row
@@ -15,12 +10,8 @@ put_at r status overridden registration held_up now = record r {
   status = status;
   overridden_status = overridden;
   last_updated = now;
-  lease = put_lease r.lease registration (since held_up status now) now;
+  lease = record r.lease { last_renewal = now; eviction = 0; registration = registration; service_up = since held_up status now };
 }
-
--- the record that a registration at a moment puts, with the status and the override that were settled
-abbrev pub registered_at : Row → Status → Status → ℕ → ℕ → Row
-registered_at r status overridden held_up now = put_at r status overridden now held_up now
 
 -- the last record of an instance that is cancelled at a moment
 abbrev pub cancelled_at : Row → ℕ → Row

@@ -19,11 +19,9 @@ pub struct Lease {
 }
 
 impl Lease {
-    ghost use Rattle.disco_instance.specs.Moments.{put_lease};
-
     /// The lease of a record that is put at a moment.
     pub(crate) fn put(self, registration: u64, service_up: u64, now: u64) -> Lease
-        ensures { result ≡ put_lease self registration service_up now }
+        ensures { result ≡ record self { last_renewal = now; eviction = 0; registration = registration; service_up = service_up } }
     {
         let mut new = self;
         new.last_renewal = now;

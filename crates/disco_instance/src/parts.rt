@@ -1,8 +1,7 @@
 //! The parts of a record that are copied, and read, together.
-ghost use Rattle.std.specs.Prelude.{◌≡◌, codes, IfErr, IfOk};
+ghost use Rattle.std.specs.Prelude.{◌≡◌, codes, IfOk};
 ghost use Rattle.std.specs.Option.{option_copied};
 ghost use Rattle.serde_json.specs.View.{members_view, view};
-ghost use Rattle.disco_values.specs.declared.fault.Fault.TheVariants.{OutOfMemory};
 ghost use Rattle.disco_values.specs.declared.status.Status.TheVariants.{Up};
 ghost use Rattle.disco_instance.specs.Instance.{Gives, data_center_at, key_at};
 ghost use Rattle.disco_instance.specs.Members.{override_at, status_at, text_or_empty};

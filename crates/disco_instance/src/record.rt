@@ -52,7 +52,7 @@ impl Record {
     ghost use Rattle.disco_values.specs.Entries.{with_entries};
     ghost use Rattle.disco_instance.specs.Row.{row};
     ghost use Rattle.disco_instance.specs.Steps.{HasPagesAndAddresses, HasRest};
-    ghost use Rattle.disco_instance.specs.Moments.{registered_at, modified_at, cancelled_at};
+    ghost use Rattle.disco_instance.specs.Moments.{put_at, modified_at, cancelled_at};
 
     /// The same record once more.
     ///
@@ -108,7 +108,7 @@ impl Record {
         held_up: u64,
         now: u64,
     ) -> Record
-        ensures { row result ≡ registered_at (row self) status overridden_status held_up now }
+        ensures { row result ≡ put_at (row self) status overridden_status now held_up now }
     {
         let mut new = self;
         new.status = status;

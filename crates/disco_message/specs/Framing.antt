@@ -1,5 +1,6 @@
 -- How the body behind a head is framed, and what a head is refused for.
 use Rattle.std.specs.Prelude.{ℕ, Bool, ◌&&◌, ◌||◌, List, [], ◌∷◌, Option, Some, None, Result, Ok, Err, if◌then◌else◌, ◌==◌, length, codes, option_map}
+use Rattle.std.specs.Option.{option_map_or}
 use Rattle.std.specs.List.{list_all}
 use Rattle.std.specs.Str.{bytes_eq}
 use Rattle.http1.specs.Text.{eq_ignore_case}
@@ -30,8 +31,7 @@ stated minor fields =
 
 -- a body that is coded is not read
 abbrev pub uncoded : Bool → Option Framing → Result Framing Fault
-uncoded plain None = Err BadRequest
-uncoded plain (Some f) = if plain then Ok f else Err UnsupportedCoding
+uncoded plain framing = option_map_or (λ f. if plain then Ok f else Err UnsupportedCoding) framing (Err BadRequest)
 
 -- the framing, or what the head is refused for; the one Content-Encoding that is taken is `identity`, byte for byte (this project's own rule)
 abbrev pub framed : ℕ → List (List ℕ × List ℕ) → Result Framing Fault

@@ -1,5 +1,6 @@
 -- The bytes of a reply (RFC 9112, sections 2 to 6).
 use Rattle.std.specs.Prelude.{ℕ, Bool, true, false, List, [], ◌∷◌, ◌++◌, Option, Some, None, option_map, if◌then◌else◌, ◌==◌, length, codes}
+use Rattle.std.specs.Option.{option_map_or}
 use Rattle.disco_digits.specs.Digits.{digits}
 use Rattle.disco_values.specs.declared.cert.Cert.{Cert}
 use Rattle.disco_message.specs.declared.reply.Reply.{Reply}
@@ -39,8 +40,7 @@ certificate_line (Some c) = codes "X-Discovery-Certificate: " ++ number_text c.r
 
 -- the methods of the path
 unfoldable pub allow_line : Option Allow → List ℕ
-allow_line None = []
-allow_line (Some methods) = codes "Allow: " ++ allowed methods ++ codes "\r\n"
+allow_line allow = option_map_or (λ methods. codes "Allow: " ++ allowed methods ++ codes "\r\n") allow []
 
 -- the connection ends behind the reply (RFC 9112, section 9.6)
 unfoldable pub close_line : Bool → List ℕ

@@ -1,5 +1,6 @@
 -- Chunks one after another.
 use Rattle.std.proofs.Common.{◌≡◌, ℕ, ◌+◌, ◌≤◌, List, [], ◌∷◌, ◌++◌, Option, Some, None, length, take, drop, sym, ◌∙◌, ap, refl, arith, inl, inr, subst, IfSome, append_assoc, append-nil, true, false, length-append}
+use Rattle.std.specs.List.{concat}
 use Rattle.std.specs.Io.KnownBytes.{Consumes}
 use Rattle.std.proofs.Math.Seq.{drop-append-add, drop-append_seam, take-append-add}
 use Rattle.std.proofs.lemmas.List.{take_at, take-append-drop, length-take}
@@ -7,7 +8,7 @@ use Rattle.httparse.specs.Ascii.{crlf_bytes}
 use Rattle.disco_values.specs.declared.fault.Fault.{Fault}
 use Rattle.disco_values.specs.declared.fault.Fault.TheVariants.{OutOfMemory, HeadTooLarge, BadRequest, ReadFailed}
 use Rattle.disco_message.specs.declared.limits.Limits.{Limits}
-use Rattle.disco_reader.specs.Chunks.{HasSize, ReadsChunk, ReadsPieces, LacksChunk, bytes_in_chunks, NextRefused, ChunksRefused}
+use Rattle.disco_reader.specs.Chunks.{HasSize, ReadsChunk, ReadsPieces, LacksChunk, NextRefused, ChunksRefused}
 use Rattle.disco_reader.specs.Found.{Turn, PiecesSoFar, DataRefused, TrailerRefused}
 
 pub known_is : (a : Option (List ℕ)) (now : List ℕ) (P : List ℕ → Type 0) → a ≡ Some now → IfSome a P → P now
@@ -17,9 +18,9 @@ pieces-more : (limits : Limits) (input now next p : List ℕ) (pieces : List (Li
 pieces-more limits input now next p [] h chunk = (next, subst (λ (x : List ℕ). ReadsChunk limits x p next) (sym h) chunk, refl)
 pieces-more limits input now next p (q ∷ pieces) h chunk = (h.0, h.1, pieces-more limits h.0 now next p pieces h.2 chunk)
 
-pub joined-more : (pieces : List (List ℕ)) (p : List ℕ) → bytes_in_chunks (pieces ++ p ∷ []) ≡ bytes_in_chunks pieces ++ p
+pub joined-more : (pieces : List (List ℕ)) (p : List ℕ) → concat (pieces ++ p ∷ []) ≡ concat pieces ++ p
 joined-more [] p = append-nil p
-joined-more (q ∷ pieces) p = ap (λ (xs : List ℕ). q ++ xs) (joined-more pieces p) ∙ sym (append_assoc q (bytes_in_chunks pieces) p)
+joined-more (q ∷ pieces) p = ap (λ (xs : List ℕ). q ++ xs) (joined-more pieces p) ∙ sym (append_assoc q (concat pieces) p)
 
 -- before the first chunk
 pub none_yet : (limits : Limits) (first : Option (List ℕ)) → IfSome first (λ input. PiecesSoFar limits [] input first)
@@ -43,7 +44,7 @@ pub refused_next : (limits : Limits) (first left : Option (List ℕ)) (body : Li
 refused_next limits None left body fault so fits refused = tt
 refused_next limits (Some input) left body fault so fits refused =
     let r = known_is left so.1 (NextRefused limits (length body) fault) so.4 refused in
-    let e : length body ≡ length (bytes_in_chunks so.0) = ap length so.3 in (
+    let e : length body ≡ length (concat so.0) = ap length so.3 in (
       so.0,
       so.1,
       so.2,

@@ -1,5 +1,6 @@
 -- A body in chunks (RFC 9112, section 7.1), within the limits, and why it is refused.
 use Rattle.std.specs.Prelude.{◌≡◌, ℕ, ◌+◌, ◌<◌, ◌≤◌, ◌⊎◌, List, [], ◌∷◌, ◌++◌, length, ⊤}
+use Rattle.std.specs.List.{concat}
 use Rattle.httparse.specs.Ascii.{crlf_bytes}
 use Rattle.httparse.specs.Grammar.{ChunkLine, chunk_size, print_chunk_line, ReadsChunkLine, Field, LineEnd, print_section, ReadsSection}
 use Rattle.disco_values.specs.declared.fault.Fault.{Fault}
@@ -30,11 +31,6 @@ ReadsTrailer limits input rest = (fields : List Field) × (last : LineEnd) × Re
 abbrev pub ReadsLast : Limits → List ℕ → List ℕ → Type 0
 ReadsLast limits input rest = (after : List ℕ) × HasSize limits 0 input after × ReadsTrailer limits after rest
 
--- the bytes of chunks
-abbrev pub bytes_in_chunks : List (List ℕ) → List ℕ
-bytes_in_chunks [] = []
-bytes_in_chunks (piece ∷ pieces) = piece ++ bytes_in_chunks pieces
-
 -- so many bytes and a line end don't stand there
 abbrev pub LacksChunk : ℕ → List ℕ → Type 0
 LacksChunk size input = (piece : List ℕ) (rest : List ℕ) → length piece ≡ size → input ≡ piece ++ (crlf_bytes ++ rest) → ⊥
@@ -58,4 +54,4 @@ NextRefused limits have fault input = ⊥
 -- why a body in chunks is refused
 abbrev pub ChunksRefused : Limits → Fault → List ℕ → Type 0
 ChunksRefused limits fault input = (pieces : List (List ℕ)) × (next : List ℕ) × ReadsPieces limits input pieces next
-    × (length (bytes_in_chunks pieces) ≤ limits.body) × NextRefused limits (length (bytes_in_chunks pieces)) fault next
+    × (length (concat pieces) ≤ limits.body) × NextRefused limits (length (concat pieces)) fault next

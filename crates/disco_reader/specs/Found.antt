@@ -1,7 +1,7 @@
 -- Only what code keeps: nothing here is to be believed.
 use Rattle.std.specs.Prelude.{◌≡◌, ℕ, ◌≤◌, ⊤, ◌⊎◌, IsOk, Bool, true, false, ◌==◌, ◌&&◌, ◌||◌, ◌++◌, List, [], ◌∷◌, length, drop, Option, Some, None}
 use Rattle.std.specs.Prelude.{Result, Ok, Err}
-use Rattle.std.specs.List.{list_any}
+use Rattle.std.specs.List.{concat, list_any}
 use Rattle.httparse.specs.Ascii.{carriage_return, line_feed}
 use Rattle.httparse.specs.Grammar.{ChunkLine, Field, LineEnd, print_section, ReadsSection}
 use Rattle.httparse.specs.Spans.{IsRequestWithin, IsRequestOf, IsResponseWithin, IsResponseOf, IsChunkLineAt}
@@ -17,7 +17,7 @@ use Rattle.disco_message.specs.declared.framing.Framing.{Framing}
 use Rattle.disco_message.specs.declared.received.Extent.{Extent}
 use Rattle.disco_message.specs.declared.received.Extent.TheVariants.{Framed, UntilEnd}
 use Rattle.disco_reader.specs.Bodies.{ReadsBody}
-use Rattle.disco_reader.specs.Chunks.{HasSize, LacksChunk, LineRefused, ReadsChunk, ReadsLast, ReadsPieces, bytes_in_chunks}
+use Rattle.disco_reader.specs.Chunks.{HasSize, LacksChunk, LineRefused, ReadsChunk, ReadsLast, ReadsPieces}
 use Rattle.disco_reader.specs.Parts.{HasNo, BytesRefused, PartRefused}
 use Rattle.disco_reader.specs.Replies.{BeginsReply}
 use Rattle.disco_reader.specs.Requests.{BeginsWithHead}
@@ -84,7 +84,7 @@ Turn limits false old new input left = (next : List ℕ) × HasSize limits 0 inp
 
 -- the body so far is that of the chunks so far
 abbrev pub PiecesSoFar : Limits → List ℕ → List ℕ → Option (List ℕ) → Type 0
-PiecesSoFar limits body input left = (pieces : List (List ℕ)) × (next : List ℕ) × ReadsPieces limits input pieces next × (body ≡ bytes_in_chunks pieces)
+PiecesSoFar limits body input left = (pieces : List (List ℕ)) × (next : List ℕ) × ReadsPieces limits input pieces next × (body ≡ concat pieces)
     × (left ≡ Some next)
 
 -- no chunks up to the last, with the fields behind it, stand at the front of these bytes

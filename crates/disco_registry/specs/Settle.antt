@@ -1,7 +1,8 @@
 -- What a registration makes of the posted and of the held record (after Eureka's rules for dirty records and for overrides; that an override belongs to
 -- an app and an id together is this project's own rule).
-use Rattle.std.specs.Prelude.{ℕ, Bool, ◌||◌, nat_lt, if◌then◌else◌, Option, Some, None}
-use Rattle.disco_instance.specs.Moments.{registered_at}
+use Rattle.std.specs.Prelude.{ℕ, Bool, ◌||◌, nat_lt, if◌then◌else◌, Option}
+use Rattle.std.specs.Option.{option_map_or}
+use Rattle.disco_instance.specs.Moments.{put_at}
 use Rattle.disco_instance.specs.Row.{Row}
 use Rattle.disco_values.specs.Status.{is_same}
 use Rattle.disco_values.specs.declared.status.Status.{Status}
@@ -9,8 +10,7 @@ use Rattle.disco_values.specs.declared.status.Status.TheVariants.{Up, OutOfServi
 
 -- the registrant: the posted record, or the held one where that is the later change
 abbrev pub registrant : Option Row → Row → Row
-registrant None posted = posted
-registrant (Some held) posted = if nat_lt posted.last_dirty held.last_dirty then held else posted
+registrant held posted = option_map_or (λ h. if nat_lt posted.last_dirty h.last_dirty then h else posted) held posted
 
 -- a status, or another where it is Unknown
 abbrev pub known_or : Status → Status → Status
@@ -18,16 +18,14 @@ known_or status other = if is_same status Unknown then other else status
 
 -- the override: the held one where there is one, else the registrant's own
 abbrev pub override_of : Option Row → Status → Status
-override_of None own = own
-override_of (Some held) own = known_or held.overridden_status own
+override_of held own = option_map_or (λ h. known_or h.overridden_status own) held own
 
 -- the statuses that give way to an override and to the held status
 abbrev pub is_open : Status → Bool
 is_open status = is_same status Up || is_same status OutOfService
 
 abbrev pub held_or : Option Row → Status → Status
-held_or None own = own
-held_or (Some held) own = if is_open held.status then held.status else own
+held_or held own = option_map_or (λ h. if is_open h.status then h.status else own) held own
 
 -- the status, by the order of Eureka's rules for overrides: the first that applies of the registrant's, where it is not open, the override, the held
 -- one, where it is open, and the registrant's
@@ -36,12 +34,11 @@ settled_status held overridden own = if is_open own then known_or overridden (he
 
 -- since when the held record says that the instance is up, 0 where it doesn't
 abbrev pub held_up : Option Row → ℕ
-held_up None = 0
-held_up (Some held) = held.lease.service_up
+held_up held = option_map_or (λ h. h.lease.service_up) held 0
 
 -- the record that a registration at a moment puts
 abbrev pub settle : Option Row → Row → ℕ → Row
 settle held posted now =
     let r = registrant held posted in
     let overridden = override_of held r.overridden_status in
-    registered_at r (settled_status held overridden r.status) overridden (held_up held) now
+    put_at r (settled_status held overridden r.status) overridden now (held_up held) now

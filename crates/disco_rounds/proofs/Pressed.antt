@@ -5,7 +5,7 @@ use Rattle.disco_history.specs.Change.{Entry}
 use Rattle.disco_cache.specs.Docs.{Docs}
 use Rattle.disco_query.specs.declared.key.DocKey.{DocKey}
 use Rattle.disco_rounds.specs.Press.{Fits, IsLegal, IsPressed, Note, begin, change, changes_in, step}
-use Rattle.disco_rounds.specs.Rounds.{KeySet, Round, kept_keys, new_round, round_keys}
+use Rattle.disco_rounds.specs.Rounds.{KeySet, Round, kept_keys, round_keys}
 use Rattle.disco_rounds.proofs.InStep.{begun_law, changes_stay, copied_law, nothing_noted, publishable_law, shown_law}
 use Rattle.disco_rounds.proofs.Notes.{changes-begin, changes_more, legal_changes, legal_more}
 
@@ -21,7 +21,7 @@ module _ (run : ℕ) (published pending : List Note) (h : List Entry) (edition :
     in_step = changes_stay published pending edition round cs was.in_step;
   }
 
-  pub begun_pressed : (kept : Docs) → IsPressed run published pending h edition None → IsPressed run published (pending ++ begin ∷ []) h edition (Some (new_round (round_keys edition kept)))
+  pub begun_pressed : (kept : Docs) → IsPressed run published pending h edition None → IsPressed run published (pending ++ begin ∷ []) h edition (Some (record { done = []; left = round_keys edition kept }))
   begun_pressed kept was = record {
     changes = ap changes_in (sym (grown (begin ∷ []))) ∙ changes-begin (published ++ pending) ∙ was.changes;
     legal = subst (IsLegal run) (grown (begin ∷ [])) (legal_more run (published ++ pending) begin was.legal tt);

@@ -1,5 +1,6 @@
 -- Press lists: what a publisher and the writers noted, in order, and what readers see of it (this project's own rule).
 use Rattle.std.specs.Prelude.{◌≡◌, ℕ, Bool, true, false, List, [], ◌∷◌, ◌++◌, flat_map, fold, map, Option, Some, None, IfSome}
+use Rattle.std.specs.Option.{option_map_or}
 use Rattle.std.specs.List.{list_any}
 use Rattle.std.specs.FinMap.{FinMap, contains_key, empty, insert, remove}
 use Rattle.disco_history.specs.Change.{Entry}
@@ -92,18 +93,13 @@ step (gone k) = Some (k, false) ∷ []
 
 -- the steps that lead to an open round, of which there are none where none is open
 abbrev pub steps_to : Option Round → List (Option (DocKey × Bool))
-steps_to None = []
-steps_to (Some r) = None ∷ map Some r.done
-
--- the key is one of the round
-abbrev pub is_in : Round → DocKey → Bool
-is_in r k = list_any (same_doc k) (map (λ copied. copied.0) r.done ++ r.left)
+steps_to round = option_map_or (λ r. None ∷ map Some r.done) round []
 
 -- what was published and what was noted since are in step with the edition's keys and the open round
 pub record IsInStep (published pending : List Note) (edition : KeySet) (round : Option Round) : Type 0 where
   pub keys : (k : DocKey) → contains_key edition k ≡ contains_key (edition_of published) k
   pub steps : flat_map step pending ≡ steps_to round
-  pub covers : IfSome round (λ r. (k : DocKey) → contains_key edition k ≡ true → is_in r k ≡ true)
+  pub covers : IfSome round (λ r. (k : DocKey) → contains_key edition k ≡ true → list_any (same_doc k) (map (λ d. d.0) r.done ++ r.left) ≡ true)
 
 -- what was noted in a run is legal and has these changes, what was published may be seen by readers, and all is in step with the keys of an edition
 -- and with a round

@@ -36,10 +36,6 @@ pub record Rounds : Type 0 where
   pub edition : KeySet
   pub round : Option Round
 
--- a round of which nothing is copied yet
-abbrev pub new_round : List DocKey → Round
-new_round ks = record { done = []; left = ks }
-
 -- the first key that was left is copied, with a document or without one
 pub record Marks (kept : Bool) (old new : Round) : Type 0 where
   pub key : DocKey
@@ -49,7 +45,7 @@ pub record Marks (kept : Bool) (old new : Round) : Type 0 where
 -- a round of these keys is begun where none was open, of so many
 pub record Begins (ks : List DocKey) (n : ℕ) (old new : Rounds) : Type 0 where
   pub none : old.round ≡ None
-  pub round : new ≡ record old { round = Some (new_round ks) }
+  pub round : new ≡ record old { round = Some (record { done = []; left = ks }) }
   pub many : n ≡ length ks
 
 -- a key of the open round is copied

@@ -1,7 +1,7 @@
 //! An open round.
 ghost use Rattle.std.specs.Prelude.{◌≡◌, [], IfOk, false, length, map, nat_eq, option_map, slice_get, true};
 ghost use Rattle.std.specs.FinMap as finmap;
-ghost use Rattle.disco_rounds.specs.Rounds.{Marks, kept_keys, new_round};
+ghost use Rattle.disco_rounds.specs.Rounds.{Marks, kept_keys};
 ghost use Rattle.disco_rounds.specs.Stored.{AreNew, key_pairs};
 
 use disco_query::DocKey;
@@ -71,7 +71,7 @@ impl Round {
     /// A round of these keys, with room for each of them.
     pub(crate) fn of(alloc: Global, keys: &[&DocKey]) -> Result<Round, AllocError>
         requires { AreNew finmap.empty (map (λ k. k.now) keys.now) }
-        ensures { IfOk result (λ r. r ≡ new_round (map (λ k. k.now) keys.now)) }
+        ensures { IfOk result (λ r. r ≡ record { done = []; left = map (λ k. k.now) keys.now }) }
     {
         let left = copies(alloc, keys)?;
         Ok(Round {

@@ -1,5 +1,6 @@
 -- What a JSON tree means as a document (the JSON of Eureka's REST operations).
 use Rattle.std.specs.Prelude.{ℕ, List, [], ◌∷◌, ◌++◌, codes, Option, Some, None, option_map, option_and_then}
+use Rattle.std.specs.Option.{option_map_or}
 use Rattle.std.specs.Result.{result_ok}
 use Rattle.serde_json.specs.Data.{Data, null, array, object, Items, no_items, item}
 use Rattle.serde_json.specs.Find.{get}
@@ -54,18 +55,8 @@ meant shape hash version ms = record { shape = shape; mentions = ms; hash = hash
 abbrev pub many_meant : Data → Option Meaning
 many_meant d = option_map (meant Many (text_at (codes "apps__hashcode") d) (option_and_then as_whole (get (codes "versions__delta") d))) (told_apps d)
 
-abbrev pub app_meant : Data → Option Meaning
-app_meant d = option_map (meant App None None) (told_app d)
-
-abbrev pub one_meant : Data → Option Meaning
-one_meant d = option_map (meant One None None) (told_in None d)
-
 -- by the first of the three members that is an object
-abbrev pub meaning_by : Option Data → Option Data → Option Data → Option Meaning
-meaning_by (Some d) app one = many_meant d
-meaning_by None (Some d) one = app_meant d
-meaning_by None None (Some d) = one_meant d
-meaning_by None None None = None
-
 unfoldable pub meaning_of : Data → Option Meaning
-meaning_of d = meaning_by (object_at (codes "applications") d) (object_at (codes "application") d) (object_at (codes "instance") d)
+meaning_of d = option_map_or many_meant (object_at (codes "applications") d) (
+    option_map_or (λ a. option_map (meant App None None) (told_app a)) (object_at (codes "application") d) (
+    option_and_then (λ i. option_map (meant One None None) (told_in None i)) (object_at (codes "instance") d)))

@@ -1,6 +1,6 @@
 -- What a registration says (Eureka's POST /apps/{app}; which members are required is this project's own rule).
 use Rattle.std.specs.Prelude.{ℕ, List, codes, is_some, ◌&&◌, not, if◌then◌else◌, Option, Some, None, Result, Err}
-use Rattle.std.specs.Option.{ok_or}
+use Rattle.std.specs.Option.{ok_or, option_map_or}
 use Rattle.serde_json.specs.Data.{Data}
 use Rattle.disco_instance.specs.Instance.{if_ok, told_by}
 use Rattle.disco_instance.specs.Members.{inner_at, non_empty_at}
@@ -23,8 +23,7 @@ missing_in d =
 
 -- the record, where nothing is missing
 abbrev pub registered_by : Option Field → Data → Result Row Fault
-registered_by (Some field) d = Err (MissingField field)
-registered_by None d = told_by None d
+registered_by missing d = option_map_or (λ field. Err (MissingField field)) missing (told_by None d)
 
 -- the record of a tree's member `instance`, an object
 abbrev pub registration_in : Data → Result Row Fault

@@ -1,9 +1,9 @@
 -- The JSON tree of some bytes (RFC 8259).
-use Rattle.std.specs.Prelude.{ℕ, List, if◌then◌else◌, Option, Some, None, Result, option_and_then}
+use Rattle.std.specs.Prelude.{ℕ, List, if◌then◌else◌, Option, None, Result, option_and_then, option_map}
 use Rattle.std.specs.Option.{ok_or}
 use Rattle.std.specs.Str.{is_utf8}
 use Rattle.serde_json.specs.Data.{Data, object}
-use Rattle.serde_json.specs.Find.{get}
+use Rattle.serde_json.specs.Find.{as_object, get}
 use Rattle.serde_json.specs.Read.{read}
 use Rattle.disco_values.specs.declared.fault.Fault.{Fault}
 use Rattle.disco_values.specs.declared.fault.Fault.TheVariants.{BadJson}
@@ -14,8 +14,7 @@ json_of bytes = ok_or (if is_utf8 bytes then read bytes else None) BadJson
 
 -- an object, and nothing of another kind
 abbrev pub as_tree : Data → Option Data
-as_tree (object ms) = Some (object ms)
-as_tree _ = None
+as_tree d = option_map object (as_object d)
 
 -- the member of that name where it is an object
 abbrev pub object_at : List ℕ → Data → Option Data

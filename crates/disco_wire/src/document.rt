@@ -1,13 +1,14 @@
 //! Reading a document.
-ghost use Rattle.std.specs.Prelude.{◌≡◌, codes, map, option_map, option_and_then, unwrap_or, IfOk, Err, Some};
+ghost use Rattle.std.specs.Prelude.{◌≡◌, codes, map, option_map, option_and_then, unwrap_or, IfOk, Err, None, Some};
 ghost use Rattle.std.specs.Option.{ok_or, option_copied};
+ghost use Rattle.disco_wire.specs.declared.wire.Shape.TheVariants.{App, One};
 ghost use Rattle.serde_json.specs.Data.{null};
 ghost use Rattle.serde_json.specs.Find.{get};
 ghost use Rattle.serde_json.specs.View.{view};
 ghost use Rattle.disco_instance.specs.Instance.{Gives};
 ghost use Rattle.disco_values.specs.declared.fault.Fault.TheVariants.{BadDocument};
 ghost use Rattle.disco_instance.specs.Members.{as_whole, text_at};
-ghost use Rattle.disco_wire.specs.Meaning.{all_told, app_meant, listed_in, many_meant, meaning_of, one_meant, told_app, told_in, told_item};
+ghost use Rattle.disco_wire.specs.Meaning.{all_told, listed_in, many_meant, meaning_of, meant, told_app, told_in, told_item};
 ghost use Rattle.disco_wire.specs.Steps.{told_on};
 ghost use Rattle.disco_wire.specs.Documents.{document_of};
 ghost use Rattle.disco_wire.specs.Wire.{wire_meaning, tell_all};
@@ -48,7 +49,7 @@ fn from_tree(alloc: Global, tree: &Value) -> Result<Wire, Fault>
 }
 
 fn one_app(alloc: Global, app: &Value) -> Result<Wire, Fault>
-    ensures { Gives wire_meaning result (ok_or (app_meant (view app.now)) BadDocument) }
+    ensures { Gives wire_meaning result (ok_or (option_map (meant App None None) (told_app (view app.now))) BadDocument) }
 {
     let mut mentions = Vec::new(alloc);
     push_app(alloc, &mut mentions, app)?;
@@ -61,7 +62,7 @@ fn one_app(alloc: Global, app: &Value) -> Result<Wire, Fault>
 }
 
 fn one_instance(alloc: Global, instance: &Value) -> Result<Wire, Fault>
-    ensures { Gives wire_meaning result (ok_or (one_meant (view instance.now)) BadDocument) }
+    ensures { Gives wire_meaning result (ok_or (option_map (meant One None None) (told_in None (view instance.now))) BadDocument) }
 {
     let mut mentions = Vec::new(alloc);
     push_instance(alloc, &mut mentions, None, instance)?;

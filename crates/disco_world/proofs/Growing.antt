@@ -14,7 +14,7 @@ use Rattle.disco_hub.proofs.Runs.{run_cancelled}
 use Rattle.disco_client.specs.Tracks.{Histories}
 use Rattle.disco_world.specs.Answers.{AreAnswers, IsAnswer}
 use Rattle.disco_world.specs.Events.{Effect, World, writes, expires, restarts, after, after_at, effect, done, history_of, performed, ran_out, world}
-use Rattle.disco_world.specs.Steps.{after_run, ended_after, past_after, past_done}
+use Rattle.disco_world.specs.Steps.{after_run, ended_after, past_done}
 use Rattle.disco_world.specs.declared.event.Event.{Event}
 use Rattle.disco_world.specs.declared.event.Reply.{Reply}
 use Rattle.disco_world.specs.declared.event.Reply.TheVariants.{Expired, Restarted}

@@ -219,7 +219,7 @@ load_or_look rules first_run es rs i sees (loads asked) d answer v next is =
       after = i + 1;
       floor = omega (arith, ap (λ (w : World). w.press.floor) same, sees.sees.floor, sees.count);
       within = omega arith;
-      load = λ _. refl;
+      load = λ _ _. refl;
       asked = ap (λ (a : Result DocKey Fault). key_asked (loads a)) answer.0;
       served = subst (λ (w : World). MayServe d.value w.past) (sym same) answer.1;
     }
@@ -229,7 +229,7 @@ load_or_look rules first_run es rs i sees (looks (Some k)) d answer v next is =
       after = was.after;
       floor = omega (arith, ap (λ (w : World). w.press.floor) same, was.since);
       within = omega (arith, was.within);
-      load = λ loads. absurd (cc);
+      load = λ asked is. absurd (cc);
       asked = ap Some (sym was.key);
       served = was.served;
     }

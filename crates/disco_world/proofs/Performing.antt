@@ -1,14 +1,11 @@
 -- What an effect makes of what has happened, part by part.
-use Rattle.std.proofs.Common.{◌≡◌, ℕ, Bool, true, false, cond, List, [], ◌∷◌, ◌++◌, drop, length, map, Option, Some, Ok, refl, sym, ap, ◌∙◌, append-nil}
+use Rattle.std.proofs.Common.{◌≡◌, Bool, true, false, cond, List, [], ◌∷◌, ◌++◌, drop, length, map, Ok, refl, sym, ap, ◌∙◌, append-nil}
 use Rattle.disco_core.specs.Past.{Past, history}
 use Rattle.disco_core.specs.State.{Rules}
-use Rattle.disco_client.specs.Tracks.{Histories}
-use Rattle.disco_client.specs.declared.certified.CertifiedCopy.{CertifiedCopy}
 use Rattle.disco_rounds.specs.Press.{change}
-use Rattle.disco_world.specs.Events.{Effect, World, writes, cleans, closes, expires, begins, copies, publishes, takes, certifies, restarts, after, performed, ran_out}
+use Rattle.disco_world.specs.Events.{Effect, World, writes, expires, begins, copies, publishes, restarts, after, performed, ran_out}
 use Rattle.disco_world.specs.Rounds.{Press}
 use Rattle.disco_world.specs.Steps.{certified_done, changes_since, clients_done, ended_after, is_plain, past_after, past_done}
-use Rattle.disco_world.specs.declared.clients.Client.{Client}
 use Rattle.disco_world.specs.declared.event.Reply.{Reply}
 use Rattle.disco_world.specs.declared.event.Reply.TheVariants.{Expired, Begun, Copied, Published, Restarted}
 

@@ -1,5 +1,5 @@
 -- What events answer.
-use Rattle.std.specs.Prelude.{◌≡◌, ◌≢◌, ℕ, ◌+◌, ◌<◌, ◌≤◌, Bool, true, false, List, length, Option, Some, None, Ok, Err, option_map, slice_get}
+use Rattle.std.specs.Prelude.{◌≡◌, ◌≢◌, ℕ, ◌+◌, ◌<◌, ◌≤◌, List, length, Option, Some, None, Result, Ok, Err, option_map, slice_get}
 use Rattle.std.specs.FinMap.{len}
 use Rattle.std.specs.declared.alloc.Global.{Global}
 use Rattle.std.specs.declared.sync.Arc.{Arc}
@@ -73,17 +73,13 @@ key_asked (loads (Ok k)) = Some k
 key_asked (looks key) = key
 key_asked _ = None
 
-abbrev pub is_load : Effect → Bool
-is_load (loads asked) = true
-is_load _ = false
-
 -- a document that is answered to an event may be served after the first so many events: a load's after all up to it, and a look's no earlier than the
 -- last published round began, or than the run did where it published none
 pub record IsServed (rules : Rules) (run : ℕ) (events : List Event) (replies : List Reply) (i : ℕ) (what : Effect) (d : Payload) : Type 0 where
   pub after : ℕ
   pub floor : (world rules run events replies (i + 1)).press.floor ≤ after
   pub within : after ≤ i + 1
-  pub load : is_load what ≡ true → after ≡ i + 1
+  pub load : (a : Result DocKey Fault) → what ≡ loads a → after ≡ i + 1
   pub asked : key_asked what ≡ Some d.key
   pub served : MayServe d (world rules run events replies after).past
 

@@ -1,9 +1,8 @@
 -- What is kept and copied in a run, event by event.
-use Rattle.std.specs.Prelude.{◌≡◌, ◌≤◌, ℕ, ◌+◌, List, length, Option, Some, None, IfSome, slice_get}
+use Rattle.std.specs.Prelude.{◌≡◌, ◌≤◌, ℕ, ◌+◌, List, length, Some, None, IfSome, slice_get}
 use Rattle.std.specs.Option.{option_flatten}
 use Rattle.std.specs.Result.{result_ok}
 use Rattle.std.specs.FinMap.{empty, get}
-use Rattle.disco_history.specs.Change.{Entry}
 use Rattle.disco_history.specs.Registry.{registry_of}
 use Rattle.disco_cache.specs.Docs.{Docs}
 use Rattle.disco_core.specs.Past.{Past, history, taken_in}

@@ -1,5 +1,5 @@
 -- Certified clients, whose copies are always known (this project's own rule).
-use Rattle.std.specs.Prelude.{◌≡◌, ℕ, ◌&&◌, Bool, true, false, if◌then◌else◌, Option, Some, None}
+use Rattle.std.specs.Prelude.{◌≡◌, ℕ, ◌&&◌, Bool, true, false, if◌then◌else◌, Option, Some}
 use Rattle.std.specs.Option.{option_map_or}
 use Rattle.std.specs.Result.{result_ok}
 use Rattle.std.specs.FinMap.{FinMap, empty}
@@ -16,16 +16,12 @@ use Rattle.disco_client.specs.declared.certified.CertifiedCopy.{CertifiedCopy}
 
 -- a document is taken: one of all apps where there is no copy, or one that gives way to it; a delta of the copy's form that reaches it
 abbrev pub takes_it : Bool → Payload → Option CertifiedCopy → Bool
-takes_it false d None = true
-takes_it false d (Some k) = gives_way (cert_of d) k.known
-takes_it true d None = false
-takes_it true d (Some k) = same_form k.known.form d.key.form && reaches (cert_of d) k.known
+takes_it delta d held = if delta then option_map_or (λ k. same_form k.known.form d.key.form && reaches (cert_of d) k.known) held false else
+    option_map_or (λ k. gives_way (cert_of d) k.known) held true
 
 -- the records that it makes then
 abbrev pub rows_by : Bool → Meaning → Option CertifiedCopy → FinMap key_cmp Row
-rows_by false m held = copied m.mentions
-rows_by true m None = empty
-rows_by true m (Some k) = overlay k.copy m.mentions
+rows_by delta m held = if delta then option_map_or (λ k. overlay k.copy m.mentions) held empty else copied m.mentions
 
 abbrev pub given_by : Bool → Payload → Meaning → Option CertifiedCopy → Option CertifiedCopy
 given_by delta d m held = if takes_it delta d held then Some (record { copy = rows_by delta m held; known = known_at d.key.form (cert_of d) }) else held

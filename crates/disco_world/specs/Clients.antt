@@ -1,5 +1,5 @@
 -- Clients' copies, and the versions at which they are known.
-use Rattle.std.specs.Prelude.{◌≡◌, ℕ, ◌==◌, Bool, true, false, List, [], map, if◌then◌else◌, Option, Some, None, option_map, Ok}
+use Rattle.std.specs.Prelude.{◌≡◌, ℕ, ◌==◌, Bool, List, [], map, if◌then◌else◌, Option, Some, option_map, Ok}
 use Rattle.std.specs.Option.{option_map_or}
 use Rattle.std.specs.Result.{result_ok}
 use Rattle.std.specs.FinMap.{FinMap, values}
@@ -19,9 +19,8 @@ use Rattle.disco_world.specs.declared.instance_summary.InstanceSummary.{Instance
 
 -- a document of all apps replaces the copy; a delta is overlaid on the copy that is there
 abbrev pub taken_by : Bool → Payload → Meaning → Option Client → Option Client
-taken_by false d m held = Some (record { copy = copied m.mentions; known = Some (known_at d.key.form (cert_of d)) })
-taken_by true d m None = None
-taken_by true d m (Some c) = Some (record { copy = overlay c.copy m.mentions; known = moved c.known d.key.form (cert_of d) })
+taken_by delta d m held = if delta then option_map (λ c. record { copy = overlay c.copy m.mentions; known = moved c.known d.key.form (cert_of d) }) held
+    else Some (record { copy = copied m.mentions; known = Some (known_at d.key.form (cert_of d)) })
 
 -- a client after it took a document
 abbrev pub client_after : Payload → Option Client → Option Client
@@ -42,8 +41,7 @@ pub record IsTakenReply (d : Payload) (now : Option Client) (equal : Bool) (vers
 
 -- what is shown of a copy: each instance's key and status, by key
 abbrev pub summaries : Option (FinMap key_cmp Row) → List InstanceSummary
-summaries None = []
-summaries (Some s) = map (λ r. record { key = r.key; status = r.status }) (values s)
+summaries copy = option_map_or (λ s. map (λ r. record { key = r.key; status = r.status }) (values s)) copy []
 
 -- a copy that is known at a version of a run is exactly that version of the run's history, in its form
 abbrev pub MeansVersion : Histories → Client → Type 0

@@ -1,14 +1,11 @@
 -- What events are for, and what has happened after them.
 use Rattle.std.specs.Prelude.{ℕ, zero, suc, ◌+◌, ◌==◌, List, [], ◌∷◌, ◌++◌, drop, length, map, Bool, true, false, if◌then◌else◌, Option, Some, None}
 use Rattle.std.specs.Prelude.{Result, Ok, Err, slice_get}
-use Rattle.std.specs.Option.{ok_or, option_map_or}
-use Rattle.disco_instance.specs.Instance.{if_ok}
+use Rattle.std.specs.Option.{option_map_or}
 use Rattle.disco_values.specs.Text.{in_upper_case}
 use Rattle.disco_values.specs.declared.fault.Fault.{Fault}
-use Rattle.disco_values.specs.declared.fault.Fault.TheVariants.{OutOfMemory, NotFound}
+use Rattle.disco_values.specs.declared.fault.Fault.TheVariants.{OutOfMemory}
 use Rattle.disco_history.specs.Change.{Entry}
-use Rattle.disco_history.specs.Query.{by_id}
-use Rattle.disco_history.specs.Registry.{registry_of}
 use Rattle.disco_registry.specs.Accept.{accept_after}
 use Rattle.disco_registry.specs.Op.{OpView, cancel, renew, set_status, drop_status, add_metadata}
 use Rattle.disco_wire.specs.Registration.{registration_of}
@@ -18,7 +15,7 @@ use Rattle.disco_hub.specs.Expiry.{cancelled}
 use Rattle.disco_rounds.specs.Press as press
 use Rattle.disco_rounds.specs.Press.{note_of}
 use Rattle.disco_core.specs.Past.{Past, after_ask, cleaned, history, minute_closed, nothing, taken_in}
-use Rattle.disco_core.specs.Refusals.{doc_of_key, refusal_of}
+use Rattle.disco_core.specs.Refusals.{loaded, loaded_by_id}
 use Rattle.disco_core.specs.State.{Rules}
 use Rattle.disco_query.specs.declared.query.Query.{Query}
 use Rattle.disco_query.specs.declared.query.Query.TheVariants as query
@@ -69,16 +66,9 @@ pub data Effect : Type 0 where
 
 -- what is asked for, with the name of an app in upper case
 abbrev pub query_asked : Query → Query
-query_asked query.Apps = query.Apps
-query_asked query.Delta = query.Delta
 query_asked (query.App name) = query.App (in_upper_case name)
-query_asked (query.Vip vip) = query.Vip vip
-query_asked (query.Svip svip) = query.Svip svip
 query_asked (query.Instance k) = query.Instance (key_named k.app k.id)
-
--- the document of a key after a history, or why it isn't served, where deltas are on or off
-abbrev pub loaded : Bool → DocKey → List Entry → Result DocKey Fault
-loaded on k h = option_map_or (λ e. Err e) (refusal_of on k.query h) (Ok k)
+query_asked q = q
 
 -- a document of all apps, or a delta
 abbrev pub for_clients : Query → Bool
@@ -105,8 +95,7 @@ effect rules w (Step (SetStatus now app id status)) = writes now (Ok (set_status
 effect rules w (Step (DropStatus now app id status)) = writes now (Ok (drop_status (key_named app id) status))
 effect rules w (Step (Metadata now app id entries)) = writes now (Ok (add_metadata (key_named app id) entries))
 effect rules w (Step (Load key)) = loads (loaded rules.delta (record { query = query_asked key.query; form = key.form }) (history w.past))
-effect rules w (Step (LoadById id form)) = let h = history w.past in
-    loads (if_ok (ok_or (by_id (registry_of h) id) NotFound) (λ r. loaded true (doc_of_key r.key form) h))
+effect rules w (Step (LoadById id form)) = loads (loaded_by_id id form (history w.past))
 effect rules w (Step (Clean now)) = cleans now
 effect rules w (Step Minute) = closes
 effect rules w (Step (Expire now)) = expires now

@@ -3,7 +3,8 @@ use Rattle.disco_core.specs.Past.{history}
 use Rattle.disco_query.specs.declared.key.DocKey.{DocKey}
 use Rattle.disco_query.specs.declared.query.Query.{Query}
 use Rattle.disco_hub.specs.State.{rules_of}
-use Rattle.disco_world.specs.Events.{loaded, loads, query_asked}
+use Rattle.disco_world.specs.Events.{loads, query_asked}
+use Rattle.disco_core.specs.Refusals.{loaded}
 use Rattle.disco_world.specs.Steps.{Performs, reply_of}
 use Rattle.disco_world.specs.declared.event.Reply.{Reply}
 use Rattle.disco_world.proofs.Writes.{loads_so}
