@@ -68,11 +68,17 @@ def look(root, seen):
             seen[pid, crate, kind] = seconds
 
 
+def anew():
+    """The word that has a kit prove all from nothing, where it would take what earlier runs passed."""
+    told = subprocess.run(["rt", "help"], stdout=subprocess.PIPE, stderr=subprocess.STDOUT, text=True).stdout
+    return ["--anew"] if "--anew" in told else []
+
+
 def run(folder, log):
     """Runs the gate, with its output in a file, and gives its status and the seconds of each process."""
     seen = {}
     with open(log, "wb") as out:
-        gate = subprocess.Popen(["rt", "ci"], cwd=folder, stdout=out, stderr=subprocess.STDOUT)
+        gate = subprocess.Popen(["rt", "ci", *anew()], cwd=folder, stdout=out, stderr=subprocess.STDOUT)
         while gate.poll() is None:
             look(gate.pid, seen)
             time.sleep(0.5)
