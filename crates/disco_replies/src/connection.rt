@@ -49,8 +49,8 @@ pub(crate) fn over_a_hub(
     request: &[u8],
     piece: usize,
 ) -> Result<Came, AllocError> {
-    let hub = Hub::new(alloc, settings);
-    let mut service = HubService::new(alloc, Routes::new(alloc)?, hub, Ticks::new(STEP));
+    let routes = Routes::new(alloc)?;
+    let mut service = HubService::new(alloc, routes, Hub::new(alloc, settings), Ticks::new(STEP));
     run(alloc, &mut service, request, piece)
 }
 
