@@ -14,7 +14,6 @@ use Rattle.disco_core.specs.State.{Rules}
 use Rattle.disco_hub.specs.State.{MayServe, HubStandsFor, HubState, rules_of}
 use Rattle.disco_message.specs.ReplyText.{ReplyView}
 use Rattle.disco_message.specs.StatusLine.{refusal}
-use Rattle.disco_message.specs.declared.status_line.Allow.{Allow}
 use Rattle.disco_message.specs.declared.status_line.StatusLine.{StatusLine}
 use Rattle.disco_message.specs.declared.status_line.StatusLine.TheVariants.{Success, NoContent, MethodNotAllowed, ServiceUnavailable}
 use Rattle.disco_calls.specs.Calls.{CallView, loads, shows, shows_id, writes, lacks}
@@ -30,10 +29,6 @@ plain status = record { status = status; allow = None; document = None; cert = N
 
 abbrev pub refusal_answer : Fault → ReplyView
 refusal_answer fault = plain (refusal fault)
-
--- the path has these methods
-abbrev pub lacking : Allow → ReplyView
-lacking allow = record { status = MethodNotAllowed; allow = Some allow; document = None; cert = None }
 
 -- a document, with its certificate
 abbrev pub with_document : Payload → ReplyView
@@ -57,7 +52,7 @@ IsDone rules p ask now (Ok change) y q = (y ≡ plain (success_of ask)) × (q �
 -- the reply at a moment to what is asked for, where one thing has happened before and another after
 abbrev pub Replies : Rules → Past → Result CallView Fault → ℕ → ReplyView → Past → Type 0
 Replies rules p (Err fault) now y q = (y ≡ refusal_answer fault) × (q ≡ p)
-Replies rules p (Ok (lacks allow)) now y q = (y ≡ lacking allow) × (q ≡ p)
+Replies rules p (Ok (lacks allow)) now y q = (y ≡ record { status = MethodNotAllowed; allow = Some allow; document = None; cert = None }) × (q ≡ p)
 Replies rules p (Ok (loads key)) now y q = ShowsDocument p (loaded rules.delta key (history p)) y × (q ≡ p)
 Replies rules p (Ok (shows key form)) now y q = ShowsDocument p (loaded true (doc_of_key key form) (history p)) y × (q ≡ p)
 Replies rules p (Ok (shows_id id form)) now y q = ShowsDocument p (loaded_by_id id form (history p)) y × (q ≡ p)

@@ -1,8 +1,9 @@
 //! Replies by what was done.
-ghost use Rattle.std.specs.Prelude.{◌≡◌, MatchResult};
+ghost use Rattle.std.specs.Prelude.{◌≡◌, MatchResult, None, Some};
 ghost use Rattle.disco_registry.specs.Op.{op_view};
 ghost use Rattle.disco_message.specs.ReplyText.{reply_view};
-ghost use Rattle.disco_answers.specs.Replies.{lacking, plain, refusal_answer, success_of, shared_text, with_document};
+ghost use Rattle.disco_message.specs.declared.status_line.StatusLine.TheVariants.{MethodNotAllowed};
+ghost use Rattle.disco_answers.specs.Replies.{plain, refusal_answer, success_of, shared_text, with_document};
 
 use crate::shared::Shared;
 use disco_cache::Payload;
@@ -33,7 +34,7 @@ pub(crate) fn refused(fault: Fault) -> Reply<Shared>
 
 /// The reply where a path has other methods.
 pub(crate) fn lacking(allow: Allow) -> Reply<Shared>
-    ensures { reply_view shared_text result ≡ lacking allow }
+    ensures { reply_view shared_text result ≡ record { status = MethodNotAllowed; allow = Some allow; document = None; cert = None } }
 {
     Reply {
         status: StatusLine::MethodNotAllowed,

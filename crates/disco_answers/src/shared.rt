@@ -1,5 +1,4 @@
 //! Documents that are answered.
-ghost use Rattle.std.specs.Prelude.{◌≡◌};
 
 use disco_cache::Payload;
 use disco_message::Document;

@@ -1,5 +1,5 @@
 -- What a request asks for, or why it is refused (Eureka's REST operations; the order of refusals is this project's own rule).
-use Rattle.std.specs.Prelude.{ℕ, List, Option, Result, Ok, Err, if◌then◌else◌}
+use Rattle.std.specs.Prelude.{ℕ, List, Result, Ok, Err, if◌then◌else◌}
 use Rattle.std.specs.Option.{ok_or}
 use Rattle.std.specs.Str.{is_utf8}
 use Rattle.disco_query.specs.declared.key.DocKey.{DocKey}
@@ -60,23 +60,15 @@ read_of (place.Instance app id) form = Ok (shows (key_named app id) form)
 read_of (place.Id id) form = Ok (shows_id id form)
 read_of _ form = Err BadMethod
 
--- GET, by a reader that takes JSON
-abbrev pub call_of_get : Place (List ℕ) → RequestView → Result CallView Fault
-call_of_get place a = if takes_json a.fields then read_of place (form_of a.fields) else Err NotAcceptable
-
 -- POST, with a registration as its body
 abbrev pub post_of : Place (List ℕ) → List ℕ → Result OpView Fault
 post_of (place.App app) body = registers app (registration_of body)
 post_of _ body = Err BadMethod
 
--- a change of status to the value of a query: one that isn't given is no status
-abbrev pub sets : Key → Option (List ℕ) → Result OpView Fault
-sets key value = if_ok (ok_or value BadStatus) (λ v. Ok (set_status key v))
-
--- PUT, with a query
+-- PUT, with a query: a status that isn't given is none
 abbrev pub put_call : Place (List ℕ) → List ℕ → Result OpView Fault
 put_call (place.Instance app id) q = Ok (renew (key_named app id))
-put_call (place.Status app id) q = sets (key_named app id) (value_of q)
+put_call (place.Status app id) q = if_ok (ok_or (value_of q) BadStatus) (λ v. Ok (set_status (key_named app id) v))
 put_call (place.Metadata app id) q = Ok (add_metadata (key_named app id) (entries_of_query q))
 put_call _ q = Err BadMethod
 
@@ -91,23 +83,18 @@ writing asked = if_ok asked (λ ask. Ok (writes ask))
 
 -- what a method asks for at a place
 abbrev pub call_by : Method → Place (List ℕ) → RequestView → List ℕ → Result CallView Fault
-call_by Get place a q = call_of_get place a
+call_by Get place a q = if takes_json a.fields then read_of place (form_of a.fields) else Err NotAcceptable
 call_by Post place a q = writing (post_of place a.body)
 call_by Put place a q = writing (put_call place q)
 call_by Delete place a q = writing (delete_of place q)
 call_by Other place a q = Err BadMethod
 
--- the same where the place's names are text
-abbrev pub call_with : Method → Option (Place (List ℕ)) → RequestView → List ℕ → Result CallView Fault
-call_with method place a q = if_ok (ok_or place BadRequest) (λ p. call_by method p a q)
-
--- what a method asks for at a place whose names are still encoded: the method is looked at first
+-- what a method asks for at a place whose names are still encoded: the method is looked at first, then whether the names are text
 abbrev pub called : Method → Place (List ℕ) → RequestView → List ℕ → Result CallView Fault
-called method place a q = if lists_method (allow_of place) method then call_with method (decoded place) a q else Ok (lacks (allow_of place))
-
-abbrev pub called_in : Method → Option (Place (List ℕ)) → RequestView → List ℕ → Result CallView Fault
-called_in method place a q = if_ok (ok_or place NotFound) (λ p. called method p a q)
+called method place a q = if lists_method (allow_of place) method then if_ok (ok_or (decoded place) BadRequest) (λ p. call_by method p a q)
+    else Ok (lacks (allow_of place))
 
 -- what a request asks for, or why it is refused
 abbrev pub call : RequestView → Result CallView Fault
-call a = if is_utf8 (path_in a.target) then called_in (method_of a.method) (path_place (path_in a.target)) a (query_in a.target) else Err BadRequest
+call a = if is_utf8 (path_in a.target)
+    then if_ok (ok_or (path_place (path_in a.target)) NotFound) (λ place. called (method_of a.method) place a (query_in a.target)) else Err BadRequest

@@ -1,8 +1,10 @@
 //! From a request to what it asks for.
+ghost use Rattle.std.specs.Prelude.{[]};
 ghost use Rattle.disco_instance.specs.Instance.{Gives};
 ghost use Rattle.disco_registry.specs.Op.{op_view};
 ghost use Rattle.disco_routes.specs.Places.{place_view};
-ghost use Rattle.disco_calls.specs.Calls.{call, call_by, call_of_get, called, delete_of, post_of, put_call, read_of, call_view};
+ghost use Rattle.disco_calls.specs.declared.method.Method.TheVariants.{Get};
+ghost use Rattle.disco_calls.specs.Calls.{call, call_by, called, delete_of, post_of, put_call, read_of, call_view};
 
 use crate::accept::{form_of, takes_json};
 use crate::call::Call;
@@ -42,7 +44,7 @@ fn read_of(alloc: Global, place: Place<Text>, form: Form) -> Result<Call, Fault>
 
 /// What a GET asks for.
 fn call_of_get(alloc: Global, place: Place<Text>, request: &Request) -> Result<Call, Fault>
-    ensures { Gives call_view result (call_of_get place request.now) }
+    ensures { Gives call_view result (call_by Get place request.now []) }
 {
     if !takes_json(request) {
         return Err(Fault::NotAcceptable);

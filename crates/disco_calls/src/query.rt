@@ -1,10 +1,10 @@
 //! The query of a request's target.
-ghost use Rattle.std.specs.Prelude.{◌≡◌};
+ghost use Rattle.std.specs.Prelude.{◌≡◌, ◌==◌};
 ghost use Rattle.std.specs.List.{position};
-ghost use Rattle.disco_calls.specs.Query.{is_question, path_in, query_in};
+ghost use Rattle.disco_calls.specs.Query.{path_in, query_in};
 
 fn first_question(target: &[u8]) -> Option<usize>
-    ensures { result ≡ position is_question target.now }
+    ensures { result ≡ position (λ b. b == 63) target.now }
 {
     target.iter().position(|b| *b == b'?')
 }

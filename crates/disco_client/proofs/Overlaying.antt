@@ -9,10 +9,10 @@ use Rattle.disco_values.specs.declared.key.Key.{Key}
 use Rattle.disco_history.specs.Change.{Entry, key_of, last}
 use Rattle.disco_history.specs.Held.{record_at}
 use Rattle.disco_instance.specs.Mention.{Mention}
-use Rattle.disco_history.specs.Mentions.{copied, known, overlaid_by, overlay}
+use Rattle.disco_history.specs.Mentions.{copied, known, overlay}
 use Rattle.disco_history.specs.Registry.{put_of}
 use Rattle.disco_history.proofs.Keys.{keys_total, exact_keys, get-chosen}
-use Rattle.disco_history.proofs.Sets.{get-overlay, get-reg, len_first, not_there, values_first}
+use Rattle.disco_history.proofs.Sets.{get-overlay, get-reg, len_first, not_there, values_first, overlaid_by}
 use Rattle.disco_client.specs.Copies.{rows_by_key}
 use Rattle.disco_client.specs.Steps.{put_or_taken, after_all, with_key}
 

@@ -23,7 +23,7 @@ use Rattle.disco_history.proofs.Keys.{keys_total}
 use Rattle.disco_history.proofs.Restrictions.{held_key}
 use Rattle.disco_history.proofs.Sets.{get-reg, get-said_reg}
 use Rattle.disco_lease.specs.Leases.{Lease, Leases, Sets, counted, extended, lease_at, no_leases}
-use Rattle.disco_registry.specs.Accept.{Limits, accepts, change_asked, if_left, limits_of, status_given}
+use Rattle.disco_registry.specs.Accept.{Limits, accepts, change_asked, if_left, limits_of}
 use Rattle.disco_queue.specs.Queue.{Queue}
 use Rattle.disco_queue.specs.Timed.{Timed}
 use Rattle.disco_registry.specs.Commit as commit
@@ -213,7 +213,7 @@ module _ (s : registry.RegistryState) (v w : Leases) (p : Past) (now : ℕ) (c :
   marks_on (cancel k) is moves = goes_mark k k (goes (record_at s.held k) now c is) moves
   marks_on (renew k) is moves = let r = renews (record_at s.held k) c is in goes_on_mark k r.0 r.1 (subst (λ (x : Option Entry). Moves x k renewal now v w) r.2 moves)
   marks_on (set_status k text) is moves = stays_mark k (sets_status (status_named text) (record_at s.held k) now c is) moves
-  marks_on (drop_status k text) is moves = stays_mark k (drops_status (status_given text) (record_at s.held k) now c is) moves
+  marks_on (drop_status k text) is moves = stays_mark k (drops_status (option_map_or status_named text (Some Unknown)) (record_at s.held k) now c is) moves
   marks_on (add_metadata k es) is moves = comes_mark k k (adds_metadata (record_at s.held k) es now k c (own k) is) moves
 
   stays_count : (k : Key) → Stays (record_at s.held k) c → renewal ≡ false → Moves c k renewal now v w → w.renewals ≡ v.renewals
@@ -235,7 +235,7 @@ module _ (s : registry.RegistryState) (v w : Leases) (p : Past) (now : ℕ) (c :
   count_on (cancel k) is renewal_is moves = let gone = goes (record_at s.held k) now c is in change_count (cancelled_at gone.row gone.moment, Deleted) k gone.change moves
   count_on (renew k) is renewal_is moves = let r = renews (record_at s.held k) c is in renew_count k r.0 r.1 r.2 renewal_is moves
   count_on (set_status k text) is renewal_is moves = stays_count k (sets_status (status_named text) (record_at s.held k) now c is) renewal_is moves
-  count_on (drop_status k text) is renewal_is moves = stays_count k (drops_status (status_given text) (record_at s.held k) now c is) renewal_is moves
+  count_on (drop_status k text) is renewal_is moves = stays_count k (drops_status (option_map_or status_named text (Some Unknown)) (record_at s.held k) now c is) renewal_is moves
   count_on (add_metadata k es) is renewal_is moves = let comes = adds_metadata (record_at s.held k) es now k c (own k) is in change_count (comes.row, Added) k comes.change moves
 
   closed_on : (o : Option Entry) (k : Key) → Moves o k renewal now v w → w.closed ≡ v.closed

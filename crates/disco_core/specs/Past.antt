@@ -9,7 +9,7 @@ use Rattle.disco_values.specs.declared.key.Key.{Key}
 use Rattle.disco_history.specs.Change.{Entry}
 use Rattle.disco_history.specs.Registry.{registry_of}
 use Rattle.disco_lease.specs.Due.{taken}
-use Rattle.disco_lease.specs.Leases.{counted, no_minute}
+use Rattle.disco_lease.specs.Leases.{counted}
 use Rattle.disco_lease.specs.declared.minute.Minute.{Minute}
 use Rattle.disco_queue.specs.Base.{base_after_change, base_after_cleaning}
 use Rattle.disco_queue.specs.Timed.{Timed, changes}
@@ -27,7 +27,7 @@ pub record Past : Type 0 where
 
 -- nothing has happened so far in a run
 abbrev pub nothing : ℕ → Past
-nothing run = record { run = run; timed = []; base = 0; marks = empty; renewals = 0; closed = no_minute }
+nothing run = record { run = run; timed = []; base = 0; marks = empty; renewals = 0; closed = record { renewals = 0; instances = 0 } }
 
 -- the changes without their moments
 abbrev pub history : Past → List Entry

@@ -10,7 +10,7 @@ use Rattle.disco_values.specs.Status.{status_name, status_named}
 use Rattle.disco_values.specs.Action.{action_name, action_named}
 use Rattle.disco_values.specs.Entries.{is_before, is_by_name}
 use Rattle.disco_values.specs.Text.{in_upper_case}
-use Rattle.disco_instance.specs.Members.{flag_named, not_empty}
+use Rattle.disco_instance.specs.Members.{as_flag, not_empty}
 use Rattle.disco_instance.specs.Metadata.{kept_entries}
 use Rattle.disco_documents.specs.Trees.{in_order}
 use Rattle.serde_json.specs.Data.{string}
@@ -18,7 +18,7 @@ use Rattle.serde_json.specs.Data.{string}
 pub in_range : (low high default n : ℕ) → low ≤ n → n ≤ high → unwrap_or (cond (nat_le low n && nat_le n high) (Some n) None) default ≡ n
 in_range low high default n a b = grind (arith, nat_tests, a, b)
 
-pub flag_again : (b : Bool) → flag_named (cond b (codes "true") (codes "false")) ≡ Some b
+pub flag_again : (b : Bool) → as_flag (string (cond b (codes "true") (codes "false"))) ≡ Some b
 flag_again true = refl
 flag_again false = refl
 

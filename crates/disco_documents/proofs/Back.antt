@@ -1,14 +1,16 @@
 -- A written tree tells what was written.
 use Rattle.std.proofs.Common.{◌≡◌, ℕ, ◌<◌, ◌^◌, Bool, true, false, ◌&&◌, nat_le, decimal, cond, List, [], codes, Option, Some, None, option_map, option_and_then, unwrap_or, Ok, refl, ap, arith}
-use Rattle.std.specs.Option.{option_or}
+use Rattle.std.specs.Option.{ok_or, option_or}
 use Rattle.disco_instance.specs.declared.lease.Lease.{Lease}
 use Rattle.disco_instance.specs.declared.port.Port.{Port}
+use Rattle.disco_values.specs.declared.fault.Fault.TheVariants.{MissingField}
+use Rattle.disco_values.specs.declared.fault.Field.TheVariants.{InstanceId, App}
 use Rattle.disco_values.specs.declared.status.Status.{Status}
 use Rattle.disco_values.specs.declared.status.Status.TheVariants.{Unknown, Up}
 use Rattle.disco_values.specs.Status.{status_name, status_named}
 use Rattle.disco_instance.specs.Row.{Row, IsWellFormed}
 use Rattle.disco_values.specs.Text.{in_upper_case}
-use Rattle.disco_instance.specs.Instance.{key_at, key_by, row_at, action_at, lease_in}
+use Rattle.disco_instance.specs.Instance.{if_ok, key_at, row_at, action_at, lease_in}
 use Rattle.disco_instance.specs.Members.{not_empty, port_at}
 use Rattle.disco_digits.specs.Digits.{digits_number}
 use Rattle.disco_wire.specs.Meaning.{told_in}
@@ -38,7 +40,8 @@ lease_again l a b c d e f g = λ i. record {
 moment_again : (n : ℕ) → n < 2 ^ 64 → unwrap_or (option_and_then (λ x. cond (nat_le 0 x && nat_le x 18446744073709551615) (Some x) None) (digits_number (decimal n))) 0 ≡ n
 moment_again n small = rw (digits_again n small) (in_range 0 18446744073709551615 0 n (omega arith) (omega arith))
 
-key_again : (r : Row) → IsWellFormed r → key_by (option_or (not_empty r.key.id) (not_empty r.host_name)) (not_empty r.key.app) ≡ Ok r.key
+key_again : (r : Row) → IsWellFormed r → if_ok (ok_or (option_or (not_empty r.key.id) (not_empty r.host_name)) (MissingField InstanceId)) (λ id.
+    if_ok (ok_or (not_empty r.key.app) (MissingField App)) (λ app. Ok (record { app = in_upper_case app; id = id }))) ≡ Ok r.key
 key_again r is = rw (text_again r.key.id is.has_id, text_again r.key.app is.has_app) (λ i. Ok (record { app = is.app_in_upper_case i; id = r.key.id }))
 
 app_first : (a b : Option (List ℕ)) (s : List ℕ) → a ≡ Some s → option_or a b ≡ a

@@ -4,7 +4,8 @@ use Rattle.std.specs.List.{AllByRecursion}
 use Rattle.std.specs.Str.{bytes_eq}
 use Rattle.serde_json.specs.Data.{Data}
 use Rattle.serde_json.specs.View.{items_of}
-use Rattle.disco_wire.specs.Meaning.{told_in, told_item, all_told, meaning_of, meant, list_of}
+use Rattle.disco_wire.specs.Meaning.{told_in, all_told, meaning_of, meant, list_of}
+use Rattle.disco_wire.specs.Steps.{told_item}
 use Rattle.disco_wire.specs.declared.wire.Shape.TheVariants.{App, One}
 use Rattle.disco_values.specs.declared.form.Form.{Form}
 use Rattle.disco_values.specs.declared.form.Form.TheVariants.{Full, Compact}

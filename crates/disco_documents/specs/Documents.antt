@@ -1,11 +1,12 @@
 -- What a written document means, and what a true one is.
-use Rattle.std.specs.Prelude.{◌≡◌, ◌≤◌, ℕ, Bool, true, false, List, if◌then◌else◌, length, Option, Some, None, Ok}
+use Rattle.std.specs.Prelude.{◌≡◌, ◌≤◌, ℕ, Bool, true, false, List, map, if◌then◌else◌, length, Option, Some, None, Ok}
 use Rattle.std.specs.FinMap.{values}
 use Rattle.serde_json.specs.Written.{compact_text}
 use Rattle.disco_values.specs.declared.form.Form.{Form}
 use Rattle.disco_history.specs.Change.{Entry, prefix}
+use Rattle.disco_history.specs.Forms.{mention_in}
 use Rattle.disco_history.specs.Hash.{hash}
-use Rattle.disco_history.specs.Mentions.{delta}
+use Rattle.disco_history.specs.Mentions.{delta, mention_of}
 use Rattle.disco_history.specs.Query.{Selector, all, of_app, of_vip, of_secure_vip, of_key, is_absent, restrict}
 use Rattle.disco_history.specs.Registry.{registry_of, mentions_of}
 use Rattle.disco_wire.specs.Documents.{document_of}
@@ -13,7 +14,6 @@ use Rattle.disco_wire.specs.Meaning.{Meaning}
 use Rattle.disco_wire.specs.declared.wire.Shape.{Shape}
 use Rattle.disco_wire.specs.declared.wire.Shape.TheVariants.{Many, App, One}
 use Rattle.disco_query.specs.Query.{is_delta}
-use Rattle.disco_documents.specs.Rows.{mentions_in}
 use Rattle.disco_documents.specs.Trees.{tree_of}
 use Rattle.disco_query.specs.declared.query.Query.{Query}
 use Rattle.disco_query.specs.declared.query.Query.TheVariants as query
@@ -58,7 +58,7 @@ hash_of q h = hash (values (restrict (registry_of h) (asked_by q)))
 abbrev pub meaning_for : Query → Form → List Entry → ℕ → ℕ → Meaning
 meaning_for q f h base v = record {
   shape = (kind q).shape;
-  mentions = mentions_in f (told q h base);
+  mentions = map (mention_in f) (map mention_of (told q h base));
   hash = if_many (kind q).shape (hash_of q h);
   version = if_many (kind q).shape v;
 }

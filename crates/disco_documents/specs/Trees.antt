@@ -48,11 +48,8 @@ lease_tree l = tree (
     (codes "renewalIntervalInSecs", whole l.renewal_interval_secs) ∷
     (codes "serviceUpTimestamp", whole l.service_up) ∷ [])
 
-abbrev pub metadata_members : List (List ℕ × List ℕ) → Members
-metadata_members es = in_order (map (λ e. (e.0, string e.1)) es)
-
 abbrev pub metadata_tree : List (List ℕ × List ℕ) → Data
-metadata_tree es = object (metadata_members es)
+metadata_tree es = tree (map (λ e. (e.0, string e.1)) es)
 
 -- a member, and whether the compact form has it
 abbrev pub Marked : Type 0

@@ -1,5 +1,4 @@
 //! What readers take: an edition with the publications that it is of.
-ghost use Rattle.std.specs.Prelude.{◌≡◌};
 
 use crate::published_log::{LogPrefix, Naming};
 use crossbeam_utils::rule::{Outcome, Protocol};

@@ -15,12 +15,12 @@ use Rattle.disco_history.specs.Forms.{formed, in_form, mention_in}
 use Rattle.disco_history.specs.Hash.{count_of, hash, hash_by}
 use Rattle.disco_history.specs.Laws.{FormLaw}
 use Rattle.disco_instance.specs.Mention.{Mention}
-use Rattle.disco_history.specs.Mentions.{copied, known, overlaid_by, overlay}
+use Rattle.disco_history.specs.Mentions.{copied, known, overlay}
 use Rattle.disco_history.specs.Query.{Selector, all, of_app, of_vip, of_secure_vip, of_key, asks_for, restrict}
 use Rattle.disco_history.specs.Registry.{put_of}
 use Rattle.disco_history.proofs.Keys.{keys_total, exact_keys, get-chosen}
 use Rattle.disco_history.proofs.Lasts.{last_mapped}
-use Rattle.disco_history.proofs.Sets.{asked_of, first_of, get-overlay, get-reg, get-restrict, not_there}
+use Rattle.disco_history.proofs.Sets.{asked_of, first_of, get-overlay, get-reg, get-restrict, not_there, overlaid_by}
 
 abbrev pub entry_in : Form → Entry → Entry
 entry_in f e = (formed f e.0, e.1)

@@ -10,12 +10,12 @@ use Rattle.disco_values.specs.declared.action.Action.TheVariants.{Added, Modifie
 use Rattle.disco_values.specs.declared.key.Key.{Key}
 use Rattle.disco_history.specs.Change.{Entry, prefix, key_of, last}
 use Rattle.disco_history.specs.Laws.{CopyLaw, OverlayLaw}
-use Rattle.disco_history.specs.Mentions.{delta, known, mention_of, overlaid_by}
+use Rattle.disco_history.specs.Mentions.{delta, known, mention_of}
 use Rattle.disco_history.specs.Registry.{put_of, registry_of, mentions_of}
 use Rattle.disco_history.proofs.Keys.{keys_total, exact_keys, same_is}
 use Rattle.disco_history.proofs.Lasts.{last_by_parts, last_mapped, last_of_front}
 use Rattle.disco_history.proofs.Restrictions.{held_key, last_key}
-use Rattle.disco_history.proofs.Sets.{first_of, get-delta, get-overlay, get-reg, get-said_reg}
+use Rattle.disco_history.proofs.Sets.{first_of, get-delta, get-overlay, get-reg, get-said_reg, overlaid_by}
 use Rattle.disco_history.proofs.Sorted.{Own, own, none_below, both_first, both_second}
 
 -- all of a map's mentions say what was done

@@ -1,6 +1,7 @@
 -- What the sets of a history have at a key.
 use Rattle.std.proofs.Common.{◌≡◌, ℕ, Bool, true, false, cond, T, ◌&&◌, ◌||◌, List, [], ◌∷◌, ◌++◌, map, drop, length, Option, Some, None, option_map, option_and_then, is_some, refl, sym, ap, subst, ◌∙◌}
 use Rattle.std.specs.List.{list_any}
+use Rattle.std.specs.Option.{option_map_or}
 use Rattle.std.specs.Ordering.{eq_by_cmp, is_lt}
 use Rattle.std.specs.FinMap.{FinMap, get, keys, values, len, entries, entries_sorted, same_map, contains_key-keys, insert, remove, empty, get-insert, get-remove, get-empty, from_sorted, entries-from_sorted, get-from_sorted, get-entries, len-entries}
 use Rattle.std.specs.FinMap.Entries.{is_sorted, below_all, find}
@@ -10,9 +11,9 @@ use Rattle.disco_instance.specs.Row.{Row}
 use Rattle.disco_values.specs.declared.key.Key.{Key}
 use Rattle.disco_history.specs.Change.{Entry, key_of, last}
 use Rattle.disco_instance.specs.Mention.{Mention}
-use Rattle.disco_history.specs.Mentions.{delta, known, overlaid_by, overlay}
+use Rattle.disco_history.specs.Mentions.{delta, known, overlay}
 use Rattle.disco_history.specs.Query.{Selector, asks_for, restrict}
-use Rattle.disco_history.specs.Registry.{put_of, registry_of, mentions_of}
+use Rattle.disco_history.specs.Registry.{kept_by, put_of, registry_of, mentions_of}
 use Rattle.disco_history.proofs.Keys.{keys_total, exact_keys, get-chosen}
 use Rattle.disco_history.proofs.Lasts.{last_absent, last_more}
 
@@ -118,6 +119,10 @@ any_both (k ∷ a) b q e = one (same_key q k) (list_any (same_key q) (a ++ b)) e
     one : (t u : Bool) → (t || u) ≡ false → (u ≡ false → (list_any (same_key q) a ≡ false) × (list_any (same_key q) b ≡ false)) → ((t || list_any (same_key q) a) ≡ false) × (list_any (same_key q) b ≡ false)
     one true u e ih = cc
     one false u e ih = ih e
+
+-- what an overlay leaves of what is held: what its change of the key puts, where it has one
+abbrev pub overlaid_by : Option Row → Option Entry → Option Row
+overlaid_by held change = option_map_or (λ e. kept_by e.1 e.0) change held
 
 pub get-overlay : (s : FinMap key_cmp Row) (ms : List Mention) (q : Key) → get (overlay s ms) q ≡ overlaid_by (get s q) (last (known ms) q)
 get-overlay s ms q = get-chosen _ q (keys s ++ map key_of (known ms)) (λ e.

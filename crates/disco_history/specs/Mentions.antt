@@ -1,5 +1,5 @@
 -- What changed in a registry, and what a client makes of it (Eureka's delta update).
-use Rattle.std.specs.Prelude.{ℕ, List, map, drop, ◌++◌, Option, Some, option_map}
+use Rattle.std.specs.Prelude.{ℕ, List, map, drop, ◌++◌, Some, option_map}
 use Rattle.std.specs.Option.{option_map_or}
 use Rattle.std.specs.List.{filter_map}
 use Rattle.std.specs.FinMap.{FinMap, get, keys}
@@ -26,9 +26,6 @@ copied ms = registry_of (map (λ m. (m.0, Added)) ms)
 abbrev pub known : List Mention → List Entry
 known ms = filter_map (λ m. option_map (λ action. (m.0, action)) m.1) ms
 
-abbrev pub overlaid_by : Option Row → Option Entry → Option Row
-overlaid_by held change = option_map_or (λ e. kept_by e.1 e.0) change held
-
 -- the overlay: of each key its last known mention, else the record that is there
 abbrev pub overlay : FinMap key_cmp Row → List Mention → FinMap key_cmp Row
-overlay s ms = let es = known ms in map_at (λ k. overlaid_by (get s k) (last es k)) (keys s ++ map key_of es)
+overlay s ms = let es = known ms in map_at (λ k. option_map_or (λ e. kept_by e.1 e.0) (last es k) (get s k)) (keys s ++ map key_of es)

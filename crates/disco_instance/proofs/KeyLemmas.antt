@@ -1,13 +1,15 @@
 -- A key that was read is one that a record may have.
 use Rattle.std.proofs.Common.{◌≡◌, ◌≢◌, ℕ, Bool, true, false, List, [], ◌∷◌, codes, length, ◌==◌, cond, Option, Some, None, IfSome, option_and_then, Ok, refl, ap, subst, arith}
-use Rattle.std.specs.Option.{option_or}
+use Rattle.std.specs.Option.{ok_or, option_or}
 use Rattle.std.proofs.lemmas.Bool.Decides.{nat_tests}
 use Rattle.std.proofs.lemmas.Str.Ascii.{uppercase-uppercase}
 use Rattle.serde_json.specs.Data.{Data}
 use Rattle.disco_values.specs.Text.{in_upper_case}
+use Rattle.disco_values.specs.declared.fault.Fault.TheVariants.{MissingField}
+use Rattle.disco_values.specs.declared.fault.Field.TheVariants.{InstanceId, App}
 use Rattle.disco_values.specs.declared.key.Key.{Key}
 use Rattle.disco_instance.specs.Members.{not_empty, text_at}
-use Rattle.disco_instance.specs.Instance.{id_at, app_at, key_by, key_at}
+use Rattle.disco_instance.specs.Instance.{id_at, app_at, if_ok, key_at}
 use Rattle.disco_instance.specs.Steps.{IsRecordKey}
 
 abbrev IsNotEmpty : Option (List ℕ) → Type 0
@@ -36,7 +38,9 @@ still_there : (s : List ℕ) → s ≢ [] → in_upper_case s ≢ []
 still_there [] p = p
 still_there (c ∷ cs) p = λ e. cc
 
-by_parts : (id app : Option (List ℕ)) (k : Key) → IsNotEmpty id → IsNotEmpty app → key_by id app ≡ Ok k → IsRecordKey k
+by_parts : (id app : Option (List ℕ)) (k : Key) → IsNotEmpty id → IsNotEmpty app
+    → if_ok (ok_or id (MissingField InstanceId)) (λ i. if_ok (ok_or app (MissingField App)) (λ a. Ok (record { app = in_upper_case a; id = i }))) ≡ Ok k
+    → IsRecordKey k
 by_parts None app k p q e = absurd (cc)
 by_parts (Some id) None k p q e = absurd (cc)
 by_parts (Some id) (Some app) k p q e =

@@ -1,6 +1,6 @@
 -- The member table: what a JSON tree says of an instance (Eureka's REST operations; ranges are this project's own rule).
-use Rattle.std.specs.Prelude.{ℕ, ◌≡◌, ◌≢◌, true, false, List, codes, Option, Some, None, Result, Ok, Err, option_and_then, unwrap_or}
-use Rattle.std.specs.Option.{option_or}
+use Rattle.std.specs.Prelude.{ℕ, ◌≡◌, ◌≢◌, true, false, List, codes, Option, Result, Ok, Err, option_and_then, unwrap_or}
+use Rattle.std.specs.Option.{ok_or, option_or}
 use Rattle.serde_json.specs.Data.{Data}
 use Rattle.disco_values.specs.Action.{action_named}
 use Rattle.disco_instance.specs.Members.{flag_at, inner_at, non_empty_at, not_empty, number_at, override_at, port_at, status_at, text_at, text_or_empty}
@@ -21,6 +21,11 @@ abbrev pub Gives : {X Y : Type 0} → (X → Y) → Result X Fault → Result Y 
 Gives view (Ok x) wanted = wanted ≡ Ok (view x)
 Gives view (Err e) wanted = e ≢ OutOfMemory → wanted ≡ Err e
 
+-- what f makes of an answer, where there is one
+abbrev pub if_ok : {A B : Type 0} → Result A Fault → (A → Result B Fault) → Result B Fault
+if_ok (Ok x) f = f x
+if_ok (Err e) f = Err e
+
 -- ---- the key
 
 -- the id, which is the host's name where none is given
@@ -31,14 +36,10 @@ id_at d = option_or (non_empty_at (codes "instanceId") d) (non_empty_at (codes "
 abbrev pub app_at : Option (List ℕ) → Data → Option (List ℕ)
 app_at within d = option_or (non_empty_at (codes "app") d) (option_and_then not_empty within)
 
-abbrev pub key_by : Option (List ℕ) → Option (List ℕ) → Result Key Fault
-key_by None app = Err (MissingField InstanceId)
-key_by (Some id) None = Err (MissingField App)
-key_by (Some id) (Some app) = Ok (record { app = in_upper_case app; id = id })
-
 -- the key, or the first of its parts that is missing
 abbrev pub key_at : Option (List ℕ) → Data → Result Key Fault
-key_at within d = key_by (id_at d) (app_at within d)
+key_at within d = if_ok (ok_or (id_at d) (MissingField InstanceId)) (λ id.
+    if_ok (ok_or (app_at within d) (MissingField App)) (λ app. Ok (record { app = in_upper_case app; id = id })))
 
 -- ---- the other members
 
@@ -81,11 +82,6 @@ row_at d k = record {
   vip_address = text_or_empty (codes "vipAddress") d;
   status = status_at (codes "status") Up d;
 }
-
--- what f makes of an answer, where there is one
-abbrev pub if_ok : {A B : Type 0} → Result A Fault → (A → Result B Fault) → Result B Fault
-if_ok (Ok x) f = f x
-if_ok (Err e) f = Err e
 
 -- what a tree says of an instance within an application of that name, or what is missing
 abbrev pub told_by : Option (List ℕ) → Data → Result Row Fault

@@ -19,13 +19,10 @@ as_whole (number n) = as_u64 n
 as_whole (string s) = digits_number s
 as_whole _ = None
 
-abbrev pub flag_named : List ℕ → Option Bool
-flag_named s = if bytes_eq s (codes "true") then Some true else (if bytes_eq s (codes "false") then Some false else None)
-
 -- a truth value, given as one or as its name
 abbrev pub as_flag : Data → Option Bool
 as_flag (boolean b) = Some b
-as_flag (string s) = flag_named s
+as_flag (string s) = if bytes_eq s (codes "true") then Some true else (if bytes_eq s (codes "false") then Some false else None)
 as_flag _ = None
 
 -- a text that is not empty

@@ -5,7 +5,8 @@ use Rattle.std.specs.List.{before_first, after_first, position_or_len}
 use Rattle.disco_values.specs.declared.fault.Fault.TheVariants.{BadEvent}
 use Rattle.disco_world.specs.declared.event.Event.{Event}
 use Rattle.std.specs.Option.{is_none}
-use Rattle.disco_lines.specs.Lines.{lines, is_feed, meanings, event_of, IsFirstBadLine}
+use Rattle.disco_lines.specs.Lines.{lines, meanings, event_of, IsFirstBadLine}
+use Rattle.disco_lines.specs.Steps.{is_feed}
 
 split_on : (t : Bool) → (t ≡ true) ⊎ (t ≡ false)
 split_on true = inl refl

@@ -5,8 +5,8 @@ use Rattle.std.specs.Option.{is_some}
 use Rattle.std.proofs.lemmas.Bool.{ltb-true, ltb-false}
 use Rattle.std.proofs.lemmas.List.{take_rest}
 use Rattle.std.proofs.lemmas.List.Splits.{slice_split_first, join_with_byte-slice_split}
-use Rattle.disco_lines.specs.Words.{words, joined, is_space}
-use Rattle.disco_lines.specs.Steps.{words_left}
+use Rattle.disco_lines.specs.Words.{words, joined}
+use Rattle.disco_lines.specs.Steps.{is_space, words_left}
 
 some_at : (b : Bool) (n at : ℕ) → Some at ≡ cond b (Some n) None → (b ≡ true) × (at ≡ n)
 some_at true n at e = (refl, cc)

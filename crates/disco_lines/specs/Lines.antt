@@ -1,5 +1,5 @@
 -- Lines, and the events that they mean (this project's own format).
-use Rattle.std.specs.Prelude.{ℕ, Bool, List, [], ◌∷◌, ◌+◌, ◌<◌, ◌≡◌, length, map, Option, Some, None, ◌==◌, if◌then◌else◌, option_and_then, option_map, codes}
+use Rattle.std.specs.Prelude.{ℕ, List, [], ◌∷◌, ◌+◌, ◌<◌, ◌≡◌, length, map, Option, Some, None, ◌==◌, if◌then◌else◌, option_and_then, option_map, codes}
 use Rattle.std.specs.List.{onto_first, position_or_len}
 use Rattle.std.specs.Option.{is_none}
 use Rattle.std.specs.Str.{bytes_eq}
@@ -25,27 +25,20 @@ abbrev pub alone : Step → List (List ℕ) → Option Step
 alone step [] = Some step
 alone step _ = None
 
--- `NOW APP ID STATUS`
-abbrev pub status_change : ℕ → List ℕ → List ℕ → List (List ℕ) → Option Step
-status_change now app id more = option_map (λ s. SetStatus now app id s) (only_text more)
-
 -- `NOW APP ID`, and a status where one is given
 abbrev pub override_removal : ℕ → List ℕ → List ℕ → List (List ℕ) → Option Step
 override_removal now app id [] = Some (DropStatus now app id None)
 override_removal now app id more = option_map (λ s. DropStatus now app id (Some s)) (only_text more)
 
--- `NOW APP ID`, and the query, which is the rest of the line as it stands
-abbrev pub metadata_change : ℕ → List ℕ → List ℕ → List (List ℕ) → Option Step
-metadata_change now app id query = Some (Metadata now app id (entries_of_query (joined query)))
-
--- what a keyword means behind which a moment, an app and an id stand, and then more words
+-- what a keyword means behind which a moment, an app and an id stand, and then more words: a status, or a query, which is the rest of the line as it
+-- stands
 abbrev pub step_at : List ℕ → ℕ → List ℕ → List ℕ → List (List ℕ) → Option Step
 step_at keyword now app id more =
     if bytes_eq keyword (codes "cancel") then alone (Cancel now app id) more
     else (if bytes_eq keyword (codes "renew") then alone (Renew now app id) more
-    else (if bytes_eq keyword (codes "status") then status_change now app id more
+    else (if bytes_eq keyword (codes "status") then option_map (λ s. SetStatus now app id s) (only_text more)
     else (if bytes_eq keyword (codes "unstatus") then override_removal now app id more
-    else (if bytes_eq keyword (codes "metadata") then metadata_change now app id more else None))))
+    else (if bytes_eq keyword (codes "metadata") then Some (Metadata now app id (entries_of_query (joined more))) else None))))
 
 -- `NOW APP ID` behind a keyword, and more words
 abbrev pub step_of_instance : List ℕ → List (List ℕ) → Option Step
@@ -53,60 +46,37 @@ step_of_instance keyword (now ∷ app ∷ id ∷ more) = option_and_then (λ n.
     option_and_then (λ a. option_and_then (λ i. step_at keyword n a i more) (decoded_text id)) (decoded_text app)) (moment_of_word now)
 step_of_instance keyword _ = None
 
--- `NOW`
-abbrev pub cleaning : List (List ℕ) → Option Step
-cleaning more = option_map (λ n. Clean n) (only_moment more)
-
--- `NOW`
-abbrev pub expiring : List (List ℕ) → Option Step
-expiring more = option_map (λ n. Expire n) (only_moment more)
-
 -- `CLIENT`
 abbrev pub only_client : List (List ℕ) → Option ℕ
 only_client more = option_and_then client_of_word (only more)
 
-abbrev pub showing : List (List ℕ) → Option Step
-showing more = option_map (λ c. Show c) (only_client more)
-
-abbrev pub certified_showing : List (List ℕ) → Option Step
-certified_showing more = option_map (λ c. ShowCertified c) (only_client more)
-
--- `RUN`
-abbrev pub restarting : List (List ℕ) → Option Step
-restarting more = option_map (λ r. Restart r) (only_moment more)
-
--- what a keyword and the words behind it mean, if it gives no client a document
+-- what a keyword and the words behind it mean, a moment, a client or a run among them, if it gives no client a document
 abbrev pub step_named : List ℕ → List (List ℕ) → Option Step
 step_named keyword more =
     if bytes_eq keyword (codes "register") then registration more
-    else (if bytes_eq keyword (codes "clean") then cleaning more
+    else (if bytes_eq keyword (codes "clean") then option_map (λ n. Clean n) (only_moment more)
     else (if bytes_eq keyword (codes "minute") then alone Minute more
-    else (if bytes_eq keyword (codes "expire") then expiring more
+    else (if bytes_eq keyword (codes "expire") then option_map (λ n. Expire n) (only_moment more)
     else (if bytes_eq keyword (codes "begin") then alone Begin more
     else (if bytes_eq keyword (codes "copy") then alone Copy more
     else (if bytes_eq keyword (codes "publish") then alone Publish more
     else (if bytes_eq keyword (codes "load") then option_map load_of (target more)
     else (if bytes_eq keyword (codes "look") then option_map look_for (target more)
-    else (if bytes_eq keyword (codes "show") then showing more
-    else (if bytes_eq keyword (codes "certshow") then certified_showing more
-    else (if bytes_eq keyword (codes "restart") then restarting more else step_of_instance keyword more)))))))))))
+    else (if bytes_eq keyword (codes "show") then option_map (λ c. Show c) (only_client more)
+    else (if bytes_eq keyword (codes "certshow") then option_map (λ c. ShowCertified c) (only_client more)
+    else (if bytes_eq keyword (codes "restart") then option_map (λ r. Restart r) (only_moment more) else step_of_instance keyword more)))))))))))
 
 -- `CLIENT EVENT`
 abbrev pub client_and_event : List (List ℕ) → Option (ℕ × ℕ)
 client_and_event (client ∷ more) = option_and_then (λ c. option_map (λ e. (c, e)) (only_moment more)) (client_of_word client)
 client_and_event [] = None
 
-abbrev pub taking : List (List ℕ) → Option Event
-taking more = option_map (λ given. event.Take given.0 given.1) (client_and_event more)
-
-abbrev pub certifying : List (List ℕ) → Option Event
-certifying more = option_map (λ given. event.Certify given.0 given.1) (client_and_event more)
-
 -- what a keyword and the words behind it mean
 abbrev pub event_named : List ℕ → List (List ℕ) → Option Event
 event_named keyword more =
-    if bytes_eq keyword (codes "take") then taking more
-    else (if bytes_eq keyword (codes "certified") then certifying more else option_map event.Step (step_named keyword more))
+    if bytes_eq keyword (codes "take") then option_map (λ given. event.Take given.0 given.1) (client_and_event more)
+    else (if bytes_eq keyword (codes "certified") then option_map (λ given. event.Certify given.0 given.1) (client_and_event more)
+    else option_map event.Step (step_named keyword more))
 
 -- what the words of a line mean
 abbrev pub event_of_words : List (List ℕ) → Option Event
@@ -117,14 +87,10 @@ event_of_words [] = None
 abbrev pub event_of : List ℕ → Option Event
 event_of line = event_of_words (words line)
 
--- the byte behind a line
-abbrev pub is_feed : ℕ → Bool
-is_feed b = b == 10
-
 -- the lines of an input: each ends at a line feed, which the last may lack
 abbrev pub lines : List ℕ → List (List ℕ)
 lines [] = []
-lines (b ∷ bs) = if is_feed b then [] ∷ lines bs else onto_first b (lines bs)
+lines (b ∷ bs) = if b == 10 then [] ∷ lines bs else onto_first b (lines bs)
 
 -- what each line means
 abbrev pub meanings : List ℕ → List (Option Event)

@@ -1,6 +1,19 @@
--- What is left of a line while it is read. Nothing here is to be believed.
-use Rattle.std.specs.Prelude.{ℕ, List, [], Option, Some, None}
+-- What is read of a line, and written of one, in steps. Nothing here is to be believed.
+use Rattle.std.specs.Prelude.{ℕ, Bool, List, [], ◌==◌, ◌++◌, codes, decimal, Option, Some, None}
+use Rattle.disco_cache.specs.declared.payload.Payload.{Payload}
 use Rattle.disco_lines.specs.Words.{words}
+
+-- the byte between two words
+abbrev pub is_space : ℕ → Bool
+is_space b = b == 32
+
+-- the byte behind a line
+abbrev pub is_feed : ℕ → Bool
+is_feed b = b == 10
+
+-- `doc BASE VERSION `
+abbrev pub document_front : Payload → List ℕ
+document_front p = codes "doc " ++ decimal p.base ++ codes " " ++ decimal p.version ++ codes " "
 
 -- the words that are still to be read
 abbrev pub words_left : Option (List ℕ) → List (List ℕ)

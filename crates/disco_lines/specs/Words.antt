@@ -1,16 +1,12 @@
 -- Words of a line, with one space between them.
-use Rattle.std.specs.Prelude.{ℕ, Bool, List, [], ◌∷◌, Option, Some, None, ◌==◌, if◌then◌else◌, option_and_then, nat_lt}
+use Rattle.std.specs.Prelude.{ℕ, List, [], ◌∷◌, Option, Some, None, ◌==◌, if◌then◌else◌, option_and_then, nat_lt}
 use Rattle.std.specs.List.{join_with_byte, slice_split}
 use Rattle.disco_operations.specs.Decoding.{decoded_text}
 use Rattle.disco_digits.specs.Digits.{digits_number}
 
--- the byte between two words
-abbrev pub is_space : ℕ → Bool
-is_space b = b == 32
-
 -- the words of a line: what stands between its spaces, and before the first and behind the last
 abbrev pub words : List ℕ → List (List ℕ)
-words line = slice_split is_space line
+words line = slice_split (λ b. b == 32) line
 
 -- words as they stand in their line
 abbrev pub joined : List (List ℕ) → List ℕ

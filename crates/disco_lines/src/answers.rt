@@ -1,9 +1,10 @@
 //! Answer lines.
-ghost use Rattle.std.specs.Prelude.{◌≡◌, ◌⊎◌, ◌++◌, [], IfErr, OnErr, OnOk};
+ghost use Rattle.std.specs.Prelude.{◌≡◌, ◌⊎◌, ◌++◌, [], IfErr, OnErr, OnOk, codes, if◌then◌else◌};
 ghost use Rattle.disco_values.specs.declared.fault.Fault.TheVariants.{OutOfMemory, WriteFailed};
 ghost use Rattle.std.specs.Io.KnownBytes.{Appends, append_known};
 ghost use Rattle.disco_reader.specs.Causes.{Cause, Raises};
-ghost use Rattle.disco_lines.specs.Answers.{answer_line, answer_lines, copy_or_keep, document_front, document_line, summary_text, refusal_line, yes_or_no};
+ghost use Rattle.disco_lines.specs.Answers.{answer_line, answer_lines, document_line, summary_text, refusal_line};
+ghost use Rattle.disco_lines.specs.Steps.{document_front};
 ghost use Rattle.std.specs.List.{flat_map};
 ghost use Rattle.disco_world.specs.declared.event.Reply.TheVariants as reply;
 ghost use Rattle.disco_world.specs.declared.event.Reply.TheVariants.{Taken, Certified, Held};
@@ -49,7 +50,7 @@ fn write_refusal<W: Write>(fault: &Fault, out: &mut W) -> io::Result<()>
 }
 
 fn yes_or_no(yes: bool) -> &'static str
-    ensures { result.now ≡ yes_or_no yes }
+    ensures { result.now ≡ (if yes then codes "yes" else codes "no") }
 {
     if yes { "yes" } else { "no" }
 }
@@ -65,7 +66,7 @@ fn write_taken<W: Write>(equal: bool, version: Option<u64>, out: &mut W) -> io::
 }
 
 fn copy_or_keep(taken: bool) -> &'static str
-    ensures { result.now ≡ copy_or_keep taken }
+    ensures { result.now ≡ (if taken then codes "copy" else codes "keep") }
 {
     if taken { "copy" } else { "keep" }
 }

@@ -1,9 +1,12 @@
 //! The event that a line means. `None` stands for a line that can't be read.
-ghost use Rattle.std.specs.Prelude.{◌≡◌, IfOk, IfErr, Some};
+ghost use Rattle.std.specs.Prelude.{◌≡◌, IfOk, IfErr, Some, option_map};
 ghost use Rattle.disco_values.specs.declared.fault.Fault.TheVariants.{OutOfMemory};
-ghost use Rattle.disco_lines.specs.Lines.{alone, certifying, client_and_event, event_named, event_of, metadata_change, only_client, override_removal};
-ghost use Rattle.disco_lines.specs.Lines.{registration, step_at, step_named, step_of_instance, taking};
-ghost use Rattle.disco_lines.specs.Words.{client_of_word, moment_of_word, only_moment, only_text};
+ghost use Rattle.disco_lines.specs.Lines.{alone, client_and_event, event_named, event_of, only_client, override_removal, registration};
+ghost use Rattle.disco_lines.specs.Lines.{step_at, step_named, step_of_instance};
+ghost use Rattle.disco_lines.specs.Words.{client_of_word, joined, moment_of_word, only_moment, only_text};
+ghost use Rattle.disco_operations.specs.Query.{entries_of_query};
+ghost use Rattle.disco_world.specs.declared.event.Event.TheVariants.{Certify, Take};
+ghost use Rattle.disco_world.specs.declared.event.Step.TheVariants.{Metadata};
 
 use crate::load::{load_of, look_for, target_of};
 use crate::words::Words;
@@ -242,7 +245,7 @@ fn metadata_of(
     id: Text,
     words: Words,
 ) -> Result<Option<Step>, Fault>
-    ensures value { IfOk result (λ found. found ≡ metadata_change now app id words.entry) }
+    ensures value { IfOk result (λ found. found ≡ Some (Metadata now app id (entries_of_query (joined words.entry)))) }
     ensures memory { IfErr result (λ e. e ≡ OutOfMemory) }
 {
     let entries = entries_of_query(alloc, words.rest())?;
@@ -283,7 +286,7 @@ fn client_and_event(alloc: Global, words: Words) -> Result<Option<(u32, u64)>, F
 }
 
 fn take_of(alloc: Global, words: Words) -> Result<Option<Event>, Fault>
-    ensures value { IfOk result (λ found. found ≡ taking words.entry) }
+    ensures value { IfOk result (λ found. found ≡ option_map (λ given. Take given.0 given.1) (client_and_event words.entry)) }
     ensures memory { IfErr result (λ e. e ≡ OutOfMemory) }
 {
     match client_and_event(alloc, words)? {
@@ -293,7 +296,7 @@ fn take_of(alloc: Global, words: Words) -> Result<Option<Event>, Fault>
 }
 
 fn certify_of(alloc: Global, words: Words) -> Result<Option<Event>, Fault>
-    ensures value { IfOk result (λ found. found ≡ certifying words.entry) }
+    ensures value { IfOk result (λ found. found ≡ option_map (λ given. Certify given.0 given.1) (client_and_event words.entry)) }
     ensures memory { IfErr result (λ e. e ≡ OutOfMemory) }
 {
     match client_and_event(alloc, words)? {

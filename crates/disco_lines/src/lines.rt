@@ -3,7 +3,8 @@ ghost use Rattle.std.specs.Prelude.{◌≡◌, ◌⊎◌, IfOk, IfErr, OnOk, Som
 ghost use Rattle.std.specs.Io.KnownBytes.{IsAtEnd};
 ghost use Rattle.std.specs.List.{after_first, before_first, position};
 ghost use Rattle.disco_values.specs.declared.fault.Fault.TheVariants.{OutOfMemory, ReadFailed};
-ghost use Rattle.disco_lines.specs.Lines.{IsFirstBadLine, is_feed, meanings};
+ghost use Rattle.disco_lines.specs.Lines.{IsFirstBadLine, meanings};
+ghost use Rattle.disco_lines.specs.Steps.{is_feed};
 ghost use Rattle.disco_lines.specs.Input.{AreRead, NamesBadLine};
 ghost use Rattle.disco_reader.specs.Causes.{Cause};
 

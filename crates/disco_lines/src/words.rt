@@ -1,8 +1,8 @@
 //! Words of a line.
 ghost use Rattle.std.specs.Prelude.{◌≡◌, ◌∷◌, [], ℕ, List, MatchBool, MatchOption, option_map};
 ghost use Rattle.std.specs.List.{position};
-ghost use Rattle.disco_lines.specs.Steps.{words_left};
-ghost use Rattle.disco_lines.specs.Words.{is_space, joined, only, words};
+ghost use Rattle.disco_lines.specs.Steps.{is_space, words_left};
+ghost use Rattle.disco_lines.specs.Words.{joined, only, words};
 
 use std::marker::Model;
 

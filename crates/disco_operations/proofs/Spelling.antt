@@ -1,11 +1,15 @@
 -- What a word spells, by whether its decoded bytes are UTF-8, and that one without an escape spells its own bytes.
-use Rattle.std.proofs.Common.{◌≡◌, ℕ, Bool, true, false, List, [], ◌∷◌, Some, None, if◌then◌else◌, ◌&&◌, ◌||◌, nat_eq, refl, sym, ◌∙◌}
+use Rattle.std.proofs.Common.{◌≡◌, ℕ, Bool, true, false, List, [], ◌∷◌, Option, Some, None, if◌then◌else◌, ◌&&◌, ◌||◌, nat_eq, refl, sym, ◌∙◌}
 use Rattle.std.proofs.lemmas.Bool.{true≢false}
 use Rattle.std.specs.List.{list_any}
 use Rattle.std.specs.Str.{IsUtf8, is_utf8}
 use Rattle.std.proofs.lemmas.Str.{IsUtf8-from_is_utf8, is_utf8-from_IsUtf8}
 use Rattle.percent_encoding.specs.Percent.{percent_decode}
-use Rattle.disco_operations.specs.Decoding.{decoded_text, text_of_bytes}
+use Rattle.disco_operations.specs.Decoding.{decoded_text}
+
+-- the text that some bytes are, if they are UTF-8
+abbrev text_of_bytes : List ℕ → Option (List ℕ)
+text_of_bytes bytes = if is_utf8 bytes then Some bytes else None
 
 if_true : (b : Bool) (t : List ℕ) → b ≡ true → Some t ≡ (if b then Some t else None)
 if_true b t e = rw e refl

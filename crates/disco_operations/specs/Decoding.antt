@@ -3,10 +3,6 @@ use Rattle.std.specs.Prelude.{ℕ, List, Option, Some, None, if◌then◌else◌
 use Rattle.std.specs.Str.{is_utf8}
 use Rattle.percent_encoding.specs.Percent.{percent_decode}
 
--- the text that some bytes are, if they are UTF-8
-abbrev pub text_of_bytes : List ℕ → Option (List ℕ)
-text_of_bytes bytes = if is_utf8 bytes then Some bytes else None
-
 -- the text that an encoded name spells: an escape stands for its byte, and bytes that are not UTF-8 spell none
 abbrev pub decoded_text : List ℕ → Option (List ℕ)
-decoded_text encoded = text_of_bytes (percent_decode encoded)
+decoded_text encoded = let bytes = percent_decode encoded in if is_utf8 bytes then Some bytes else None

@@ -1,8 +1,9 @@
 //! Names that are percent-encoded.
-ghost use Rattle.std.specs.Prelude.{◌≡◌, IfOk, IfErr, option_map};
+ghost use Rattle.std.specs.Prelude.{◌≡◌, if◌then◌else◌, IfOk, IfErr, None, Some, option_map};
 ghost use Rattle.std.specs.Cow.{cow_str_bytes};
+ghost use Rattle.std.specs.Str.{is_utf8};
 ghost use Rattle.disco_values.specs.declared.fault.Fault.TheVariants.{OutOfMemory};
-ghost use Rattle.disco_operations.specs.Decoding.{decoded_text, text_of_bytes};
+ghost use Rattle.disco_operations.specs.Decoding.{decoded_text};
 
 use disco_values::{Fault, Text};
 use percent_encoding::{DecodeError, percent_decode};
@@ -12,7 +13,7 @@ use std::str;
 
 /// The text that some bytes are, where they are UTF-8.
 fn plain<'a>(bytes: &'a [u8]) -> Option<CowStr<'a>>
-    ensures { option_map cow_str_bytes result ≡ text_of_bytes bytes.entry.now }
+    ensures { option_map cow_str_bytes result ≡ (if is_utf8 bytes.entry.now then Some bytes.entry.now else None) }
 {
     match str::from_utf8(bytes) {
         Ok(text) => Some(CowStr::Borrowed(text)),

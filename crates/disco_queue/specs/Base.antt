@@ -8,13 +8,9 @@ use Rattle.disco_queue.specs.Timed.{Timed}
 abbrev pub base_after_change : ℕ → ℕ → ℕ → ℕ
 base_after_change most base length = max base (length - most)
 
--- how many changes come before the first whose moment is not below the bound
-abbrev pub first_before : ℕ → List Timed → ℕ
-first_before bound = prefix_len (λ t. nat_lt t.1 bound)
-
 -- how many leave at the front: those whose moment is below now - retention, up to the first that stays
 abbrev pub leaving : ℕ → ℕ → List Timed → ℕ
-leaving now retention kept = if nat_lt now retention then 0 else first_before (now - retention) kept
+leaving now retention kept = if nat_lt now retention then 0 else prefix_len (λ t. nat_lt t.1 (now - retention)) kept
 
 -- the base after a cleaning
 abbrev pub base_after_cleaning : ℕ → ℕ → ℕ → List Timed → ℕ

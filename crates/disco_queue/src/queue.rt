@@ -1,14 +1,14 @@
 //! The recently changed queue.
 ghost use Rattle.std.specs.Prelude.{◌≡◌, ◌+◌, ◌-◌, ◌^◌, ◌<◌, ◌≤◌, List, [], ◌∷◌, ◌++◌, IfErr, IfOk, OnErr, OnOk, drop, length, map, true, nat_le, nat_lt};
 ghost use Rattle.std.specs.FinMap.{values};
-ghost use Rattle.std.specs.List.{All};
+ghost use Rattle.std.specs.List.{All, prefix_len};
 ghost use Rattle.std.specs.VecDeque.{deque_capacity, deque_len};
 ghost use Rattle.disco_values.specs.declared.fault.Fault.TheVariants.{OutOfMemory};
 ghost use Rattle.disco_history.specs.Change.{Entry, is_proper, key_of, change_view};
 ghost use Rattle.disco_history.specs.Mentions.{delta};
 ghost use Rattle.disco_queue.specs.Numbers.{AreNumbered, LeavesNone};
 ghost use Rattle.disco_queue.specs.Seen.{change_of};
-ghost use Rattle.disco_queue.specs.Base.{base_after_change, base_after_cleaning, first_before, leaving};
+ghost use Rattle.disco_queue.specs.Base.{base_after_change, base_after_cleaning, leaving};
 ghost use Rattle.disco_queue.specs.Queue.{AddsNoneEmpty, AreFilled, HasNumberPlace, HasRoom, IsSameQueue, KeepsHistory, OpensPlace, newest, version};
 ghost use Rattle.disco_queue.specs.Timed.{Timed, changes};
 
@@ -228,7 +228,7 @@ impl ChangedQueue {
 
     /// Whether there is an oldest change, and its moment is below the bound.
     fn oldest_is_before(&self, bound: u64) -> bool
-        ensures before { result ≡ nat_lt 0 (first_before bound self.now.kept) }
+        ensures before { result ≡ nat_lt 0 (prefix_len (λ t. nat_lt t.1 bound) self.now.kept) }
         ensures fits { version self.now < 2 ^ 64 }
     {
         match self.kept.front() {
@@ -252,7 +252,7 @@ impl ChangedQueue {
     fn drop_before(&mut self, bound: u64) -> usize
         ensures max { self.new.max ≡ self.old.max }
         ensures base { self.new.base ≡ self.old.base + result }
-        ensures dropped { result ≡ first_before bound self.old.kept }
+        ensures dropped { result ≡ prefix_len (λ t. nat_lt t.1 bound) self.old.kept }
         ensures kept { self.new.kept ≡ drop result self.old.kept }
         ensures room { self.new.room ≡ self.old.room + result }
         ensures empty { AddsNoneEmpty self.old self.new }

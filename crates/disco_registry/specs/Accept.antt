@@ -8,7 +8,6 @@ use Rattle.disco_instance.specs.Moments.{cancelled_at, modified_at}
 use Rattle.disco_instance.specs.Row.{Row}
 use Rattle.disco_values.specs.Status.{is_same, status_named}
 use Rattle.disco_values.specs.declared.key.Key.{Key}
-use Rattle.disco_values.specs.declared.status.Status.{Status}
 use Rattle.disco_values.specs.declared.status.Status.TheVariants.{Unknown}
 use Rattle.disco_values.specs.declared.action.Action.TheVariants.{Added, Modified, Deleted}
 use Rattle.disco_values.specs.declared.fault.Fault.{Fault}
@@ -26,9 +25,6 @@ pub record Limits : Type 0 where
   pub instances : ℕ
 
 -- the status that an instance gets whose override is dropped: the one that is named, else Unknown
-abbrev pub status_given : Option (List ℕ) → Option Status
-status_given text = option_map_or status_named text (Some Unknown)
-
 -- the change that is asked for or none, or the first cause against it, by the record of each key and the number of records: a new key needs a place; an
 -- instance of unknown status has no lease to renew; a status is set with its override, and the override is dropped with it; what has more metadata is
 -- registered again
@@ -39,8 +35,8 @@ change_asked limits held count (cancel k) now = if_ok (ok_or (held k) NotFound) 
 change_asked limits held count (renew k) now = if_ok (ok_or (held k) NotFound) (λ r. if is_same r.status Unknown then Err NotFound else Ok None)
 change_asked limits held count (set_status k text) now = if_ok (ok_or (status_named text) BadStatus) (λ s. if_ok (ok_or (held k) NotFound) (λ r.
     if is_same r.status s then Ok None else Ok (Some (modified_at r s s now, Modified))))
-change_asked limits held count (drop_status k text) now = if_ok (ok_or (status_given text) BadStatus) (λ s. if_ok (ok_or (held k) NotFound) (λ r.
-    if is_same r.overridden_status Unknown then Ok None else Ok (Some (modified_at r s Unknown now, Modified))))
+change_asked limits held count (drop_status k text) now = if_ok (ok_or (option_map_or status_named text (Some Unknown)) BadStatus) (λ s.
+    if_ok (ok_or (held k) NotFound) (λ r. if is_same r.overridden_status Unknown then Ok None else Ok (Some (modified_at r s Unknown now, Modified))))
 change_asked limits held count (add_metadata k entries) now = if_ok (ok_or (held k) NotFound) (λ r.
     Ok (Some (settle (Some r) (record r { metadata = with_entries r.metadata entries }) now, Added)))
 

@@ -24,21 +24,15 @@ override_of held own = option_map_or (λ h. known_or h.overridden_status own) he
 abbrev pub is_open : Status → Bool
 is_open status = is_same status Up || is_same status OutOfService
 
-abbrev pub held_or : Option Row → Status → Status
-held_or held own = option_map_or (λ h. if is_open h.status then h.status else own) held own
-
 -- the status, by the order of Eureka's rules for overrides: the first that applies of the registrant's, where it is not open, the override, the held
 -- one, where it is open, and the registrant's
 abbrev pub settled_status : Option Row → Status → Status → Status
-settled_status held overridden own = if is_open own then known_or overridden (held_or held own) else own
-
--- since when the held record says that the instance is up, 0 where it doesn't
-abbrev pub held_up : Option Row → ℕ
-held_up held = option_map_or (λ h. h.lease.service_up) held 0
+settled_status held overridden own =
+    if is_open own then known_or overridden (option_map_or (λ h. if is_open h.status then h.status else own) held own) else own
 
 -- the record that a registration at a moment puts
 abbrev pub settle : Option Row → Row → ℕ → Row
 settle held posted now =
     let r = registrant held posted in
     let overridden = override_of held r.overridden_status in
-    put_at r (settled_status held overridden r.status) overridden now (held_up held) now
+    put_at r (settled_status held overridden r.status) overridden now (option_map_or (λ h. h.lease.service_up) held 0) now

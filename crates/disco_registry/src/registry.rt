@@ -3,15 +3,18 @@ ghost use Rattle.std.specs.Prelude.{◌≡◌, ◌<◌, ◌^◌, ◌&&◌, not, 
 ghost use Rattle.std.specs.Prelude.{filter, option_map, true};
 ghost use Rattle.std.specs.FinMap.{get, len, values};
 ghost use Rattle.std.specs.List.{filter_map, find};
+ghost use Rattle.std.specs.Option.{option_map_or};
 ghost use Rattle.disco_instance.specs.Instance.{Gives};
 ghost use Rattle.disco_instance.specs.Moments.{modified_at};
 ghost use Rattle.disco_instance.specs.Row.{row};
 ghost use Rattle.disco_values.specs.declared.action.Action.TheVariants.{Added, Modified, Deleted};
+ghost use Rattle.disco_values.specs.Status.{status_named};
 ghost use Rattle.disco_values.specs.declared.fault.Fault.TheVariants.{OutOfMemory};
+ghost use Rattle.disco_values.specs.declared.status.Status.TheVariants.{Unknown};
 ghost use Rattle.disco_history.specs.Change.{Entry, is_proper, change_view};
 ghost use Rattle.disco_history.specs.Query.{by_id};
 ghost use Rattle.disco_history.specs.Registry.{put_of, registry_of};
-ghost use Rattle.disco_registry.specs.Accept.{MayRefuse, accept_after, accepts, limits_of, status_given};
+ghost use Rattle.disco_registry.specs.Accept.{MayRefuse, accept_after, accepts, limits_of};
 ghost use Rattle.disco_history.specs.Apps.{is_of_app, is_of_id};
 ghost use Rattle.disco_registry.specs.Commit.{IsPrepared, IsReady, Takes, changes_properly, done_by, appended, outcome};
 ghost use Rattle.disco_history.specs.Held.{entry_of, record_at, seen_record};
@@ -148,7 +151,7 @@ fn modified_ready(
 }
 
 fn status_given(text: &Option<Text>) -> Option<Status>
-    ensures { result ≡ status_given text.now }
+    ensures { result ≡ option_map_or status_named text.now (Some Unknown) }
 {
     match text {
         None => Some(Status::Unknown),

@@ -1,9 +1,10 @@
 //! What a registration makes of the posted and of the held record.
-ghost use Rattle.std.specs.Prelude.{◌≡◌, IfOk, IfErr};
+ghost use Rattle.std.specs.Prelude.{◌≡◌, if◌then◌else◌, IfOk, IfErr};
+ghost use Rattle.std.specs.Option.{option_map_or};
 ghost use Rattle.disco_instance.specs.Row.{row};
 ghost use Rattle.disco_values.specs.declared.fault.Fault.TheVariants.{OutOfMemory};
 ghost use Rattle.disco_history.specs.Held.{seen_record};
-ghost use Rattle.disco_registry.specs.Settle.{held_or, held_up, is_open, known_or, override_of, registrant, settle, settled_status};
+ghost use Rattle.disco_registry.specs.Settle.{is_open, known_or, override_of, registrant, settle, settled_status};
 
 use disco_instance::Record;
 use disco_values::{Fault, Status};
@@ -45,7 +46,7 @@ fn overridden_as(held: Option<&Record>, own: Status) -> Status
 }
 
 fn held_status_or(held: Option<&Record>, own: Status) -> Status
-    ensures { result ≡ held_or (seen_record held.entry) own }
+    ensures { result ≡ option_map_or (λ h. if is_open h.status then h.status else own) (seen_record held.entry) own }
 {
     match held {
         Some(held) if is_open_status(held.status) => held.status,
@@ -64,7 +65,7 @@ fn status_as(held: Option<&Record>, overridden: Status, own: Status) -> Status
 }
 
 fn up_since(held: Option<&Record>) -> u64
-    ensures { result ≡ held_up (seen_record held.entry) }
+    ensures { result ≡ option_map_or (λ h. h.lease.service_up) (seen_record held.entry) 0 }
 {
     match held {
         Some(held) => held.lease.service_up,

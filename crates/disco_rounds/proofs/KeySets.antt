@@ -11,7 +11,8 @@ use Rattle.disco_cache.specs.Docs.{Docs}
 use Rattle.disco_query.specs.Keys.{doc_cmp, same_doc}
 use Rattle.disco_query.specs.declared.key.DocKey.{DocKey}
 use Rattle.disco_query.proofs.Orders.{docs_total, exact_docs}
-use Rattle.disco_rounds.specs.Rounds.{KeySet, add_within, kept_keys, kept_with, round_keys}
+use Rattle.disco_rounds.specs.Rounds.{KeySet, kept_keys, round_keys}
+use Rattle.disco_rounds.specs.Stored.{add_within, kept_with}
 
 -- ---- what one copy more does at a key
 

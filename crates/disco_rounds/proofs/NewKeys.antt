@@ -11,8 +11,8 @@ use Rattle.std.specs.declared.cmp.Ordering.TheVariants.{Less, Equal, Greater}
 use Rattle.disco_query.specs.Keys.{doc_cmp, same_doc}
 use Rattle.disco_query.specs.declared.key.DocKey.{DocKey}
 use Rattle.disco_query.proofs.Orders.{docs_total, exact_docs}
-use Rattle.disco_rounds.specs.Rounds.{KeySet, kept_keys, kept_with}
-use Rattle.disco_rounds.specs.Stored.{AreNew, key_pair, key_pairs}
+use Rattle.disco_rounds.specs.Rounds.{KeySet, kept_keys}
+use Rattle.disco_rounds.specs.Stored.{AreNew, kept_with, key_pair, key_pairs}
 use Rattle.disco_rounds.specs.declared.round.CopiedKey.{CopiedKey}
 use Rattle.disco_rounds.proofs.KeySets.{kept_one}
 

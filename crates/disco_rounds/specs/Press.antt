@@ -91,14 +91,10 @@ step (change c) = []
 step (doc d) = Some (d.key, true) ∷ []
 step (gone k) = Some (k, false) ∷ []
 
--- the steps that lead to an open round, of which there are none where none is open
-abbrev pub steps_to : Option Round → List (Option (DocKey × Bool))
-steps_to round = option_map_or (λ r. None ∷ map Some r.done) round []
-
--- what was published and what was noted since are in step with the edition's keys and the open round
+-- what was published and what was noted since are in step with the edition's keys and the open round: its beginning and what was copied in it were noted
 pub record IsInStep (published pending : List Note) (edition : KeySet) (round : Option Round) : Type 0 where
   pub keys : (k : DocKey) → contains_key edition k ≡ contains_key (edition_of published) k
-  pub steps : flat_map step pending ≡ steps_to round
+  pub steps : flat_map step pending ≡ option_map_or (λ r. None ∷ map Some r.done) round []
   pub covers : IfSome round (λ r. (k : DocKey) → contains_key edition k ≡ true → list_any (same_doc k) (map (λ d. d.0) r.done ++ r.left) ≡ true)
 
 -- what was noted in a run is legal and has these changes, what was published may be seen by readers, and all is in step with the keys of an edition

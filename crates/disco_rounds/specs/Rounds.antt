@@ -15,21 +15,13 @@ pub record Round : Type 0 where
   pub done : List (DocKey × Bool)
   pub left : List DocKey
 
--- a key that had a document becomes one of the edition, and one that had none goes
-abbrev pub kept_with : KeySet → DocKey × Bool → KeySet
-kept_with ks copied = if copied.1 then insert ks copied.0 tt else remove ks copied.0
-
--- the keys of an edition of which these were copied
+-- the keys of an edition of which these were copied: one that had a document becomes one of it, and one that had none goes
 abbrev pub kept_keys : List (DocKey × Bool) → KeySet
-kept_keys done = fold kept_with empty done
-
--- a key more, while there are fewer than so many
-abbrev pub add_within : ℕ → KeySet → DocKey → KeySet
-add_within most ks k = if nat_lt (len ks) most then insert ks k tt else ks
+kept_keys done = fold (λ ks copied. if copied.1 then insert ks copied.0 tt else remove ks copied.0) empty done
 
 -- the keys of a round: those of the edition, then those of kept documents in their order until there are so many; all in their order
 abbrev pub round_keys : KeySet → Docs → List DocKey
-round_keys edition kept = keys (fold (add_within kept.max) edition (keys kept.docs))
+round_keys edition kept = keys (fold (λ ks k. if nat_lt (len ks) kept.max then insert ks k tt else ks) edition (keys kept.docs))
 
 -- the keys of the edition that readers see, and the open round, if there is one
 pub record Rounds : Type 0 where

@@ -1,12 +1,20 @@
 -- Rounds as they are stored. Nothing here is to be believed: no public contract rests on it.
-use Rattle.std.specs.Prelude.{◌≡◌, ℕ, Bool, false, List, [], ◌∷◌, map}
+use Rattle.std.specs.Prelude.{◌≡◌, ℕ, Bool, false, List, [], ◌∷◌, map, nat_lt, if◌then◌else◌}
 use Rattle.std.specs.Borrow.{Bor}
-use Rattle.std.specs.FinMap.{contains_key, insert}
+use Rattle.std.specs.FinMap.{contains_key, insert, len, remove}
 use Rattle.disco_history.specs.SortedBy.{AreSortedBy, IsAtBy, IsGapBy, map_by}
 use Rattle.disco_query.specs.Keys.{doc_cmp}
 use Rattle.disco_query.specs.declared.key.DocKey.{DocKey}
 use Rattle.disco_rounds.specs.Rounds.{KeySet}
 use Rattle.disco_rounds.specs.declared.round.CopiedKey.{CopiedKey}
+
+-- a key that had a document becomes one of the edition, and one that had none goes
+abbrev pub kept_with : KeySet → DocKey × Bool → KeySet
+kept_with ks copied = if copied.1 then insert ks copied.0 tt else remove ks copied.0
+
+-- a key more, while there are fewer than so many
+abbrev pub add_within : ℕ → KeySet → DocKey → KeySet
+add_within most ks k = if nat_lt (len ks) most then insert ks k tt else ks
 
 abbrev pub key_pair : CopiedKey → DocKey × Bool
 key_pair c = (c.key, c.kept)

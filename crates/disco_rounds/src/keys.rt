@@ -2,8 +2,8 @@
 ghost use Rattle.std.specs.Prelude.{◌≡◌, IfErr, IfOk, OnOk, fold, map};
 ghost use Rattle.std.specs.FinMap as finmap;
 ghost use Rattle.disco_values.specs.declared.fault.Fault.TheVariants.{OutOfMemory};
-ghost use Rattle.disco_rounds.specs.Rounds.{add_within, kept_keys, kept_with, round_keys};
-ghost use Rattle.disco_rounds.specs.Stored.{AreInOrder, IsKeyAt, IsKeyGap, key_pair, key_pairs, seen_keys};
+ghost use Rattle.disco_rounds.specs.Rounds.{kept_keys, round_keys};
+ghost use Rattle.disco_rounds.specs.Stored.{AreInOrder, IsKeyAt, IsKeyGap, add_within, kept_with, key_pair, key_pairs, seen_keys};
 
 use crate::round::CopiedKey;
 use disco_cache::DocCache;

@@ -23,8 +23,6 @@ struct Always {
 }
 
 impl Fetch for Always {
-    ghost use Rattle.std.specs.Prelude.{◌≡◌};
-
     ghost gives = { λ _ _ _ _. Unit {0} };
 
     ghost failed = { λ _. 0 };

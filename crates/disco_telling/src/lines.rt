@@ -1,12 +1,10 @@
 //! The lines in which a client's copy is told.
-ghost use Rattle.std.specs.Prelude.{◌≡◌, ◌++◌, ℕ, [], List, Ok, codes, IfOk, IfErr, OnOk, filter, if◌then◌else◌, map};
-ghost use Rattle.std.specs.FinMap.{values};
+ghost use Rattle.std.specs.Prelude.{◌≡◌, ◌++◌, [], Ok, codes, IfOk, IfErr, OnOk, if◌then◌else◌, map};
 ghost use Rattle.std.specs.Io.KnownBytes.{Appends};
 ghost use Rattle.std.specs.List.{flat_map};
-ghost use Rattle.std.specs.Str.{bytes_eq};
 ghost use Rattle.disco_values.specs.declared.fault.Fault.TheVariants.{OutOfMemory};
 ghost use Rattle.disco_instance.specs.Row.{row};
-ghost use Rattle.disco_telling.specs.Telling.{AreChanges, copy_line, fault_line, is_news, reached_at, unless_told, up_line, vip_line};
+ghost use Rattle.disco_telling.specs.Telling.{AreChanges, copy_line, fault_line, reached_at, unless_told, up_line, vip_line};
 
 use crate::changes::write_changes;
 use disco_client::Copy;

@@ -1,7 +1,6 @@
 //! What is done to a desk again and again, and how often.
 ghost use Rattle.std.specs.Prelude.{◌≡◌, None, Ok, Some};
 ghost use Rattle.disco_timers.specs.Tasks.{LetsRunOut, PublishesOn, Tends, next_go, period_of};
-ghost use Rattle.disco_timers.specs.declared.tasks.Task.TheVariants as task;
 
 use crate::publishing::{Step, publish_step};
 use disco_editions::Naming;

@@ -42,21 +42,15 @@ told_in app d = option_map (λ r. (r, action_at d) ∷ []) (result_ok (told_by a
 abbrev pub told_app : Data → Option (List Mention)
 told_app d = option_and_then (all_told (told_in (text_at (codes "name") d))) (listed_in (inner_at (codes "instance") d))
 
--- an application in an array
-abbrev pub told_item : Data → Option (List Mention)
-told_item d = option_and_then told_app (as_tree d)
-
 abbrev pub told_apps : Data → Option (List Mention)
-told_apps d = option_and_then (all_told told_item) (listed_in (inner_at (codes "application") d))
+told_apps d = option_and_then (all_told (λ a. option_and_then told_app (as_tree a))) (listed_in (inner_at (codes "application") d))
 
 abbrev pub meant : Shape → Option (List ℕ) → Option ℕ → List Mention → Meaning
 meant shape hash version ms = record { shape = shape; mentions = ms; hash = hash; version = version }
 
-abbrev pub many_meant : Data → Option Meaning
-many_meant d = option_map (meant Many (text_at (codes "apps__hashcode") d) (option_and_then as_whole (get (codes "versions__delta") d))) (told_apps d)
-
 -- by the first of the three members that is an object
 unfoldable pub meaning_of : Data → Option Meaning
-meaning_of d = option_map_or many_meant (object_at (codes "applications") d) (
+meaning_of d = option_map_or (λ a. option_map (meant Many (text_at (codes "apps__hashcode") a)
+    (option_and_then as_whole (get (codes "versions__delta") a))) (told_apps a)) (object_at (codes "applications") d) (
     option_map_or (λ a. option_map (meant App None None) (told_app a)) (object_at (codes "application") d) (
     option_and_then (λ i. option_map (meant One None None) (told_in None i)) (object_at (codes "instance") d)))

@@ -21,13 +21,10 @@ missing_in d =
     if not (is_some (non_empty_at (codes "app") d)) then Some App else (
     if not (is_some (non_empty_at (codes "name") (inner_at (codes "dataCenterInfo") d))) then Some DataCenterInfo else None))))
 
--- the record, where nothing is missing
-abbrev pub registered_by : Option Field → Data → Result Row Fault
-registered_by missing d = option_map_or (λ field. Err (MissingField field)) missing (told_by None d)
-
--- the record of a tree's member `instance`, an object
+-- the record of a tree's member `instance`, an object, where nothing is missing
 abbrev pub registration_in : Data → Result Row Fault
-registration_in d = if_ok (ok_or (object_at (codes "instance") d) BadJson) (λ i. registered_by (missing_in i) i)
+registration_in d = if_ok (ok_or (object_at (codes "instance") d) BadJson) (λ i.
+    option_map_or (λ field. Err (MissingField field)) (missing_in i) (told_by None i))
 
 -- the record of the bytes of a registration, or why there is none
 abbrev pub registration_of : List ℕ → Result Row Fault

@@ -1,15 +1,15 @@
 //! Reading a document.
 ghost use Rattle.std.specs.Prelude.{◌≡◌, codes, map, option_map, option_and_then, unwrap_or, IfOk, Err, None, Some};
 ghost use Rattle.std.specs.Option.{ok_or, option_copied};
-ghost use Rattle.disco_wire.specs.declared.wire.Shape.TheVariants.{App, One};
+ghost use Rattle.disco_wire.specs.declared.wire.Shape.TheVariants.{App, Many, One};
 ghost use Rattle.serde_json.specs.Data.{null};
 ghost use Rattle.serde_json.specs.Find.{get};
 ghost use Rattle.serde_json.specs.View.{view};
 ghost use Rattle.disco_instance.specs.Instance.{Gives};
 ghost use Rattle.disco_values.specs.declared.fault.Fault.TheVariants.{BadDocument};
 ghost use Rattle.disco_instance.specs.Members.{as_whole, text_at};
-ghost use Rattle.disco_wire.specs.Meaning.{all_told, listed_in, many_meant, meaning_of, meant, told_app, told_in, told_item};
-ghost use Rattle.disco_wire.specs.Steps.{told_on};
+ghost use Rattle.disco_wire.specs.Meaning.{all_told, listed_in, meaning_of, meant, told_app, told_apps, told_in};
+ghost use Rattle.disco_wire.specs.Steps.{told_item, told_on};
 ghost use Rattle.disco_wire.specs.Documents.{document_of};
 ghost use Rattle.disco_wire.specs.Wire.{wire_meaning, tell_all};
 
@@ -75,7 +75,8 @@ fn one_instance(alloc: Global, instance: &Value) -> Result<Wire, Fault>
 }
 
 fn many(alloc: Global, applications: &Value) -> Result<Wire, Fault>
-    ensures { Gives wire_meaning result (ok_or (many_meant (view applications.now)) BadDocument) }
+    ensures { Gives wire_meaning result (ok_or (option_map (meant Many (text_at (codes "apps__hashcode") (view applications.now))
+        (option_and_then as_whole (get (codes "versions__delta") (view applications.now)))) (told_apps (view applications.now))) BadDocument) }
 {
     let hash = text_of_member(alloc, applications, "apps__hashcode")?;
     let version = version_of(applications);

@@ -1,10 +1,12 @@
 //! Reading a registration.
-ghost use Rattle.std.specs.Prelude.{◌≡◌, codes, is_some};
+ghost use Rattle.std.specs.Prelude.{◌≡◌, Err, None, codes, is_some};
+ghost use Rattle.std.specs.Option.{option_map_or};
 ghost use Rattle.serde_json.specs.View.{view};
-ghost use Rattle.disco_instance.specs.Instance.{Gives};
+ghost use Rattle.disco_values.specs.declared.fault.Fault.TheVariants.{MissingField};
+ghost use Rattle.disco_instance.specs.Instance.{Gives, told_by};
 ghost use Rattle.disco_instance.specs.Members.{inner_at, non_empty_at};
 ghost use Rattle.disco_instance.specs.Row.{row};
-ghost use Rattle.disco_wire.specs.Registration.{missing_in, registered_by, registration_in, registration_of};
+ghost use Rattle.disco_wire.specs.Registration.{missing_in, registration_in, registration_of};
 
 use crate::tree::{object_of, tree_of};
 use disco_instance::{Record, non_empty_member};
@@ -36,7 +38,7 @@ fn registration_from_tree(alloc: Global, tree: Value) -> Result<Record, Fault>
 }
 
 fn registered(alloc: Global, instance: Value) -> Result<Record, Fault>
-    ensures { Gives row result (registered_by (missing_in (view instance)) (view instance)) }
+    ensures { Gives row result (option_map_or (λ field. Err (MissingField field)) (missing_in (view instance)) (told_by None (view instance))) }
 {
     match missing_member(&instance) {
         Some(field) => Err(Fault::MissingField(field)),

@@ -14,12 +14,15 @@ use Rattle.disco_cache.specs.declared.payload.Payload.{Payload}
 use Rattle.disco_client.specs.Tracks.{Histories, IsVersionIn, gives_way, known_at, reaches, same_form}
 use Rattle.disco_client.specs.declared.certified.CertifiedCopy.{CertifiedCopy}
 use Rattle.disco_client.proofs.Moves.{Moves, moves, rises}
-use Rattle.disco_world.specs.Certified.{IsGiven, given, given_by, takes_it}
+use Rattle.disco_world.specs.Certified.{IsGiven, given, rows_by, takes_it}
 use Rattle.disco_world.proofs.Known.{IsOf, delta_at, full_at, meaning_at, means_delta, means_full}
 
 -- a copy is exactly the version of its run's history at which it is known
 abbrev pub IsExact : Histories → CertifiedCopy → Type 0
 IsExact hs k = IsVersionIn (hs k.known.run) k.known k.copy
+
+abbrev given_by : Bool → Payload → Meaning → Option CertifiedCopy → Option CertifiedCopy
+given_by delta d m held = cond (takes_it delta d held) (Some (record { copy = rows_by delta m held; known = known_at d.key.form (cert_of d) })) held
 
 -- a certified client after it was given a document that means that, if it means something
 abbrev given_from : Payload → Result Meaning Fault → Option CertifiedCopy → Option CertifiedCopy

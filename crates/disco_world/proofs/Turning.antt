@@ -2,6 +2,7 @@
 use Rattle.std.proofs.Common.{◌≡◌, ℕ, suc, ◌+◌, ◌-◌, ◌<◌, ◌≤◌, Bool, true, false, cond, List, [], ◌∷◌, ◌++◌, length, map, fold, nat_lt, Option, Some, None, IfSome, option_map, slice_get, refl, sym, ap, subst, ◌∙◌, arith}
 use Rattle.std.proofs.lemmas.List.{length-append, length-map, take-append-drop}
 use Rattle.std.proofs.lemmas.Option.{same_Some}
+use Rattle.std.specs.Option.{option_map_or}
 use Rattle.std.specs.FinMap.{empty, get, insert, keys, len, len-entries, len-insert}
 use Rattle.disco_values.specs.declared.fault.Fault.{Fault}
 use Rattle.disco_values.specs.declared.fault.Fault.TheVariants.{KeysLeft}
@@ -14,8 +15,8 @@ use Rattle.disco_query.proofs.Orders.{docs_total}
 use Rattle.disco_core.specs.Past.{Past, history, nothing}
 use Rattle.disco_core.specs.State.{Rules}
 use Rattle.disco_hub.specs.Levels.{AreLevels}
-use Rattle.disco_rounds.specs.Press.{Edition, change, edition_of, steps_to}
-use Rattle.disco_rounds.specs.Rounds.{KeySet, Round, Rounds, StaysOpen, add_within, round_keys}
+use Rattle.disco_rounds.specs.Press.{Edition, change, edition_of}
+use Rattle.disco_rounds.specs.Rounds.{KeySet, Round, Rounds, StaysOpen, round_keys}
 use Rattle.disco_hub.specs.Kept.{IsCopiedAsKept}
 use Rattle.disco_hub.specs.State.{IsCopied, HubState, HubStandsFor, rules_of}
 use Rattle.disco_hub.specs.Transitions.{BeginsRound, EndsRound}
@@ -23,6 +24,7 @@ use Rattle.disco_rounds.specs.Press.{is_doc, key_of_copy}
 use Rattle.disco_rounds.specs.declared.copied.Copied.{Copied}
 use Rattle.disco_rounds.specs.declared.copied.Copied.TheVariants as copied
 use Rattle.disco_rounds.proofs.KeySets.{same_len}
+use Rattle.disco_rounds.specs.Stored.{add_within}
 use Rattle.disco_hub.proofs.Levels.{begun_levels, copied_is, copied_levels, ended_edition, ended_len, ended_levels, first_levels, plain_levels}
 use Rattle.disco_world.specs.Answers.{IsAnswer}
 use Rattle.disco_world.specs.Events.{Effect, World, begins, copies, publishes, looks, restarts, after, ran_out}
@@ -64,6 +66,10 @@ edition_fits edition kept = omega (arith, longer_by kept.max (keys kept.docs) ed
 
 history_on : (p q : Past) → Extends (history p) (history q) → history q ≡ history p ++ changes_since p q
 history_on p q ext = sym (take-append-drop (length (history p)) (history q)) ∙ ap (λ h. h ++ changes_since p q) ext.begins
+
+-- the steps that lead to an open round, of which there are none where none is open
+abbrev steps_to : Option Round → List (Option (DocKey × Bool))
+steps_to round = option_map_or (λ (r : Round). None ∷ map Some r.done) round []
 
 abbrev many_left : Option Round → Option ℕ
 many_left o = option_map (λ (r : Round). length r.left) o

@@ -23,12 +23,10 @@ takes_it delta d held = if delta then option_map_or (λ k. same_form k.known.for
 abbrev pub rows_by : Bool → Meaning → Option CertifiedCopy → FinMap key_cmp Row
 rows_by delta m held = if delta then option_map_or (λ k. overlay k.copy m.mentions) held empty else copied m.mentions
 
-abbrev pub given_by : Bool → Payload → Meaning → Option CertifiedCopy → Option CertifiedCopy
-given_by delta d m held = if takes_it delta d held then Some (record { copy = rows_by delta m held; known = known_at d.key.form (cert_of d) }) else held
-
 -- a certified client after it was given a document: what the document makes where it is taken, else what it was
 abbrev pub given : Payload → Option CertifiedCopy → Option CertifiedCopy
-given d held = option_map_or (λ m. given_by (is_delta d.key.query) d m held) (result_ok (document_of d.text)) held
+given d held = let delta = is_delta d.key.query in option_map_or (λ m. if takes_it delta d held
+    then Some (record { copy = rows_by delta m held; known = known_at d.key.form (cert_of d) }) else held) (result_ok (document_of d.text)) held
 
 -- what is told of a certified client that was given a document: whether it was taken, and the run and the version of the copy then
 pub record IsGiven (d : Payload) (held : Option CertifiedCopy) (taken : Bool) (run version : ℕ) : Type 0 where

@@ -1,6 +1,6 @@
 -- The members of an instance in the groups in which they are written. Nothing here need be believed.
 use Rattle.std.specs.Prelude.{ℕ, List, [], ◌∷◌, ◌++◌, map, codes, Option, Some, None}
-use Rattle.serde_json.specs.Data.{Data, string}
+use Rattle.serde_json.specs.Data.{Data, Members, string}
 use Rattle.disco_values.specs.Action.{action_name}
 use Rattle.disco_instance.specs.Row.{Row}
 use Rattle.disco_values.specs.Status.{status_name}
@@ -8,7 +8,7 @@ use Rattle.disco_instance.specs.declared.data_center.DataCenter.{DataCenter}
 use Rattle.disco_instance.specs.declared.lease.Lease.{Lease}
 use Rattle.disco_instance.specs.declared.port.Port.{Port}
 use Rattle.disco_values.specs.declared.action.Action.{Action}
-use Rattle.disco_documents.specs.Trees.{truth, whole, digits_text, port_tree, data_center_tree, lease_tree, metadata_tree}
+use Rattle.disco_documents.specs.Trees.{in_order, truth, whole, digits_text, port_tree, data_center_tree, lease_tree, metadata_tree}
 
 abbrev pub Fields : Type 0
 Fields = List (List ℕ × Data)
@@ -27,6 +27,9 @@ lease_fields l = (codes "durationInSecs", whole l.duration_secs) ∷ (codes "evi
 
 abbrev pub entry_fields : List (List ℕ × List ℕ) → Fields
 entry_fields es = map (λ e. (e.0, string e.1)) es
+
+abbrev pub metadata_members : List (List ℕ × List ℕ) → Members
+metadata_members es = in_order (entry_fields es)
 
 -- ---- groups of both forms
 

@@ -1,6 +1,5 @@
 use Rattle.std.proofs.Common.{◌≡◌, take, map, fold}
-use Rattle.disco_rounds.specs.Rounds.{add_within}
-use Rattle.disco_rounds.specs.Stored.{AreInOrder, seen_keys}
+use Rattle.disco_rounds.specs.Stored.{AreInOrder, add_within, seen_keys}
 use Rattle.disco_rounds.proofs.keys.fill.Given as goal
 
 abbrev pub invariant-loop-key : goal.invariant-loop-key

@@ -2,8 +2,8 @@ use Rattle.std.proofs.Common.{fold, map, sym, ap, ◌∙◌}
 use Rattle.std.specs.FinMap as finmap
 use Rattle.disco_query.proofs.Orders.{docs_total, exact_docs}
 use Rattle.disco_history.proofs.SortedBy.{keys_of}
-use Rattle.disco_rounds.specs.Rounds.{KeySet, add_within, kept_keys}
-use Rattle.disco_rounds.specs.Stored.{stored_key, mark, key_pairs}
+use Rattle.disco_rounds.specs.Rounds.{KeySet, kept_keys}
+use Rattle.disco_rounds.specs.Stored.{add_within, key_pairs, mark, stored_key}
 use Rattle.disco_rounds.proofs.keys.round_keys.Goals as goal
 
 pub returns-clause-keys : goal.returns-clause-keys

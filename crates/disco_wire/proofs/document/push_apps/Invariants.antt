@@ -1,7 +1,7 @@
 use Rattle.std.proofs.Common.{◌≡◌, map, drop}
 use Rattle.serde_json.specs.View.{view}
-use Rattle.disco_wire.specs.Meaning.{all_told, told_item}
-use Rattle.disco_wire.specs.Steps.{told_on}
+use Rattle.disco_wire.specs.Meaning.{all_told}
+use Rattle.disco_wire.specs.Steps.{told_item, told_on}
 use Rattle.disco_wire.specs.Wire.{tell_all}
 use Rattle.disco_wire.proofs.document.push_apps.Given as goal
 

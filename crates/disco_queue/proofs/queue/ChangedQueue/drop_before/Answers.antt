@@ -1,8 +1,7 @@
 use Rattle.std.proofs.Common.{◌<◌, drop, sym, ap, ◌∙◌, arith}
 use borrow.Author.Tests.{ltb-true}
 use Rattle.std.proofs.lemmas.List.{drop-drop}
-use Rattle.disco_queue.specs.Base.{first_before}
-use Rattle.disco_queue.proofs.Fronts.{first_before-le, first_gone}
+use Rattle.disco_queue.proofs.Fronts.{first_before, first_before-le, first_gone}
 use Rattle.disco_queue.proofs.queue.ChangedQueue.drop_before.Goals as goal
 
 pub overflow_add-dropped : goal.overflow_add-dropped

@@ -1,5 +1,5 @@
 use Rattle.std.proofs.Common.{◌≡◌, ◌+◌, drop, length}
-use Rattle.disco_queue.specs.Base.{first_before}
+use Rattle.disco_queue.proofs.Fronts.{first_before}
 use Rattle.disco_queue.specs.Queue.{AddsNoneEmpty}
 use Rattle.disco_queue.proofs.queue.ChangedQueue.drop_before.Given as goal
 
