@@ -1,3 +1,4 @@
+mod Finding
 mod KeyLemmas
 pub mod Kept
 pub mod Rows

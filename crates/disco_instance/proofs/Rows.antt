@@ -1,7 +1,6 @@
 -- The member table, member by member and as one row.
-use Rattle.std.proofs.Common.{◌≡◌, List, [], ℕ, IfOk, Option, option_and_then, unwrap_or, Result, Ok, Err, sym, ap, ◌∙◌}
-use Rattle.serde_json.specs.Data.{Data, Members}
-use Rattle.serde_json.specs.Find.{as_str, get, get_member}
+use Rattle.std.proofs.Common.{◌≡◌, List, ℕ, IfOk, Option, Result, Ok, Err, sym, ap, ◌∙◌}
+use Rattle.serde_json.specs.Data.{Data}
 use Rattle.disco_values.specs.declared.fault.Fault.{Fault}
 use Rattle.disco_instance.specs.declared.parts.Addresses.{Addresses}
 use Rattle.disco_instance.specs.declared.parts.Pages.{Pages}
@@ -10,11 +9,6 @@ use Rattle.disco_instance.specs.Members.{text_or_empty}
 use Rattle.disco_instance.specs.Row.{row}
 use Rattle.disco_instance.specs.Instance.{Gives, row_at, if_ok, key_at, told_by}
 use Rattle.disco_instance.specs.Steps.{HasPagesAndAddresses, SaysRest, SaysTexts, with_texts}
-use Rattle.disco_instance.specs.Taking.{text_in}
-
--- the text at a name among the members of a value
-pub at_name : (ms : Members) (d : Data) → ((q : List ℕ) → get_member q ms ≡ get q d) → (name : List ℕ) → text_in ms name ≡ text_or_empty name d
-at_name ms d same name = ap (λ o. unwrap_or (option_and_then as_str o) []) (same name)
 
 abbrev SaysBoth : Data → Pages → Addresses → Type 0
 SaysBoth d p a = SaysTexts (λ name. text_or_empty name d) p a
@@ -58,7 +52,3 @@ pub told : (within : Option (List ℕ)) (d : Data) (p : Pages) (a : Addresses) (
     → SaysBoth d p a → IfOk r (λ x. SaysRest d x) → IfOk r (λ x. HasPagesAndAddresses p a x) → Gives (λ x. x.key) r (key_at within d) → Gives row r (told_by within d)
 told within d p a (Ok r) t s h k = ap (λ o. if_ok o (λ q. Ok (row_at d q))) k ∙ ap Ok (sym (has_them r p a h ∙ same_rows d r p a s t))
 told within d p a (Err e) t s h k = λ other. ap (λ o. if_ok o (λ q. Ok (row_at d q))) (k other)
-
--- a record whose pages and addresses come later
-pub told_later : (within : Option (List ℕ)) (d : Data) (p : Pages) (a : Addresses) (r new : Record) → SaysBoth d p a → SaysRest d r → key_at within d ≡ Ok r.key → row new ≡ with_texts (row r) p a → told_by within d ≡ Ok (row new)
-told_later within d p a r new t s k is = ap (λ o. if_ok o (λ q. Ok (row_at d q))) k ∙ ap Ok (sym (is ∙ same_rows d r p a s t))

@@ -5,6 +5,7 @@
 #![tactic(auto)]
 
 mod data_center;
+mod found;
 mod known;
 mod lease;
 mod members;
@@ -14,16 +15,15 @@ mod parts;
 mod port;
 mod reading;
 mod record;
-mod taking;
 
 pub use data_center::DataCenter;
 pub use disco_values::{
     Action, Bytes, Entries, Fault, Field, Form, Key, Status, Text, status_of, upper,
 };
+pub use found::{Found, Member};
 pub use known::well_formed;
 pub use lease::Lease;
 pub use members::{non_empty_member, text_member, whole};
 pub use port::Port;
 pub use reading::action_from_value;
 pub use record::Record;
-pub use taking::members_of;

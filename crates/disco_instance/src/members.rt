@@ -1,10 +1,11 @@
-//! Members of one kind in a JSON value. A member of another kind counts as absent.
-ghost use Rattle.std.specs.Prelude.{◌≡◌, ◌≤◌, IfOk, option_map, unwrap_or};
+//! What a JSON value, or a member of one, is. A value of another kind counts as absent.
+ghost use Rattle.std.specs.Prelude.{◌≡◌, ◌≤◌, [], IfOk, option_map, unwrap_or};
 ghost use Rattle.serde_json.specs.View.{view};
 ghost use Rattle.disco_values.specs.Status.{status_named};
 ghost use Rattle.disco_values.specs.Text.{in_upper_case};
 ghost use Rattle.disco_values.specs.declared.status.Status.TheVariants.{Unknown};
-ghost use Rattle.disco_instance.specs.Members.{as_flag, as_whole, flag_at, non_empty_at, number_at, override_at, port_at, status_at, text_at, text_or_empty};
+ghost use Rattle.disco_instance.specs.Members.{as_flag, as_whole, non_empty_at, text_at};
+ghost use Rattle.disco_instance.specs.Seen.{flag_in, non_empty_in, number_or, port_or, seen, status_or, text_in};
 
 use crate::port::Port;
 use disco_digits::number_of_digits;
@@ -37,54 +38,68 @@ fn flag(value: &Value) -> Option<bool>
     }
 }
 
+/// The text that a value is.
+pub(crate) fn text_in<'v>(value: Option<&'v Value>) -> Option<&'v str>
+    ensures { option_map (λ s. s.now) result ≡ text_in (seen value.entry) }
+{
+    value.and_then(Value::as_str)
+}
+
+/// The text that a value is, where it isn't empty.
+pub(crate) fn non_empty_in<'v>(value: Option<&'v Value>) -> Option<&'v str>
+    ensures { option_map (λ s. s.now) result ≡ non_empty_in (seen value.entry) }
+{
+    match text_in(value) {
+        Some(text) if !text.is_empty() => Some(text),
+        _ => None,
+    }
+}
+
 /// The text at a name.
 pub fn text_member<'v>(value: &'v Value, name: &str) -> Option<&'v str>
     ensures { option_map (λ s. s.now) result ≡ text_at name.now (view value.now) }
 {
-    value.get(name).and_then(Value::as_str)
+    text_in(value.get(name))
 }
 
 /// The text at a name, where it isn't empty.
 pub fn non_empty_member<'v>(value: &'v Value, name: &str) -> Option<&'v str>
     ensures { option_map (λ s. s.now) result ≡ non_empty_at name.now (view value.now) }
 {
-    match text_member(value, name) {
-        Some(text) if !text.is_empty() => Some(text),
-        _ => None,
-    }
+    non_empty_in(value.get(name))
 }
 
-pub(crate) fn text_or_empty(alloc: Global, value: &Value, name: &str) -> Result<Text, AllocError>
-    ensures { IfOk result (λ t. t ≡ text_or_empty name.now (view value.now)) }
+pub(crate) fn text_or_empty(alloc: Global, value: Option<&Value>) -> Result<Text, AllocError>
+    ensures { IfOk result (λ t. t ≡ unwrap_or (text_in (seen value.entry)) []) }
 {
-    Text::new(alloc, text_member(value, name).unwrap_or(""))
+    Text::new(alloc, text_in(value).unwrap_or(""))
 }
 
-pub(crate) fn flag_member(value: &Value, name: &str) -> Option<bool>
-    ensures { result ≡ flag_at name.now (view value.now) }
+pub(crate) fn flag_in(value: Option<&Value>) -> Option<bool>
+    ensures { result ≡ flag_in (seen value.entry) }
 {
-    value.get(name).and_then(flag)
+    value.and_then(flag)
 }
 
-/// The whole number at a name where it is in range, else the default.
-pub(crate) fn number_member(value: &Value, name: &str, low: u64, high: u64, default: u64) -> u64
-    ensures value { result ≡ number_at name.now low high default (view value.now) }
+/// The whole number that a value is where it is in range, else the default.
+pub(crate) fn number_or(value: Option<&Value>, low: u64, high: u64, default: u64) -> u64
+    ensures value { result ≡ number_or low high default (seen value.entry) }
     ensures in_range { low ≤ default → default ≤ high → (low ≤ result) × (result ≤ high) }
 {
-    match value.get(name).and_then(whole) {
+    match value.and_then(whole) {
         Some(number) if low <= number && number <= high => number,
         _ => default,
     }
 }
 
-/// The port at a name. Its number and its flag have each a default of their own.
-pub(crate) fn port_member(value: &Value, name: &str, number: u16, enabled: bool) -> Port
-    ensures { result ≡ port_at name.now number enabled (view value.now) }
+/// The port that a value is. Its number and its flag have each a default of their own.
+pub(crate) fn port_or(value: Option<&Value>, number: u16, enabled: bool) -> Port
+    ensures { result ≡ port_or number enabled (seen value.entry) }
 {
-    match value.get(name) {
+    match value {
         Some(inner) => Port {
-            number: number_member(inner, "$", 0, 65535, number as u64) as u16,
-            enabled: flag_member(inner, "@enabled").unwrap_or(enabled),
+            number: number_or(inner.get("$"), 0, 65535, number as u64) as u16,
+            enabled: flag_in(inner.get("@enabled")).unwrap_or(enabled),
         },
         None => Port { number, enabled },
     }
@@ -102,28 +117,16 @@ fn status_in_any_case(alloc: Global, text: &str) -> Result<Status, AllocError>
     Ok(status_of(text.as_str()).unwrap_or(Status::Unknown))
 }
 
-/// The status at a name, in any case, where a text stands there.
-pub(crate) fn status_member(
+/// The status that a value is, in any case, where it is a text.
+pub(crate) fn status_or(
     alloc: Global,
-    value: &Value,
-    name: &str,
+    value: Option<&Value>,
     default: Status,
 ) -> Result<Status, AllocError>
-    ensures { IfOk result (λ s. s ≡ status_at name.now default (view value.now)) }
+    ensures { IfOk result (λ s. s ≡ status_or default (seen value.entry)) }
 {
-    match text_member(value, name) {
+    match text_in(value) {
         Some(text) => status_in_any_case(alloc, text),
         None => Ok(default),
-    }
-}
-
-/// The override, under either of its two names.
-pub(crate) fn override_member(alloc: Global, value: &Value) -> Result<Status, AllocError>
-    ensures { IfOk result (λ s. s ≡ override_at (view value.now)) }
-{
-    if text_member(value, "overriddenStatus").is_some() {
-        status_member(alloc, value, "overriddenStatus", Status::Unknown)
-    } else {
-        status_member(alloc, value, "overriddenstatus", Status::Unknown)
     }
 }

@@ -1,7 +1,8 @@
-//! The member `metadata` of a JSON value.
+//! The entries of a JSON object: the member `metadata` of an instance.
 ghost use Rattle.std.specs.Prelude.{◌≡◌, IfOk};
 ghost use Rattle.serde_json.specs.View.{view, members_view};
-ghost use Rattle.disco_instance.specs.Metadata.{entries_at, entry_text, kept_entries};
+ghost use Rattle.disco_instance.specs.Metadata.{entry_text, kept_entries};
+ghost use Rattle.disco_instance.specs.Seen.{entries_in, seen};
 
 use disco_values::{Entries, Text};
 use serde_json::{Map, Value};
@@ -36,16 +37,13 @@ fn kept_pairs(alloc: Global, map: &Map<String, Value>) -> Result<Vec<(Text, Text
     Ok(kept)
 }
 
-/// The entries at a name: texts, whole numbers and truth values, in byte order of their names.
+/// The entries of an object: texts, whole numbers and truth values, in byte order of their names.
+/// Another value has none.
 #[tactic(auto, using(crate::proofs::Kept::kept_sorted))]
-pub(crate) fn entries_member(
-    alloc: Global,
-    value: &Value,
-    name: &str,
-) -> Result<Entries, AllocError>
-    ensures { IfOk result (λ e. e ≡ entries_at name.now (view value.now)) }
+pub(crate) fn entries_in(alloc: Global, value: Option<&Value>) -> Result<Entries, AllocError>
+    ensures { IfOk result (λ e. e ≡ entries_in (seen value.entry)) }
 {
-    match value.get(name).and_then(Value::as_object) {
+    match value.and_then(Value::as_object) {
         Some(map) => {
             // For the proof alone: the names of a map stand in order, each once.
             let _ordered = map.len();

@@ -1,21 +1,19 @@
 //! The parts of a record that are copied, and read, together.
 ghost use Rattle.std.specs.Prelude.{◌≡◌, codes, IfOk};
 ghost use Rattle.std.specs.Option.{option_copied};
-ghost use Rattle.serde_json.specs.View.{members_view, view};
+ghost use Rattle.serde_json.specs.View.{view};
 ghost use Rattle.disco_values.specs.declared.status.Status.TheVariants.{Up};
 ghost use Rattle.disco_instance.specs.Instance.{Gives, data_center_at, key_at};
 ghost use Rattle.disco_instance.specs.Members.{override_at, status_at, text_or_empty};
 ghost use Rattle.disco_instance.specs.Metadata.{entries_at};
-ghost use Rattle.disco_instance.specs.Taking.{text_in};
 
 use crate::data_center::DataCenter;
-use crate::members::{override_member, status_member, text_or_empty};
-use crate::metadata::entries_member;
-use crate::naming::{data_center_member, key_from_value};
+use crate::found::{Found, Member};
+use crate::members::{status_or, text_in, text_or_empty};
+use crate::metadata::entries_in;
+use crate::naming::{data_center_member, key_from_found};
 use crate::record::Record;
-use crate::taking::taken_text;
 use disco_values::{Entries, Fault, Key, Status, Text};
-use serde_json::{Map, Value};
 use std::alloc::{AllocError, Global};
 
 /// The pages of an instance.
@@ -39,24 +37,16 @@ impl Pages {
         })
     }
 
-    pub(crate) fn read(alloc: Global, value: &Value) -> Result<Pages, AllocError>
-        ensures health { IfOk result (λ p. p.health_check_url ≡ text_or_empty (codes "healthCheckUrl") (view value.now)) }
-        ensures home { IfOk result (λ p. p.home_page_url ≡ text_or_empty (codes "homePageUrl") (view value.now)) }
-        ensures status { IfOk result (λ p. p.status_page_url ≡ text_or_empty (codes "statusPageUrl") (view value.now)) }
+    pub(crate) fn read(alloc: Global, found: &Found<'_>) -> Result<Pages, AllocError>
+        ensures health { IfOk result (λ p. p.health_check_url ≡ text_or_empty (codes "healthCheckUrl") (view found.now)) }
+        ensures home { IfOk result (λ p. p.home_page_url ≡ text_or_empty (codes "homePageUrl") (view found.now)) }
+        ensures status { IfOk result (λ p. p.status_page_url ≡ text_or_empty (codes "statusPageUrl") (view found.now)) }
     {
         Ok(Pages {
-            health_check_url: text_or_empty(alloc, value, "healthCheckUrl")?,
-            home_page_url: text_or_empty(alloc, value, "homePageUrl")?,
-            status_page_url: text_or_empty(alloc, value, "statusPageUrl")?,
+            health_check_url: text_or_empty(alloc, found.at(Member::HealthCheckUrl))?,
+            home_page_url: text_or_empty(alloc, found.at(Member::HomePageUrl))?,
+            status_page_url: text_or_empty(alloc, found.at(Member::StatusPageUrl))?,
         })
-    }
-
-    pub(crate) fn empty(alloc: Global) -> Pages {
-        Pages {
-            health_check_url: Text::empty(alloc),
-            home_page_url: Text::empty(alloc),
-            status_page_url: Text::empty(alloc),
-        }
     }
 }
 
@@ -104,27 +94,18 @@ impl Addresses {
         )
     }
 
-    pub(crate) fn read(alloc: Global, value: &Value) -> Result<Addresses, AllocError>
-        ensures host { IfOk result (λ a. a.host_name ≡ text_or_empty (codes "hostName") (view value.now)) }
-        ensures ip { IfOk result (λ a. a.ip_addr ≡ text_or_empty (codes "ipAddr") (view value.now)) }
-        ensures secure_vip { IfOk result (λ a. a.secure_vip_address ≡ text_or_empty (codes "secureVipAddress") (view value.now)) }
-        ensures vip { IfOk result (λ a. a.vip_address ≡ text_or_empty (codes "vipAddress") (view value.now)) }
+    pub(crate) fn read(alloc: Global, found: &Found<'_>) -> Result<Addresses, AllocError>
+        ensures host { IfOk result (λ a. a.host_name ≡ text_or_empty (codes "hostName") (view found.now)) }
+        ensures ip { IfOk result (λ a. a.ip_addr ≡ text_or_empty (codes "ipAddr") (view found.now)) }
+        ensures secure_vip { IfOk result (λ a. a.secure_vip_address ≡ text_or_empty (codes "secureVipAddress") (view found.now)) }
+        ensures vip { IfOk result (λ a. a.vip_address ≡ text_or_empty (codes "vipAddress") (view found.now)) }
     {
         Ok(Addresses {
-            host_name: text_or_empty(alloc, value, "hostName")?,
-            ip_addr: text_or_empty(alloc, value, "ipAddr")?,
-            secure_vip_address: text_or_empty(alloc, value, "secureVipAddress")?,
-            vip_address: text_or_empty(alloc, value, "vipAddress")?,
+            host_name: text_or_empty(alloc, found.at(Member::HostName))?,
+            ip_addr: text_or_empty(alloc, found.at(Member::IpAddr))?,
+            secure_vip_address: text_or_empty(alloc, found.at(Member::SecureVipAddress))?,
+            vip_address: text_or_empty(alloc, found.at(Member::VipAddress))?,
         })
-    }
-
-    pub(crate) fn empty(alloc: Global) -> Addresses {
-        Addresses {
-            host_name: Text::empty(alloc),
-            ip_addr: Text::empty(alloc),
-            secure_vip_address: Text::empty(alloc),
-            vip_address: Text::empty(alloc),
-        }
     }
 }
 
@@ -161,6 +142,19 @@ fn rest_of(
     })
 }
 
+/// The override, under either of its two names.
+fn override_member(alloc: Global, found: &Found<'_>) -> Result<Status, AllocError>
+    ensures { IfOk result (λ s. s ≡ override_at (view found.now)) }
+{
+    let exact = found.at(Member::OverriddenStatus);
+    if text_in(exact).is_some() {
+        status_or(alloc, exact, Status::Unknown)
+    } else {
+        let other = found.at(Member::OverriddenStatusInLowerCase);
+        status_or(alloc, other, Status::Unknown)
+    }
+}
+
 impl Rest {
     pub(crate) fn copied(rec: &Record) -> Result<Rest, AllocError>
         ensures key { IfOk result (λ r. r.key ≡ rec.now.key) }
@@ -178,48 +172,27 @@ impl Rest {
         )
     }
 
-    /// The rest that a JSON value says, within an application of that name. Refused as
+    /// The rest that the members of an instance say, within an application of that name. Refused as
     /// `MissingField` for no id and else for no app, and as `OutOfMemory`.
-    pub(crate) fn read(alloc: Global, value: &Value, within: Option<&str>) -> Result<Rest, Fault>
-        ensures key { Gives (λ r. r.key) result (key_at (option_copied within.entry) (view value.now)) }
-        ensures data_center { IfOk result (λ r. r.data_center ≡ data_center_at (view value.now)) }
-        ensures metadata { IfOk result (λ r. r.metadata ≡ entries_at (codes "metadata") (view value.now)) }
-        ensures overridden_status { IfOk result (λ r. r.overridden_status ≡ override_at (view value.now)) }
-        ensures status { IfOk result (λ r. r.status ≡ status_at (codes "status") Up (view value.now)) }
+    pub(crate) fn read(
+        alloc: Global,
+        found: &Found<'_>,
+        within: Option<&str>,
+    ) -> Result<Rest, Fault>
+        ensures key { Gives (λ r. r.key) result (key_at (option_copied within.entry) (view found.now)) }
+        ensures data_center { IfOk result (λ r. r.data_center ≡ data_center_at (view found.now)) }
+        ensures metadata { IfOk result (λ r. r.metadata ≡ entries_at (codes "metadata") (view found.now)) }
+        ensures overridden_status { IfOk result (λ r. r.overridden_status ≡ override_at (view found.now)) }
+        ensures status { IfOk result (λ r. r.status ≡ status_at (codes "status") Up (view found.now)) }
     {
-        let overridden_status = override_member(alloc, value)?;
-        let status = status_member(alloc, value, "status", Status::Up)?;
+        let overridden_status = override_member(alloc, found)?;
+        let status = status_or(alloc, found.at(Member::Status), Status::Up)?;
         Ok(Rest {
-            key: key_from_value(alloc, value, within)?,
-            data_center: data_center_member(alloc, value)?,
-            metadata: entries_member(alloc, value, "metadata")?,
+            key: key_from_found(alloc, found, within)?,
+            data_center: data_center_member(alloc, found)?,
+            metadata: entries_in(alloc, found.at(Member::Metadata))?,
             overridden_status,
             status,
         })
     }
-}
-
-/// The pages and the addresses among the members of an instance, whose texts are moved out. Takes no
-/// memory.
-pub(crate) fn taken(alloc: Global, members: &mut Map<String, Value>) -> (Pages, Addresses)
-    ensures health { result.0.health_check_url ≡ text_in (members_view members.old.entries) (codes "healthCheckUrl") }
-    ensures home { result.0.home_page_url ≡ text_in (members_view members.old.entries) (codes "homePageUrl") }
-    ensures status { result.0.status_page_url ≡ text_in (members_view members.old.entries) (codes "statusPageUrl") }
-    ensures host { result.1.host_name ≡ text_in (members_view members.old.entries) (codes "hostName") }
-    ensures ip { result.1.ip_addr ≡ text_in (members_view members.old.entries) (codes "ipAddr") }
-    ensures secure_vip { result.1.secure_vip_address ≡ text_in (members_view members.old.entries) (codes "secureVipAddress") }
-    ensures vip { result.1.vip_address ≡ text_in (members_view members.old.entries) (codes "vipAddress") }
-{
-    let pages = Pages {
-        health_check_url: taken_text(alloc, members, "healthCheckUrl"),
-        home_page_url: taken_text(alloc, members, "homePageUrl"),
-        status_page_url: taken_text(alloc, members, "statusPageUrl"),
-    };
-    let addresses = Addresses {
-        host_name: taken_text(alloc, members, "hostName"),
-        ip_addr: taken_text(alloc, members, "ipAddr"),
-        secure_vip_address: taken_text(alloc, members, "secureVipAddress"),
-        vip_address: taken_text(alloc, members, "vipAddress"),
-    };
-    (pages, addresses)
 }

@@ -8,8 +8,8 @@ ghost use Rattle.disco_instance.specs.Members.{inner_at, non_empty_at};
 ghost use Rattle.disco_instance.specs.Row.{row};
 ghost use Rattle.disco_wire.specs.Registration.{missing_in, registration_in, registration_of};
 
-use crate::tree::{object_of, tree_of};
-use disco_instance::{Record, non_empty_member};
+use crate::tree::{object_member, tree_of};
+use disco_instance::{Found, Member, Record, non_empty_member};
 use disco_values::{Fault, Field};
 use serde_json::Value;
 use std::alloc::Global;
@@ -25,51 +25,52 @@ pub fn read_registration(alloc: Global, bytes: &[u8]) -> Result<Record, Fault>
     ensures { Gives row result (registration_of bytes.now) }
 {
     let tree = tree_of(alloc, bytes)?;
-    registration_from_tree(alloc, tree)
+    registration_from_tree(alloc, &tree)
 }
 
-fn registration_from_tree(alloc: Global, tree: Value) -> Result<Record, Fault>
-    ensures { Gives row result (registration_in (view tree)) }
+fn registration_from_tree(alloc: Global, tree: &Value) -> Result<Record, Fault>
+    ensures { Gives row result (registration_in (view tree.now)) }
 {
-    match object_of(alloc, tree, "instance") {
+    match object_member(tree, "instance") {
         Some(instance) => registered(alloc, instance),
         None => Err(Fault::BadJson),
     }
 }
 
-fn registered(alloc: Global, instance: Value) -> Result<Record, Fault>
-    ensures { Gives row result (option_map_or (λ field. Err (MissingField field)) (missing_in (view instance)) (told_by None (view instance))) }
+fn registered(alloc: Global, instance: &Value) -> Result<Record, Fault>
+    ensures { Gives row result (option_map_or (λ field. Err (MissingField field)) (missing_in (view instance.now)) (told_by None (view instance.now))) }
 {
-    match missing_member(&instance) {
+    let found = Found::of(instance);
+    match missing_member(&found) {
         Some(field) => Err(Fault::MissingField(field)),
-        None => Record::from_owned(alloc, instance),
+        None => Record::from_found(alloc, &found, None),
     }
 }
 
 /// The first required member that is absent or empty.
-fn missing_member(instance: &Value) -> Option<Field>
-    ensures { result ≡ missing_in (view instance.now) }
+fn missing_member(found: &Found<'_>) -> Option<Field>
+    ensures { result ≡ missing_in (view found.now) }
 {
-    let has_host = non_empty_member(instance, "hostName").is_some();
-    if !has_host && non_empty_member(instance, "instanceId").is_none() {
+    let has_host = found.non_empty(Member::HostName).is_some();
+    if !has_host && found.non_empty(Member::InstanceId).is_none() {
         Some(Field::InstanceId)
     } else if !has_host {
         Some(Field::HostName)
-    } else if non_empty_member(instance, "ipAddr").is_none() {
+    } else if found.non_empty(Member::IpAddr).is_none() {
         Some(Field::IpAddr)
-    } else if non_empty_member(instance, "app").is_none() {
+    } else if found.non_empty(Member::App).is_none() {
         Some(Field::App)
-    } else if !has_data_center(instance) {
+    } else if !has_data_center(found) {
         Some(Field::DataCenterInfo)
     } else {
         None
     }
 }
 
-fn has_data_center(instance: &Value) -> bool
-    ensures { result ≡ is_some (non_empty_at (codes "name") (inner_at (codes "dataCenterInfo") (view instance.now))) }
+fn has_data_center(found: &Found<'_>) -> bool
+    ensures { result ≡ is_some (non_empty_at (codes "name") (inner_at (codes "dataCenterInfo") (view found.now))) }
 {
-    match instance.get("dataCenterInfo") {
+    match found.at(Member::DataCenterInfo) {
         Some(inner) => non_empty_member(inner, "name").is_some(),
         None => false,
     }

@@ -1,11 +1,9 @@
 //! The JSON tree of some bytes.
 ghost use Rattle.std.specs.Prelude.{◌≡◌, option_map};
-ghost use Rattle.serde_json.specs.Find.{get};
 ghost use Rattle.serde_json.specs.View.{view};
 ghost use Rattle.disco_instance.specs.Instance.{Gives};
 ghost use Rattle.disco_wire.specs.Tree.{json_of, object_at};
 
-use disco_instance::members_of;
 use disco_values::Fault;
 use serde_json::Value;
 use std::alloc::Global;
@@ -28,22 +26,4 @@ pub(crate) fn object_member<'v>(value: &'v Value, name: &str) -> Option<&'v Valu
     ensures { option_map (λ v. view v.now) result ≡ object_at name.now (view value.now) }
 {
     value.get(name).filter(|v| v.is_object())
-}
-
-/// The member of that name, taken out of a value.
-fn taken(alloc: Global, value: Value, name: &str) -> Option<Value>
-    ensures { option_map view result ≡ get name.now (view value) }
-{
-    let mut members = members_of(alloc, value);
-    members.remove(name)
-}
-
-/// The member of that name where it is an object, taken out of a value.
-pub(crate) fn object_of(alloc: Global, value: Value, name: &str) -> Option<Value>
-    ensures { option_map view result ≡ object_at name.now (view value) }
-{
-    match taken(alloc, value, name) {
-        Some(member) if member.is_object() => Some(member),
-        _ => None,
-    }
 }
