@@ -13,7 +13,7 @@ ghost use Rattle.disco_writer.specs.Kept.{IsReadyFor, IsSameTexts, kept_text_at}
 use disco_history::Change;
 use disco_instance::Record;
 use disco_values::{Action, Fault, Form, Key};
-use disco_writer::{Texts, write_text};
+use disco_writer::{Texts, write_texts};
 use std::alloc::Global;
 use std::marker::Model;
 
@@ -87,8 +87,7 @@ impl BothTexts {
         ensures texts { OnOk result (HasTexts self.new (Some (row rec.now, action))) }
         ensures memory { IfErr result (λ e. e ≡ OutOfMemory) }
     {
-        let full = write_text(self.alloc, Form::Full, rec, Some(action))?;
-        let compact = write_text(self.alloc, Form::Compact, rec, Some(action))?;
+        let (full, compact) = write_texts(self.alloc, rec, Some(action))?;
         ready_one(&mut self.full, &rec.key, full, held)?;
         ready_one(&mut self.compact, &rec.key, compact, held)
     }

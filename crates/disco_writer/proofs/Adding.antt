@@ -1,5 +1,5 @@
 -- Tokens that are written one after another.
-use Rattle.std.proofs.Common.{◌≡◌, ℕ, ◌+◌, ◌<◌, ◌≤◌, List, [], ◌∷◌, ◌++◌, drop, get_or, length, Option, None, Some, Result, Ok, Err, OnOk, refl, ap, sym, ◌∙◌, append_assoc, append-nil}
+use Rattle.std.proofs.Common.{◌≡◌, ℕ, ◌+◌, ◌<◌, ◌≤◌, List, [], ◌∷◌, ◌++◌, drop, get_or, length, Result, Ok, Err, OnOk, refl, ap, sym, ◌∙◌, append_assoc, append-nil}
 use Rattle.json.specs.Token.{Token, key, begin_object, end_object}
 use Rattle.json.specs.Written.{Written}
 use Rattle.json.specs.Tree.{json_tokens, members_tokens}
@@ -8,13 +8,9 @@ use Rattle.serde_json.specs.Written.{outline, members_outline, compact_text}
 use Rattle.std.proofs.lemmas.List.{drop_all, drop_more}
 use Rattle.json.specs.Print.{print}
 use Rattle.serde_json.proofs.Texts.{print-outline}
-use Rattle.disco_values.specs.declared.form.Form.TheVariants.{Full, Compact}
-use Rattle.disco_values.specs.declared.action.Action.{Action}
-use Rattle.disco_instance.specs.Row.{Row}
-use Rattle.disco_writer.specs.Fields.{done_fields, entry_fields, from_moments, to_hosts, to_metadata, to_moments, to_urls, to_vips}
-use Rattle.disco_writer.specs.Kept.{mention_tree}
+use Rattle.disco_writer.specs.Fields.{entry_fields}
 use Rattle.disco_writer.specs.Tokens.{AddsTokens, member_tokens}
-use Rattle.disco_documents.specs.Trees.{in_order, tree, instance_tree}
+use Rattle.disco_documents.specs.Trees.{in_order, tree}
 
 pub then : {a b c : Written} {xs ys : List Token} → AddsTokens a b xs → AddsTokens b c ys → AddsTokens a c (xs ++ ys)
 then {a = a} {xs = xs} {ys = ys} f g = record { tokens = g.tokens ∙ ap (λ ts. ts ++ ys) f.tokens ∙ append_assoc a.tokens xs ys; before = g.before ∙ f.before }
@@ -56,37 +52,6 @@ entries_end now es i all past is = sym (append-nil now) ∙ ap (λ (xs : List (L
 
 pub as_object : (k : List ℕ) (fs : List (List ℕ × Data)) → key k ∷ begin_object ∷ (member_tokens fs ++ end_object ∷ []) ≡ member_tokens ((k, tree fs) ∷ [])
 as_object k fs = ap (λ (ts : List Token). key k ∷ ts) (sym (append-nil _ ∙ tree_tokens fs))
-
-regroup : (b e : Token) (d f g h k : List Token) → ((((((b ∷ []) ++ d) ++ f) ++ g) ++ h) ++ k) ++ (e ∷ []) ≡ b ∷ ((d ++ (f ++ (g ++ (h ++ k)))) ++ (e ∷ []))
-regroup b e d f g h k = simp append_assoc
-
-five_groups : (d f g h k : List (List ℕ × Data)) → ((((((begin_object ∷ []) ++ member_tokens d) ++ member_tokens f) ++ member_tokens g) ++ member_tokens h) ++ member_tokens k) ++ (end_object ∷ []) ≡ json_tokens (outline (tree (d ++ (f ++ (g ++ (h ++ k))))))
-five_groups d f g h k =
-    let all =
-    append_tokens d (f ++ (g ++ (h ++ k))) ∙ ap (λ (ts : List Token). member_tokens d ++ ts) (append_tokens f (g ++ (h ++ k))
-    ∙ ap (λ (ts : List Token). member_tokens f ++ ts) (append_tokens g (h ++ k) ∙ ap (λ (ts : List Token). member_tokens g ++ ts) (append_tokens h k))) in
-    regroup begin_object end_object (member_tokens d) (member_tokens f) (member_tokens g) (member_tokens h) (member_tokens k)
-    ∙ sym (tree_tokens (d ++ (f ++ (g ++ (h ++ k)))) ∙ ap (λ (ts : List Token). begin_object ∷ (ts ++ end_object ∷ [])) all)
-
-pub full_tokens : (r : Row) (o : Option Action)
-    → ((((((begin_object ∷ []) ++ member_tokens (done_fields o)) ++ member_tokens (to_urls r)) ++ member_tokens (to_moments r)) ++ member_tokens (to_metadata r)) ++ member_tokens (to_vips r)) ++ (end_object ∷ []) ≡ json_tokens (outline (mention_tree Full (r, o)))
-unfolding instance_tree
-full_tokens r None = five_groups (done_fields None) (to_urls r) (to_moments r) (to_metadata r) (to_vips r)
-full_tokens r (Some a) = five_groups (done_fields (Some a)) (to_urls r) (to_moments r) (to_metadata r) (to_vips r)
-
-regroup_three : (b e : Token) (d f g : List Token) → ((((b ∷ []) ++ d) ++ f) ++ g) ++ (e ∷ []) ≡ b ∷ ((d ++ (f ++ g)) ++ (e ∷ []))
-regroup_three b e d f g = simp append_assoc
-
-three_groups : (d f g : List (List ℕ × Data)) → ((((begin_object ∷ []) ++ member_tokens d) ++ member_tokens f) ++ member_tokens g) ++ (end_object ∷ []) ≡ json_tokens (outline (tree (d ++ (f ++ g))))
-three_groups d f g =
-    regroup_three begin_object end_object (member_tokens d) (member_tokens f) (member_tokens g)
-    ∙ sym (tree_tokens (d ++ (f ++ g)) ∙ ap (λ (ts : List Token). begin_object ∷ (ts ++ end_object ∷ [])) (append_tokens d (f ++ g) ∙ ap (λ (ts : List Token). member_tokens d ++ ts) (append_tokens f g)))
-
-pub compact_tokens : (r : Row) (o : Option Action)
-    → ((((begin_object ∷ []) ++ member_tokens (done_fields o)) ++ member_tokens (to_hosts r)) ++ member_tokens (from_moments r)) ++ (end_object ∷ []) ≡ json_tokens (outline (mention_tree Compact (r, o)))
-unfolding instance_tree
-compact_tokens r None = three_groups (done_fields None) (to_hosts r) (from_moments r)
-compact_tokens r (Some a) = three_groups (done_fields (Some a)) (to_hosts r) (from_moments r)
 
 -- the text of what a new writer wrote
 pub text_written : (items start : List ℕ) (old new : Written) (d : Data) → start ≡ [] → old.before ≡ start → old.tokens ≡ [] → AddsTokens old new (json_tokens (outline d)) → items ≡ new.before ++ print new.tokens

@@ -1,4 +1,5 @@
 mod Adding
+mod Grouping
 mod Joins
 pub mod KeptLaws
 pub mod Metadata

@@ -22,7 +22,8 @@ use Rattle.disco_instance.specs.declared.port.Port.{Port}
 use Rattle.disco_values.specs.declared.form.Form.{Form}
 use Rattle.disco_values.specs.declared.form.Form.TheVariants.{Full, Compact}
 use Rattle.disco_history.specs.Change.{Entry}
-use Rattle.disco_writer.specs.Fields.{Fields, center_fields, compact_fields, entry_fields, full_fields, lease_fields, port_fields}
+use Rattle.disco_writer.specs.Fields.{Fields, center_fields, entry_fields, lease_fields, port_fields}
+use Rattle.disco_writer.specs.Groups.{compact_groups, flat, full_groups}
 use Rattle.disco_documents.specs.Rows.{AreWellFormed}
 use Rattle.disco_documents.specs.Trees.{in_order, tree, whole, data_center_tree, metadata_tree, port_tree, lease_tree, instance_tree, app_tree, by_app, document_tree, app_document, instance_document}
 use Rattle.disco_writer.proofs.Metadata.{Pairs, put_all, all_put}
@@ -130,10 +131,10 @@ pub instance_again : (f : Form) (e : Entry) → IsWellFormed e.0 → IsReadable 
 unfolding instance_tree
 instance_again Full e is =
     let r = e.0 in
-    tree_again (full_fields r (Some e.1)) refl (string_again _, (string_again _, (whole_again r.country_id (omega (arith, is.country)), (center_again r.data_center, (string_again _, (string_again _, (string_again _, (string_again _, (string_again _, (string_again _, (string_again _, (string_again _, (lease_tree_again r.lease is.duration is.renewal_interval is.eviction is.last_renewal is.registration is.service_up, (metadata_again r.metadata is.metadata, (string_again _, (port_again r.port is.port, (port_again r.secure_port is.secure_port, (string_again _, (string_again _, (string_again _, (string_again _, tt)))))))))))))))))))))
+    tree_again (flat (full_groups r (Some e.1))) refl (string_again _, (string_again _, (whole_again r.country_id (omega (arith, is.country)), (center_again r.data_center, (string_again _, (string_again _, (string_again _, (string_again _, (string_again _, (string_again _, (string_again _, (string_again _, (lease_tree_again r.lease is.duration is.renewal_interval is.eviction is.last_renewal is.registration is.service_up, (metadata_again r.metadata is.metadata, (string_again _, (port_again r.port is.port, (port_again r.secure_port is.secure_port, (string_again _, (string_again _, (string_again _, (string_again _, tt)))))))))))))))))))))
 instance_again Compact e is =
     let r = e.0 in
-    tree_again (compact_fields r (Some e.1)) refl (string_again _, (string_again _, (center_again r.data_center, (string_again _, (string_again _, (string_again _, (string_again _, (string_again _, (string_again _, (port_again r.port is.port, (port_again r.secure_port is.secure_port, (string_again _, (string_again _, (string_again _, tt))))))))))))))
+    tree_again (flat (compact_groups r (Some e.1))) refl (string_again _, (string_again _, (center_again r.data_center, (string_again _, (string_again _, (string_again _, (string_again _, (string_again _, (string_again _, (port_again r.port is.port, (port_again r.secure_port is.secure_port, (string_again _, (string_again _, (string_again _, tt))))))))))))))
 
 instances_again : (f : Form) (es : List Entry) → AreWellFormed es → AreItemsReadable (map (instance_tree f) es)
 instances_again f [] all = tt

@@ -1,5 +1,5 @@
 -- The members of an instance in the groups in which they are written. Nothing here need be believed.
-use Rattle.std.specs.Prelude.{ℕ, List, [], ◌∷◌, ◌++◌, map, codes, Option, Some, None}
+use Rattle.std.specs.Prelude.{ℕ, List, [], ◌∷◌, map, codes, Option, Some, None}
 use Rattle.serde_json.specs.Data.{Data, Members, string}
 use Rattle.disco_values.specs.Action.{action_name}
 use Rattle.disco_instance.specs.Row.{Row}
@@ -8,7 +8,7 @@ use Rattle.disco_instance.specs.declared.data_center.DataCenter.{DataCenter}
 use Rattle.disco_instance.specs.declared.lease.Lease.{Lease}
 use Rattle.disco_instance.specs.declared.port.Port.{Port}
 use Rattle.disco_values.specs.declared.action.Action.{Action}
-use Rattle.disco_documents.specs.Trees.{in_order, truth, whole, digits_text, port_tree, data_center_tree, lease_tree, metadata_tree}
+use Rattle.disco_documents.specs.Trees.{in_order, truth, whole, digits_text, port_tree}
 
 abbrev pub Fields : Type 0
 Fields = List (List ℕ × Data)
@@ -38,12 +38,6 @@ abbrev pub done_fields : Option Action → Fields
 done_fields None = []
 done_fields (Some a) = (codes "actionType", string (action_name a)) ∷ []
 
-abbrev pub app_field : Row → Fields
-app_field r = (codes "app", string r.key.app) ∷ []
-
-abbrev pub center_field : Row → Fields
-center_field r = (codes "dataCenterInfo", data_center_tree r.data_center) ∷ []
-
 abbrev pub host_fields : Row → Fields
 host_fields r = (codes "hostName", string r.host_name) ∷ (codes "instanceId", string r.key.id) ∷ (codes "ipAddr", string r.ip_addr) ∷ []
 
@@ -54,35 +48,3 @@ abbrev pub state_fields : Row → Fields
 state_fields r = (codes "overriddenStatus", string (status_name r.overridden_status)) ∷ (codes "port", port_tree r.port) ∷
     (codes "securePort", port_tree r.secure_port)
     ∷ (codes "secureVipAddress", string r.secure_vip_address) ∷ (codes "status", string (status_name r.status)) ∷ []
-
-abbrev pub vip_field : Row → Fields
-vip_field r = (codes "vipAddress", string r.vip_address) ∷ []
-
--- ---- the full form
-
-abbrev pub to_urls : Row → Fields
-to_urls r = app_field r ++ ((codes "countryId", whole r.country_id) ∷
-    (center_field r ++ ((codes "healthCheckUrl", string r.health_check_url) ∷ (codes "homePageUrl", string r.home_page_url) ∷ [])))
-
-abbrev pub to_moments : Row → Fields
-to_moments r = host_fields r ++ ((codes "isCoordinatingDiscoveryServer", truth r.is_coordinating) ∷ moment_fields r)
-
-abbrev pub to_metadata : Row → Fields
-to_metadata r = (codes "leaseInfo", lease_tree r.lease) ∷ (codes "metadata", metadata_tree r.metadata) ∷ []
-
-abbrev pub to_vips : Row → Fields
-to_vips r = state_fields r ++ ((codes "statusPageUrl", string r.status_page_url) ∷ vip_field r)
-
-abbrev pub full_fields : Row → Option Action → Fields
-full_fields r o = done_fields o ++ (to_urls r ++ (to_moments r ++ (to_metadata r ++ to_vips r)))
-
--- ---- the compact form
-
-abbrev pub to_hosts : Row → Fields
-to_hosts r = app_field r ++ (center_field r ++ host_fields r)
-
-abbrev pub from_moments : Row → Fields
-from_moments r = moment_fields r ++ (state_fields r ++ vip_field r)
-
-abbrev pub compact_fields : Row → Option Action → Fields
-compact_fields r o = done_fields o ++ (to_hosts r ++ from_moments r)

@@ -1,5 +1,6 @@
 pub mod Empty
 pub mod Fields
+pub mod Groups
 pub mod Joined
 pub mod Kept
 pub mod Laws

@@ -1,161 +1,143 @@
-//! The text of an instance.
-ghost use Rattle.std.specs.Prelude.{◌≡◌, IfErr, IfOk, OnOk};
-ghost use Rattle.json.specs.Tree.{json_tokens};
-ghost use Rattle.serde_json.specs.Written.{outline};
+//! The texts of an instance.
+ghost use Rattle.std.specs.Prelude.{◌≡◌, ◌++◌, ◌∷◌, [], IfErr, IfOk};
 ghost use Rattle.disco_instance.specs.Row.{row};
 ghost use Rattle.disco_values.specs.declared.fault.Fault.TheVariants.{OutOfMemory};
 ghost use Rattle.disco_values.specs.declared.form.Form.TheVariants.{Full, Compact};
 ghost use Rattle.disco_wire.specs.Wire.{tell};
-ghost use Rattle.disco_writer.specs.Fields.{done_fields, from_moments, host_fields, moment_fields, state_fields, to_hosts, to_metadata, to_moments};
-ghost use Rattle.disco_writer.specs.Fields.{to_urls, to_vips};
-ghost use Rattle.disco_writer.specs.Kept.{IsTextOf, mention_tree};
-ghost use Rattle.disco_writer.specs.Tokens.{AddsTokens, WritesMembers};
+ghost use Rattle.disco_writer.specs.Kept.{IsTextOf};
+ghost use Rattle.disco_writer.specs.Groups.{AddsGroup, IsObjectFront, compact_front, compact_groups, full_front, full_groups, group_fields};
 
-use crate::members::{
-    end, put_action, put_data_center, put_digits, put_lease, put_metadata, put_port, put_small,
-    put_status, put_text, put_truth, start,
-};
+use crate::groups::{Group, with_group};
 use disco_instance::{Record, well_formed};
 use disco_values::{Action, Fault, Form};
 use disco_wire::Mention;
-use json::Writer;
 use std::alloc::{AllocError, Global};
 
-/// How many bytes are asked for an instance at first: most have fewer.
-fn usual(form: Form) -> usize {
-    match form {
-        Form::Full => 1024,
-        Form::Compact => 512,
+/// How many bytes are asked for a text in the full form at first: most have fewer.
+const USUAL_FULL: usize = 1024;
+
+/// How many bytes are asked for a text in the compact form at first.
+const USUAL_COMPACT: usize = 512;
+
+/// The texts of an instance in both forms, as far as they are written. What stands in both is
+/// written once and copied.
+#[derive(Drop)]
+struct Both {
+    full: Vec<u8>,
+    compact: Vec<u8>,
+}
+
+impl Both {
+    fn new(alloc: Global) -> Result<Both, AllocError>
+        ensures full { IfOk result (λ b. b.full.items ≡ []) }
+        ensures compact { IfOk result (λ b. b.compact.items ≡ []) }
+    {
+        Ok(Both {
+            full: Vec::with_capacity(alloc, USUAL_FULL)?,
+            compact: Vec::with_capacity(alloc, USUAL_COMPACT)?,
+        })
+    }
+
+    /// With a group more in both texts, behind this byte.
+    fn with_both(
+        self,
+        mark: u8,
+        group: Group,
+        rec: &Record,
+        action: Option<Action>,
+    ) -> Result<Both, AllocError>
+        ensures full { IfOk result (λ b. AddsGroup mark self.full.items b.full.items (group_fields group (row rec.now) action)) }
+        ensures compact { IfOk result (λ b. AddsGroup mark self.compact.items b.compact.items (group_fields group (row rec.now) action)) }
+    {
+        let Both { full, mut compact } = self;
+        let start = full.len();
+        let full = with_group(full, mark, group, rec, action)?;
+        compact.extend_from_slice(&full[start..])?;
+        Ok(Both { full, compact })
+    }
+
+    /// With a group more in the full text, behind a comma.
+    fn with_full(
+        self,
+        group: Group,
+        rec: &Record,
+        action: Option<Action>,
+    ) -> Result<Both, AllocError>
+        ensures full { IfOk result (λ b. AddsGroup 44 self.full.items b.full.items (group_fields group (row rec.now) action)) }
+        ensures compact { IfOk result (λ b. b.compact.items ≡ self.compact.items) }
+    {
+        let Both { full, compact } = self;
+        let full = with_group(full, b',', group, rec, action)?;
+        Ok(Both { full, compact })
+    }
+
+    /// With their ends.
+    fn ended(self) -> Result<(Vec<u8>, Vec<u8>), AllocError>
+        ensures full { IfOk result (λ t. t.0.items ≡ self.full.items ++ 125 ∷ []) }
+        ensures compact { IfOk result (λ t. t.1.items ≡ self.compact.items ++ 125 ∷ []) }
+    {
+        let Both {
+            mut full,
+            mut compact,
+        } = self;
+        full.push(b'}')?;
+        compact.push(b'}')?;
+        Ok((full, compact))
     }
 }
 
-// Groups of members that stand next to each other in both forms.
-
-/// What was done, where it is said.
-fn put_done(out: &mut Writer, action: Option<Action>) -> Result<(), AllocError>
-    ensures { WritesMembers result out.old out.new (done_fields action) }
+/// The groups in front of the moments.
+fn front(alloc: Global, rec: &Record, action: Option<Action>) -> Result<Both, AllocError>
+    ensures full { IfOk result (λ b. IsObjectFront b.full.items (full_front (row rec.now) action)) }
+    ensures compact { IfOk result (λ b. IsObjectFront b.compact.items (compact_front (row rec.now) action)) }
 {
-    match action {
-        Some(action) => put_action(out, "actionType", action),
-        None => Ok(()),
-    }
+    let texts = Both::new(alloc)?;
+    let texts = texts.with_both(b'{', Group::Names, rec, action)?;
+    let texts = texts.with_full(Group::Country, rec, action)?;
+    let texts = texts.with_both(b',', Group::Center, rec, action)?;
+    let texts = texts.with_full(Group::Urls, rec, action)?;
+    let texts = texts.with_both(b',', Group::Hosts, rec, action)?;
+    texts.with_full(Group::Coordination, rec, action)
 }
 
-fn put_host(out: &mut Writer, rec: &Record) -> Result<(), AllocError>
-    ensures { WritesMembers result out.old out.new (host_fields (row rec.now)) }
+/// The groups from the moments on, behind those in front of them.
+fn with_back(texts: Both, rec: &Record, action: Option<Action>) -> Result<Both, AllocError>
+    requires full { IsObjectFront texts.full.items (full_front (row rec.now) action) }
+    requires compact { IsObjectFront texts.compact.items (compact_front (row rec.now) action) }
+    ensures full { IfOk result (λ b. IsObjectFront b.full.items (full_groups (row rec.now) action)) }
+    ensures compact { IfOk result (λ b. IsObjectFront b.compact.items (compact_groups (row rec.now) action)) }
 {
-    put_text(out, "hostName", &rec.host_name)?;
-    put_text(out, "instanceId", &rec.key.id)?;
-    put_text(out, "ipAddr", &rec.ip_addr)
+    let texts = texts.with_both(b',', Group::Moments, rec, action)?;
+    let texts = texts.with_full(Group::Terms, rec, action)?;
+    let texts = texts.with_both(b',', Group::State, rec, action)?;
+    let texts = texts.with_full(Group::StatusPage, rec, action)?;
+    texts.with_both(b',', Group::Vip, rec, action)
 }
 
-fn put_moments(out: &mut Writer, rec: &Record) -> Result<(), AllocError>
-    ensures { WritesMembers result out.old out.new (moment_fields (row rec.now)) }
-{
-    put_digits(out, "lastDirtyTimestamp", rec.last_dirty)?;
-    put_digits(out, "lastUpdatedTimestamp", rec.last_updated)
-}
-
-fn put_state(out: &mut Writer, rec: &Record) -> Result<(), AllocError>
-    ensures { WritesMembers result out.old out.new (state_fields (row rec.now)) }
-{
-    put_status(out, "overriddenStatus", rec.overridden_status)?;
-    put_port(out, "port", rec.port)?;
-    put_port(out, "securePort", rec.secure_port)?;
-    put_text(out, "secureVipAddress", &rec.secure_vip_address)?;
-    put_status(out, "status", rec.status)
-}
-
-// The full form.
-
-fn put_to_urls(out: &mut Writer, rec: &Record) -> Result<(), AllocError>
-    ensures { WritesMembers result out.old out.new (to_urls (row rec.now)) }
-{
-    put_text(out, "app", &rec.key.app)?;
-    put_small(out, "countryId", rec.country_id)?;
-    put_data_center(out, &rec.data_center)?;
-    put_text(out, "healthCheckUrl", &rec.health_check_url)?;
-    put_text(out, "homePageUrl", &rec.home_page_url)
-}
-
-fn put_to_moments(out: &mut Writer, rec: &Record) -> Result<(), AllocError>
-    ensures { WritesMembers result out.old out.new (to_moments (row rec.now)) }
-{
-    put_host(out, rec)?;
-    put_truth(out, "isCoordinatingDiscoveryServer", rec.is_coordinating)?;
-    put_moments(out, rec)
-}
-
-fn put_to_metadata(out: &mut Writer, rec: &Record) -> Result<(), AllocError>
-    ensures { WritesMembers result out.old out.new (to_metadata (row rec.now)) }
-{
-    put_lease(out, rec.lease)?;
-    put_metadata(out, &rec.metadata)
-}
-
-fn put_to_vips(out: &mut Writer, rec: &Record) -> Result<(), AllocError>
-    ensures { WritesMembers result out.old out.new (to_vips (row rec.now)) }
-{
-    put_state(out, rec)?;
-    put_text(out, "statusPageUrl", &rec.status_page_url)?;
-    put_text(out, "vipAddress", &rec.vip_address)
-}
-
-fn put_full(out: &mut Writer, rec: &Record, action: Option<Action>) -> Result<(), AllocError>
-    ensures { OnOk result (AddsTokens out.old out.new (json_tokens (outline (mention_tree Full (row rec.now, action))))) }
-{
-    start(out)?;
-    put_done(out, action)?;
-    put_to_urls(out, rec)?;
-    put_to_moments(out, rec)?;
-    put_to_metadata(out, rec)?;
-    put_to_vips(out, rec)?;
-    end(out)
-}
-
-// The compact form.
-
-fn put_to_hosts(out: &mut Writer, rec: &Record) -> Result<(), AllocError>
-    ensures { WritesMembers result out.old out.new (to_hosts (row rec.now)) }
-{
-    put_text(out, "app", &rec.key.app)?;
-    put_data_center(out, &rec.data_center)?;
-    put_host(out, rec)
-}
-
-fn put_from_moments(out: &mut Writer, rec: &Record) -> Result<(), AllocError>
-    ensures { WritesMembers result out.old out.new (from_moments (row rec.now)) }
-{
-    put_moments(out, rec)?;
-    put_state(out, rec)?;
-    put_text(out, "vipAddress", &rec.vip_address)
-}
-
-fn put_compact(out: &mut Writer, rec: &Record, action: Option<Action>) -> Result<(), AllocError>
-    ensures { OnOk result (AddsTokens out.old out.new (json_tokens (outline (mention_tree Compact (row rec.now, action))))) }
-{
-    start(out)?;
-    put_done(out, action)?;
-    put_to_hosts(out, rec)?;
-    put_from_moments(out, rec)?;
-    end(out)
-}
-
-fn put_instance(
-    out: &mut Writer,
-    form: Form,
+/// The texts of an instance in the full and in the compact form, as compact JSON, with what was done
+/// to it where that is said.
+///
+/// # Errors
+///
+/// `OutOfMemory` alone.
+pub fn write_texts(
+    alloc: Global,
     rec: &Record,
     action: Option<Action>,
-) -> Result<(), AllocError>
-    ensures { OnOk result (AddsTokens out.old out.new (json_tokens (outline (mention_tree form (row rec.now, action))))) }
+) -> Result<(Vec<u8>, Vec<u8>), Fault>
+    ensures full { IfOk result (λ t. IsTextOf Full t.0.items (row rec.now, action)) }
+    ensures compact { IfOk result (λ t. IsTextOf Compact t.1.items (row rec.now, action)) }
+    ensures memory { IfErr result (λ e. e ≡ OutOfMemory) }
 {
-    match form {
-        Form::Full => put_full(out, rec, action),
-        Form::Compact => put_compact(out, rec, action),
-    }
+    // For the proof alone: what holds of every record, and that its app's name is UTF-8.
+    well_formed(rec);
+    let _app = rec.key.app.as_str();
+    let texts = front(alloc, rec, action)?;
+    let texts = with_back(texts, rec, action)?;
+    Ok(texts.ended()?)
 }
 
-/// The text of an instance in a form, as compact JSON, with what was done to it where that is said.
+/// The text of an instance in a form, as [`write_texts`] gives it.
 ///
 /// # Errors
 ///
@@ -169,12 +151,11 @@ pub fn write_text(
     ensures text { IfOk result (λ v. IsTextOf form v.items (row rec.now, action)) }
     ensures memory { IfErr result (λ e. e ≡ OutOfMemory) }
 {
-    // For the proof alone: what holds of every record, and that its app's name is UTF-8.
-    well_formed(rec);
-    let _app = rec.key.app.as_str();
-    let mut out = Writer::new(Vec::with_capacity(alloc, usual(form))?);
-    put_instance(&mut out, form, rec, action)?;
-    Ok(out.into_inner())
+    let (full, compact) = write_texts(alloc, rec, action)?;
+    Ok(match form {
+        Form::Full => full,
+        Form::Compact => compact,
+    })
 }
 
 /// The text of a mention in the full form, as [`write_text`] gives it.

@@ -6,6 +6,7 @@
 
 mod delta;
 mod document;
+mod groups;
 mod instance;
 mod join;
 pub mod laws;
@@ -18,5 +19,5 @@ mod texts;
 
 pub use disco_query::Query;
 pub use document::{write_document, write_full};
-pub use instance::{text_full, write_text};
+pub use instance::{text_full, write_text, write_texts};
 pub use texts::Texts;

@@ -1,8 +1,7 @@
 //! The texts in places by key, some of which may stand empty.
-ghost use Rattle.std.specs.Prelude.{◌≡◌, IfOk, IsSome, None, OnErr, OnOk, Some, false, option_map};
+ghost use Rattle.std.specs.Prelude.{◌≡◌, IfOk, IsSome, None, OnErr, OnOk, Some, option_map};
 ghost use Rattle.std.specs.FinMap as finmap;
 ghost use Rattle.std.specs.Option.{option_flatten};
-ghost use Rattle.disco_values.specs.Key.{same_key};
 ghost use Rattle.disco_values.specs.declared.key.Key.{Key};
 ghost use Rattle.disco_writer.specs.Joined.{shown_by, shown_one, walked};
 ghost use Rattle.disco_writer.specs.Empty.{OpensOnly, ShowSame, SweepsAt};

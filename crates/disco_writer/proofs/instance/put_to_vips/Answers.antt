@@ -1,5 +1,0 @@
-use Rattle.disco_writer.proofs.Adding.{then, at_last}
-use Rattle.disco_writer.proofs.instance.put_to_vips.Goals as goal
-
-pub returns : goal.returns
-returns c = at_last _ _ _ (then c.in_ok-put_state.ensures c.in_ok-put_text.ensures) c.put_text-2.ensures
