@@ -8,6 +8,7 @@ mod cert;
 mod entries;
 mod fault;
 mod form;
+mod front;
 mod key;
 mod merging;
 mod status;

@@ -4,6 +4,7 @@ ghost use Rattle.disco_values.specs.Text.{in_upper_case};
 ghost use Rattle.disco_values.specs.declared.fault.Fault.TheVariants.{OutOfMemory};
 
 use crate::fault::Fault;
+use crate::front::{front_of, order};
 use std::alloc::{AllocError, Global};
 use std::cmp::Ordering;
 use std::marker::Model;
@@ -12,14 +13,19 @@ use std::marker::Model;
 #[derive(Debug, Drop)]
 pub struct Text {
     text: String,
+    /// The first bytes as a number, by which most texts are told apart with no look at their bytes.
+    front: u64,
 }
 
 impl Model for Text {
-    ghost use Rattle.std.specs.Prelude.{List, ℕ, string_bytes};
+    ghost use Rattle.std.specs.Prelude.{◌≡◌, List, ℕ, string_bytes};
+    ghost use Rattle.disco_values.specs.Front.{front_of};
 
     ghost Value = { List ℕ };
 
     ghost view = { λ t. string_bytes t.text };
+
+    ghost invariant = { λ t. t.front ≡ front_of (string_bytes t.text) };
 }
 
 impl Text {
@@ -38,7 +44,8 @@ impl Text {
     pub fn from_string(text: String) -> Text
         ensures { result ≡ string_bytes text }
     {
-        Text { text }
+        let front = front_of(text.as_str());
+        Text { text, front }
     }
 
     /// The empty text. Takes no memory.
@@ -92,7 +99,10 @@ impl Clone for Text {
     ghost is_clone = { λ s t. t ≡ s };
 
     fn clone(&self) -> Result<Text, AllocError> {
-        Ok(Text::from_string(self.text.clone()?))
+        Ok(Text {
+            text: self.text.clone()?,
+            front: self.front,
+        })
     }
 }
 
@@ -144,6 +154,6 @@ impl Ord for Text {
     ghost matches_eq = { texts_ties };
 
     fn cmp(&self, other: &Text) -> Ordering {
-        self.as_str().cmp(other.as_str())
+        order(self.as_str(), self.front, other.as_str(), other.front)
     }
 }
