@@ -1,5 +1,5 @@
 //! Operations by what names them.
-ghost use Rattle.std.specs.Prelude.{◌≡◌, ◌≢◌, IfOk, IfErr, Ok, OnOk, false, true};
+ghost use Rattle.std.specs.Prelude.{◌≡◌, IfOk, IfErr, Ok, OnOk, false, true};
 ghost use Rattle.std.specs.Str.{bytes_eq};
 ghost use Rattle.disco_instance.specs.Instance.{Gives};
 ghost use Rattle.disco_values.specs.Text.{in_upper_case};
@@ -27,12 +27,23 @@ pub fn key_named(alloc: Global, app: &Text, id: Text) -> Result<Key, Fault>
     Ok(Key { app, id })
 }
 
-/// Refuses a name that isn't an app's own in upper case, as `MismatchedApp`, and for want of memory.
-fn check_app(alloc: Global, name: &Text, own: &Text) -> Result<(), Fault>
-    ensures right { OnOk result (bytes_eq (in_upper_case name.now) own.now ≡ true) }
-    ensures wrong { IfErr result (λ e. e ≢ OutOfMemory → (bytes_eq (in_upper_case name.now) own.now ≡ false) × (e ≡ MismatchedApp)) }
+/// Whether a name in upper case is an app's own. The own name counts exactly.
+fn is_own(name: &[u8], own: &[u8]) -> bool
+    ensures { result ≡ bytes_eq (in_upper_case name.now) own.now }
 {
-    if upper(alloc, name.as_str())? != *own {
+    name.len() == own.len()
+        && name
+            .iter()
+            .zip(own)
+            .all(|(byte, own)| byte.to_ascii_uppercase() == *own)
+}
+
+/// Refuses a name that isn't an app's own in upper case, as `MismatchedApp`. Takes no memory.
+fn check_app(name: &Text, own: &Text) -> Result<(), Fault>
+    ensures right { OnOk result (bytes_eq (in_upper_case name.now) own.now ≡ true) }
+    ensures wrong { IfErr result (λ e. (bytes_eq (in_upper_case name.now) own.now ≡ false) × (e ≡ MismatchedApp)) }
+{
+    if !is_own(name.as_str().as_bytes(), own.as_str().as_bytes()) {
         return Err(Fault::MismatchedApp);
     }
     Ok(())
@@ -48,7 +59,7 @@ pub fn register(alloc: Global, app: &Text, body: &[u8]) -> Result<Op, Fault>
     ensures { Gives op_view result (registers app.now (registration_of body.now)) }
 {
     let posted = read_registration(alloc, body)?;
-    check_app(alloc, app, &posted.key.app)?;
+    check_app(app, &posted.key.app)?;
     Ok(Op::Register(posted))
 }
 
