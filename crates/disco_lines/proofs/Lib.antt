@@ -1,2 +1,3 @@
 mod Feeds
+mod First
 mod Split

@@ -1,26 +1,18 @@
 -- Words of a line taken off its front one by one.
-use Rattle.std.proofs.Common.{◌≡◌, ◌⊎◌, inl, inr, ℕ, ◌+◌, ◌-◌, ◌≤◌, Bool, not, true, false, cond, List, [], ◌∷◌, length, take, drop, Option, Some, None, MatchBool, option_map, Bor, nat_lt, refl, ap, sym, ◌∙◌, arith}
+use Rattle.std.proofs.Common.{◌≡◌, ◌⊎◌, inl, inr, ℕ, ◌+◌, ◌-◌, ◌≤◌, Bool, not, true, false, cond, List, [], ◌∷◌, length, take, drop, Option, Some, None, MatchBool, option_map, Bor, refl, ap, sym, ◌∙◌, arith}
 use Rattle.std.specs.List.{position, position_or_len, onto_first, slice_split}
 use Rattle.std.specs.Option.{is_some}
-use Rattle.std.proofs.lemmas.Bool.{ltb-true, ltb-false}
 use Rattle.std.proofs.lemmas.List.{take_rest}
 use Rattle.std.proofs.lemmas.List.Splits.{slice_split_first, join_with_byte-slice_split}
+use Rattle.disco_lines.proofs.First.{told_some, told_none}
 use Rattle.disco_lines.specs.Words.{words, joined}
 use Rattle.disco_lines.specs.Steps.{is_space, words_left}
-
-some_at : (b : Bool) (n at : ℕ) → Some at ≡ cond b (Some n) None → (b ≡ true) × (at ≡ n)
-some_at true n at e = (refl, cc)
-some_at false n at e = absurd (cc)
-
-none_at : (b : Bool) (n : ℕ) → None ≡ cond b (Some n) None → b ≡ false
-none_at true n e = absurd (cc)
-none_at false n e = refl
 
 -- the first part of a line, up to a space
 pub parted : (line : List ℕ) (at : ℕ) → Some at ≡ position is_space line → words line ≡ take at line ∷ words (take (length line - (at + 1)) (drop (at + 1) line))
 parted line at e =
-    let found : (nat_lt (position_or_len is_space line) (length line) ≡ true) × (at ≡ position_or_len is_space line) = some_at _ _ _ e in
-    rw (take_rest line (at + 1), found.1) (slice_split_first is_space line 0 (ltb-true _ _ found.0))
+    let found = told_some is_space line at e in
+    rw (take_rest line (at + 1), found.0) (slice_split_first is_space line 0 (omega (arith, found.0, found.1)))
 
 split_on : (t : Bool) → (t ≡ true) ⊎ (t ≡ false)
 split_on true = inl refl
@@ -44,7 +36,7 @@ all_one (b ∷ bs) far = elim (split_on (is_space b)) [
 
 -- a line without a space is one word
 pub unparted : (line : List ℕ) → None ≡ position is_space line → words line ≡ line ∷ []
-unparted line e = all_one line (ltb-false _ _ (none_at _ _ e))
+unparted line e = all_one line (told_none is_space line e)
 
 first_of : (t : Bool) (b : ℕ) (parts : List (List ℕ)) → (word : List ℕ) × (more : List (List ℕ)) × (cond t ([] ∷ parts) (onto_first b parts) ≡ word ∷ more)
 first_of true b parts = ([], parts, refl)

@@ -141,7 +141,7 @@ fn write_answer<W: Write>(reply: &Reply, out: &mut W) -> io::Result<()>
 {
     match reply {
         Reply::Changed(version) => writeln!(out, "ok {version}"),
-        Reply::Same => writeln!(out, "same"),
+        Reply::Same => out.write_all(b"same\n"),
         Reply::Doc(payload) => write_document(payload, out),
         Reply::Cleaned(base) => writeln!(out, "base {base}"),
         Reply::Closed(minute) => write_closed(minute, out),

@@ -4,6 +4,7 @@
 #![tactic(auto)]
 
 mod answers;
+mod find;
 mod line;
 mod lines;
 mod load;

@@ -5,6 +5,7 @@ ghost use Rattle.disco_lines.specs.Lines.{alone, client_and_event, event_named, 
 ghost use Rattle.disco_lines.specs.Lines.{step_at, step_named, step_of_instance};
 ghost use Rattle.disco_lines.specs.Words.{client_of_word, joined, moment_of_word, only_moment, only_text};
 ghost use Rattle.disco_operations.specs.Query.{entries_of_query};
+ghost use Rattle.disco_world.specs.declared.event.Event.TheVariants as event;
 ghost use Rattle.disco_world.specs.declared.event.Event.TheVariants.{Certify, Take};
 ghost use Rattle.disco_world.specs.declared.event.Step.TheVariants.{Metadata};
 
@@ -57,10 +58,20 @@ fn event_named(alloc: Global, keyword: &str, words: Words) -> Result<Option<Even
     ensures memory { IfErr result (λ e. e ≡ OutOfMemory) }
 {
     match keyword {
+        // What comes most often is looked for first.
+        "renew" | "status" => step_event(alloc, keyword, words),
         "take" => take_of(alloc, words),
         "certified" => certify_of(alloc, words),
         _ => Ok(step_named(alloc, keyword, words)?.map(|step| Event::Step(step))),
     }
+}
+
+/// The event of a step behind whose keyword a moment, an app and an id stand.
+fn step_event(alloc: Global, keyword: &str, words: Words) -> Result<Option<Event>, Fault>
+    ensures value { IfOk result (λ found. found ≡ option_map event.Step (step_of_instance keyword.now words.entry)) }
+    ensures memory { IfErr result (λ e. e ≡ OutOfMemory) }
+{
+    Ok(step_of_instance(alloc, keyword, words)?.map(|step| Event::Step(step)))
 }
 
 /// What a keyword and the words behind it mean, where it gives no client a document.

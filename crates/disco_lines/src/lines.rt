@@ -1,30 +1,25 @@
 //! All lines of the input.
 ghost use Rattle.std.specs.Prelude.{◌≡◌, ◌⊎◌, IfOk, IfErr, OnOk, Some, map};
 ghost use Rattle.std.specs.Io.KnownBytes.{IsAtEnd};
-ghost use Rattle.std.specs.List.{after_first, before_first, position};
+ghost use Rattle.std.specs.List.{after_first, before_first};
 ghost use Rattle.disco_values.specs.declared.fault.Fault.TheVariants.{OutOfMemory, ReadFailed};
 ghost use Rattle.disco_lines.specs.Lines.{IsFirstBadLine, meanings};
 ghost use Rattle.disco_lines.specs.Steps.{is_feed};
 ghost use Rattle.disco_lines.specs.Input.{AreRead, NamesBadLine};
 ghost use Rattle.disco_reader.specs.Causes.{Cause};
 
+use crate::find::first_of;
 use crate::line::event_of;
 use disco_streams::{Source, read_all};
 use disco_values::Fault;
 use disco_world::Event;
 use std::alloc::Global;
 
-fn first_feed(input: &[u8]) -> Option<usize>
-    ensures { result ≡ position is_feed input.now }
-{
-    input.iter().position(|b| *b == b'\n')
-}
-
 fn split_line(input: &[u8]) -> (&[u8], &[u8])
     ensures line { result.0.now ≡ before_first is_feed input.now }
     ensures rest { result.1.now ≡ after_first is_feed input.now }
 {
-    match first_feed(input) {
+    match first_of(b'\n', input) {
         Some(at) => (&input[..at], &input[at + 1..]),
         None => (input, &[]),
     }

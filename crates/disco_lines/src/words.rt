@@ -1,9 +1,9 @@
 //! Words of a line.
 ghost use Rattle.std.specs.Prelude.{◌≡◌, ◌∷◌, [], ℕ, List, MatchBool, MatchOption, option_map};
-ghost use Rattle.std.specs.List.{position};
-ghost use Rattle.disco_lines.specs.Steps.{is_space, words_left};
+ghost use Rattle.disco_lines.specs.Steps.{words_left};
 ghost use Rattle.disco_lines.specs.Words.{joined, only, words};
 
+use crate::find::first_of;
 use std::marker::Model;
 
 /// The words of a line that are still to be read. One space stands between two words.
@@ -21,17 +21,11 @@ impl<'a> Model for Words<'a> {
     ghost view = { λ w. words_left (option_map (λ r. r.now) w.rest) };
 }
 
-fn first_space(line: &[u8]) -> Option<usize>
-    ensures { result ≡ position is_space line.now }
-{
-    line.iter().position(|b| *b == b' ')
-}
-
 /// The first word of a line, and what stands behind the space that follows it.
 fn split_word(line: &[u8]) -> (&[u8], Option<&[u8]>)
     ensures { words line.now ≡ result.0.now ∷ words_left (option_map (λ r. r.now) result.1) }
 {
-    match first_space(line) {
+    match first_of(b' ', line) {
         Some(at) => (&line[..at], Some(&line[at + 1..])),
         None => (line, None),
     }

@@ -6,4 +6,4 @@ pub returns-in-Some : goal.returns-in-Some
 returns-in-Some c = parted c.args.line.now c.in-Some.at c.in-Some.ensures
 
 pub returns-in-None : goal.returns-in-None
-returns-in-None c = unparted c.args.line.now (sym c.in-None.is ∙ c.first_space.ensures)
+returns-in-None c = unparted c.args.line.now (sym c.in-None.is ∙ c.first_of.ensures)
