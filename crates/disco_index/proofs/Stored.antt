@@ -1,7 +1,7 @@
 -- The finite map that a tree's entries stand for.
 use Rattle.std.proofs.Common.{◌≡◌, Bool, true, false, ◌&&◌, cond, T, List, [], ◌∷◌, map, filter, Option, Some, None, refl, sym, ap, subst, ◌∙◌}
 use Rattle.std.specs.FinMap.{FinMap, entries, entries_sorted, from_entries, from_sorted, entries-from_sorted, get, get-entries, get-from_entries, get-from_sorted, same_map}
-use Rattle.std.specs.FinMap.Entries.{below_all, find, is_sorted, put, by_order, same_entries}
+use Rattle.std.specs.FinMap.Entries.{below_all, find, is_sorted, same_entries}
 use Rattle.std.specs.List.{AllByRecursion}
 use Rattle.std.specs.Option.{unwrap_or, is_some}
 use Rattle.std.specs.Ordering.{is_eq, is_lt}
@@ -12,10 +12,6 @@ use Rattle.disco_history.proofs.Keys.{keys_total, exact_keys, same_key-sym}
 use Rattle.disco_history.proofs.Sorted.{both_first, both_second, is_less}
 
 -- ---- entries in order are those of their map
-
-put_first : {X : Type 0} (e : Key × X) (es : List (Key × X)) → T (below_all key_cmp e.0 es) → put key_cmp e.0 e.1 es ≡ e ∷ es
-put_first e [] h = refl
-put_first e (f ∷ es) h = ap (λ o. by_order o (e ∷ f ∷ es) ((f.0, e.1) ∷ es) (f ∷ put key_cmp e.0 e.1 es)) (is_less (key_cmp e.0 f.0) (both_first _ _ h))
 
 pub entries_stored : {X : Type 0} (es : List (Key × X)) → T (is_sorted key_cmp es) → entries (from_entries {R = key_cmp} es) ≡ es
 entries_stored es h =

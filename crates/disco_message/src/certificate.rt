@@ -1,6 +1,6 @@
 //! The certificate of a received document.
 ghost use Rattle.std.specs.Prelude.{◌≡◌, List, ℕ};
-ghost use Rattle.std.specs.List.{after_first, before_first, position};
+ghost use Rattle.std.specs.List.{before_first, position};
 ghost use Rattle.disco_message.specs.Certificate.{behind_space, cert_spelled, is_blank, only_cert};
 ghost use Rattle.disco_message.specs.Few.{FewAre};
 

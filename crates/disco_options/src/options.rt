@@ -1,5 +1,5 @@
 //! Options of commands.
-ghost use Rattle.std.specs.Prelude.{◌≡◌, ◌<◌, ◌≤◌, IfOk, codes, false, option_map, true};
+ghost use Rattle.std.specs.Prelude.{◌≡◌, ◌<◌, ◌≤◌, IfOk, false, option_map, true};
 ghost use Rattle.clap.specs.Words.{app_of, found_of, rows_of, rule_of};
 ghost use Rattle.disco_options.specs.Options.{flag_given, flag_rule, number_given, number_rule, text_given, text_rule, within, with_settings};
 

@@ -16,7 +16,7 @@ use Rattle.disco_hub.specs.State.{HubStandsFor, rules_of}
 use Rattle.disco_hub.specs.Cancelling.{Cancels, HasCancelled}
 use Rattle.disco_hub.specs.Transitions.{Writes}
 use Rattle.disco_hub.proofs.Cancels.{at_history, left, says}
-use Rattle.disco_press.specs.Desks.{CountsByNone, DeskState, Notes, NotesCancels, NotesNothing, note_done}
+use Rattle.disco_press.specs.Desks.{CountsByNone, DeskState, Notes, NotesCancels, note_done}
 use Rattle.disco_press.proofs.Keeping.{changes_done, history_done, noted_is}
 
 -- ---- one cancel
@@ -75,12 +75,3 @@ module _ (old mid new : DeskState) (now : ℕ) (ks : List Key) (i : ℕ) (k : Ke
         ∙ ap (λ h. h ++ changes_done one.change) (so_far.cancels p stands)
         ∙ append_assoc (history p) so_far.changes (changes_done one.change);
   }
-
--- a refused cancel notes nothing
-pub noted_still : (old mid new : DeskState) (then : Past → Past) → NotesNothing mid new → NotesCancels old mid then → NotesCancels old new then
-noted_still old mid new then same so_far = record {
-  changes = so_far.changes;
-  noted = (same.0 ∙ so_far.noted.0, same.1 ∙ so_far.noted.1);
-  counted = (same.2.0 ∙ so_far.counted.0, same.2.1 ∙ so_far.counted.1);
-  cancels = so_far.cancels;
-}

@@ -3,10 +3,10 @@ use Rattle.std.proofs.Common.{◌≡◌, ℕ, ◌+◌, ◌<◌, List, [], ◌∷
 use Rattle.std.specs.Io.KnownBytes.{Keeps, Consumes, prepend_known}
 use Rattle.httparse.specs.Ascii.{crlf_bytes}
 use Rattle.std.proofs.Math.Seq.{drop-append-add}
-use Rattle.httparse.specs.Grammar.{print_chunk_line, chunk_size, RequestHead, IsRequestHead, print_request, ResponseHead, IsResponseHead, print_response, HasNoRequest, HasNoResponse, HasNoChunkLine, HasNoSection}
+use Rattle.httparse.specs.Grammar.{print_chunk_line, chunk_size, RequestHead, IsRequestHead, print_request, ResponseHead, IsResponseHead, print_response, HasNoChunkLine, HasNoSection}
 use Rattle.httparse.proofs.GrammarLemmas.{request_unique, response_unique}
 use Rattle.httparse.proofs.ChunkLemmas.{chunk_line_unique}
-use Rattle.disco_message.specs.declared.framing.Framing.TheVariants.{Sized, Chunked}
+use Rattle.disco_message.specs.declared.framing.Framing.TheVariants.{Chunked}
 use Rattle.disco_message.specs.declared.limits.Limits.{Limits}
 use Rattle.disco_message.specs.declared.received.Extent.{Extent}
 use Rattle.disco_message.specs.declared.received.Extent.TheVariants.{Framed, UntilEnd}
@@ -46,11 +46,6 @@ module _ (IsSo : List ℕ → Type 0) where
   came_past None b c front IsMore taken so h = tt
   came_past (Some stream) None c front IsMore taken so h = elim taken [ ]
   came_past (Some stream) (Some after) c front IsMore taken so h = came_behind stream front after c IsMore taken so h
-
--- a body of so many bytes, of which fewer came
-pub no_sized : (limits : Limits) (n : ℕ) (given : List ℕ) → length given < n → HasNoBody limits (Sized n) given
-no_sized limits n given few body rest reads =
-    omega (arith, few, reads.1, ap length reads.2, length-append body rest)
 
 -- the line of a chunk that stands at the front is the one
 line_is : (limits : Limits) (given after rest : List ℕ) (m n : ℕ) → HasSize limits m given after → HasSize limits n given rest → (m ≡ n) × (after ≡ rest)
@@ -142,9 +137,6 @@ no_chunked limits given none body rest reads = none reads.0 reads.1 rest reads.2
 
 -- requests
 
-pub no_head_came : (limits : Limits) (given : List ℕ) → HasNoRequest given → HasNone limits given
-no_head_came limits given none a rest takes = none takes.head takes.after takes.begins.reads
-
 head_and : (limits : Limits) (h : RequestHead) (says : Heading) (given : List ℕ) → IsRequestHead h → heading h ≡ Ok says → HasNoBody limits says.framing given → HasNone limits (print_request h ++ given)
 head_and limits h says given is said none a rest takes =
     let same = request_unique (print_request h ++ given) h takes.head given takes.after (is, refl) takes.begins.reads in
@@ -163,9 +155,6 @@ no_body_came limits (Some stream) mid b says found cut =
     (known_is mid after (λ after. Came (HasNoBody limits says.framing) after b) found.4 cut)
 
 -- replies
-
-pub no_reply_head_came : (limits : Limits) (given : List ℕ) → HasNoResponse given → HasNoReply limits given
-no_reply_head_came limits given none says body rest takes = absurd (none takes.head takes.after takes.begins.reads)
 
 ends_late : (limits : Limits) (extent : Extent) (given body rest : List ℕ) → HasNoExtent limits extent given → ReadsExtent limits extent given body rest → extent ≡ UntilEnd
 ends_late limits (Framed framing) given body rest none reads = absurd (none body rest reads)
@@ -188,11 +177,3 @@ no_extent_came limits (Some stream) mid b says found cut =
     came_behind (HasNoReply limits) stream (print_response h) after b (HasNoExtent limits says.extent) reads.1
     (λ given none. reply_head_and limits h says given reads.0 found.3 none)
     (known_is mid after (λ after. Came (HasNoExtent limits says.extent) after b) found.4 cut)
-
--- a body that goes on to the end of the input
-pub extent_so_far : (limits : Limits) (a b c : Option (List ℕ)) (body unread : List ℕ) → Consumes a b body → Keeps b (prepend_known unread c) → IfSome a (λ after. Came (HasNoExtent limits UntilEnd) after c)
-extent_so_far limits None b c body unread taken k = tt
-extent_so_far limits (Some after) None c body unread taken k = elim taken [ ]
-extent_so_far limits (Some after) (Some input) None body unread taken k = elim k [ ]
-extent_so_far limits (Some after) (Some input) (Some left) body unread taken k =
-    (body ++ unread, taken ∙ ap (λ (xs : List ℕ). body ++ xs) (sym k) ∙ sym (append_assoc body unread left), tt)

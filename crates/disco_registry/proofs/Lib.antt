@@ -1,5 +1,4 @@
 pub mod Histories
-mod Finding
 mod Ranges
 mod Readies
 mod Placing

@@ -1,6 +1,6 @@
 //! The table of paths.
 ghost use Rattle.std.specs.Prelude.{◌≡◌, IfOk, OnOk, option_map};
-ghost use Rattle.disco_routes.specs.Paths.{behind_base, path_place};
+ghost use Rattle.disco_routes.specs.Paths.{path_place};
 ghost use Rattle.disco_routes.specs.Places.{place_view};
 ghost use Rattle.disco_routes.specs.Table.{place_filled, table, with_apps, with_instances, with_vips};
 

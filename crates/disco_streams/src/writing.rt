@@ -1,5 +1,4 @@
 //! Whole texts that are written.
-ghost use Rattle.std.specs.Prelude.{◌≡◌, ◌≤◌, length};
 ghost use Rattle.disco_streams.specs.Writes.{WritesBytes};
 
 use disco_reader::{Failed, Sink};
