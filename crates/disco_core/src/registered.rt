@@ -15,7 +15,7 @@ ghost use Rattle.disco_queue.specs.Queue as recent;
 ghost use Rattle.disco_registry.specs.Accept.{MayRefuse, accepts};
 ghost use Rattle.disco_registry.specs.Commit as commit;
 ghost use Rattle.disco_registry.specs.Commit.{Takes, changes_properly, done_by, held_after};
-ghost use Rattle.disco_registry.specs.Op.{OpView, op_view, op_key, renew};
+ghost use Rattle.disco_registry.specs.Op.{OpView, op_view, op_key, register, renew};
 ghost use Rattle.disco_registry.specs.State as registry;
 ghost use Rattle.disco_documents.specs.Documents.{IsWritten, asked_by};
 ghost use Rattle.disco_query.specs.Query.{is_delta};
@@ -158,8 +158,8 @@ fn with_kept(
     })
 }
 
-/// Makes the registry ready for an operation. Refused as the operation is, and as `OutOfMemory`. A
-/// renewal's key is handed on, and not copied.
+/// Makes the registry ready for an operation. Refused as the operation is, and as `OutOfMemory`. The
+/// record of a registration is moved on, and so is the key of any other operation.
 fn accept(held: &mut Registry, op: Op, now: u64) -> Result<Ready, Fault>
     ensures same { registry.IsSameRegistry held.old held.new }
     ensures ready { IfOk result (λ r. accepts held.old (op_view op) now ≡ Ok r.change × commit.IsReady held.new r.change) }
@@ -168,11 +168,25 @@ fn accept(held: &mut Registry, op: Op, now: u64) -> Result<Ready, Fault>
     ensures refused { IfErr result (MayRefuse held.old (op_view op) now) }
 {
     match op {
+        Op::Register(posted) => accept_registration(held, posted, now),
         Op::Renew(key) => accept_renewal(held, key, now),
         other => accept_other(held, other, now),
     }
 }
 
+fn accept_registration(held: &mut Registry, posted: Record, now: u64) -> Result<Ready, Fault>
+    ensures same { registry.IsSameRegistry held.old held.new }
+    ensures ready { IfOk result (λ r. accepts held.old (register (row posted)) now ≡ Ok r.change × commit.IsReady held.new r.change) }
+    ensures moment { IfOk result (λ r. r.moment ≡ now) }
+    ensures asked { IfOk result (λ r. (r.key ≡ op_key (register (row posted))) × (r.renewal ≡ false)) }
+    ensures refused { IfErr result (MayRefuse held.old (register (row posted)) now) }
+{
+    let key = posted.key.clone()?;
+    let ready = held.ready(Op::Register(posted), now)?;
+    with_kept(ready, key, false, now)
+}
+
+/// An operation has the size of a record, so a renewal, which comes most often, isn't moved as one.
 fn accept_renewal(held: &mut Registry, key: Key, now: u64) -> Result<Ready, Fault>
     ensures same { registry.IsSameRegistry held.old held.new }
     ensures ready { IfOk result (λ r. accepts held.old (renew key) now ≡ Ok r.change × commit.IsReady held.new r.change) }
@@ -180,8 +194,9 @@ fn accept_renewal(held: &mut Registry, key: Key, now: u64) -> Result<Ready, Faul
     ensures asked { IfOk result (λ r. (r.key ≡ key) × (r.renewal ≡ true)) }
     ensures refused { IfErr result (MayRefuse held.old (renew key) now) }
 {
-    let ready = held.ready_renewal(&key, now)?;
-    with_kept(ready, key, true, now)
+    let op = Op::Renew(key);
+    let ready = held.ready_borrowed(&op, now)?;
+    with_kept(ready, into_key(op), true, now)
 }
 
 fn accept_other(held: &mut Registry, op: Op, now: u64) -> Result<Ready, Fault>
@@ -192,9 +207,22 @@ fn accept_other(held: &mut Registry, op: Op, now: u64) -> Result<Ready, Fault>
     ensures refused { IfErr result (MayRefuse held.old (op_view op) now) }
 {
     let renewal = is_renewal(&op);
-    let key = op.key().clone()?;
-    let ready = held.ready(op, now)?;
-    with_kept(ready, key, renewal, now)
+    let ready = held.ready_borrowed(&op, now)?;
+    with_kept(ready, into_key(op), renewal, now)
+}
+
+/// The key that an operation is about.
+fn into_key(op: Op) -> Key
+    ensures { result ≡ op_key (op_view op) }
+{
+    match op {
+        Op::Register(posted) => posted.key,
+        Op::Cancel(key) => key,
+        Op::Renew(key) => key,
+        Op::SetStatus(key, _) => key,
+        Op::DropStatus(key, _) => key,
+        Op::Metadata(key, _) => key,
+    }
 }
 
 /// Makes the places and the texts that a change of what is held needs. Where its key is held, the places

@@ -267,18 +267,26 @@ impl Registry {
         }
     }
 
-    /// Makes a renewal ready, as [`Registry::ready`] does, of a key that stays its caller's.
+    /// Makes an operation ready that stays its caller's, as [`Registry::ready`] does. The record of a
+    /// registration is copied.
     ///
     /// # Errors
     ///
-    /// `NotFound`, and `OutOfMemory`.
-    pub fn ready_renewal(&mut self, key: &Key, now: u64) -> Result<Ready, Fault>
+    /// What the operation is refused as, and `OutOfMemory`.
+    pub fn ready_borrowed(&mut self, op: &Op, now: u64) -> Result<Ready, Fault>
         ensures same { IsSameRegistry self.old self.new }
-        ensures ready { IfOk result (λ r. accepts self.old (renew key.now) now ≡ Ok r × IsReady self.new r) }
-        ensures refused { IfErr result (MayRefuse self.old (renew key.now) now) }
+        ensures ready { IfOk result (λ r. accepts self.old (op_view op.now) now ≡ Ok r × IsReady self.new r) }
+        ensures refused { IfErr result (MayRefuse self.old (op_view op.now) now) }
     {
-        self.seek(key);
-        self.ready_renew(key, now)
+        self.seek(op.key());
+        match op {
+            Op::Register(posted) => self.ready_register(posted.copy()?, now),
+            Op::Cancel(key) => self.ready_cancel(key, now),
+            Op::Renew(key) => self.ready_renew(key, now),
+            Op::SetStatus(key, text) => self.ready_set_status(key, text, now),
+            Op::DropStatus(key, text) => self.ready_drop_status(key, text, now),
+            Op::Metadata(key, entries) => self.ready_metadata(key, entries, now),
+        }
     }
 
     /// Takes out the place that was made for another operation, and seeks the record of a key once,
