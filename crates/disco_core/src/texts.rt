@@ -16,6 +16,7 @@ use disco_values::{Action, Fault, Form, Key};
 use disco_writer::{Texts, write_texts};
 use std::alloc::Global;
 use std::marker::Model;
+use std::sync::Arc;
 
 /// The texts of what is held, in the full form and in the compact one.
 #[derive(Drop)]
@@ -37,17 +38,22 @@ impl Model for BothTexts {
     ghost view = { λ t. record { full = t.full; compact = t.compact } };
 }
 
-/// Makes a text ready under a key, which has one already where it is held.
-fn ready_one(texts: &mut Texts, key: &Key, text: Vec<u8>, held: bool) -> Result<(), Fault>
-    requires { held ≡ true → IsSome (kept_text_at texts.old key.now) }
+/// Makes a text ready under the key of a record, which has one already where it is held.
+fn ready_one(
+    texts: &mut Texts,
+    rec: &Arc<Record, Global>,
+    text: Vec<u8>,
+    held: bool,
+) -> Result<(), Fault>
+    requires { held ≡ true → IsSome (kept_text_at texts.old rec.now.value.key) }
     ensures same { IsSameTexts texts.old texts.new }
-    ensures ready { OnOk result (IsReadyFor texts.new key.now text.items) }
+    ensures ready { OnOk result (IsReadyFor texts.new rec.now.value.key text.items) }
     ensures memory { IfErr result (λ e. e ≡ OutOfMemory) }
 {
     if held {
-        texts.ready_over(key, text)
+        texts.ready_over(rec, text)
     } else {
-        texts.ready(key, text)
+        texts.ready(&rec.key, text)
     }
 }
 
@@ -81,15 +87,20 @@ impl BothTexts {
         self.compact.forget();
     }
 
-    fn ready_both(&mut self, rec: &Record, action: Action, held: bool) -> Result<(), Fault>
-        requires { held ≡ true → HasTextsAt self.old rec.now.key }
+    fn ready_both(
+        &mut self,
+        rec: &Arc<Record, Global>,
+        action: Action,
+        held: bool,
+    ) -> Result<(), Fault>
+        requires { held ≡ true → HasTextsAt self.old rec.now.value.key }
         ensures same { IsSameWritten self.old self.new }
-        ensures texts { OnOk result (HasTexts self.new (Some (row rec.now, action))) }
+        ensures texts { OnOk result (HasTexts self.new (Some (row rec.now.value, action))) }
         ensures memory { IfErr result (λ e. e ≡ OutOfMemory) }
     {
         let (full, compact) = write_texts(self.alloc, rec, Some(action))?;
-        ready_one(&mut self.full, &rec.key, full, held)?;
-        ready_one(&mut self.compact, &rec.key, compact, held)
+        ready_one(&mut self.full, rec, full, held)?;
+        ready_one(&mut self.compact, rec, compact, held)
     }
 
     /// Makes the texts of what a change puts, and places for them where its key isn't held. Refused

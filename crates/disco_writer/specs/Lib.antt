@@ -4,4 +4,5 @@ pub mod Groups
 pub mod Joined
 pub mod Kept
 pub mod Laws
+pub mod Named
 pub mod Tokens

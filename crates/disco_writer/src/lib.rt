@@ -12,6 +12,7 @@ mod join;
 pub mod laws;
 mod many;
 mod members;
+mod named;
 mod piece;
 mod places;
 mod selected;

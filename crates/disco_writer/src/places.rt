@@ -5,7 +5,9 @@ ghost use Rattle.std.specs.Option.{option_flatten};
 ghost use Rattle.disco_values.specs.declared.key.Key.{Key};
 ghost use Rattle.disco_writer.specs.Joined.{shown_by, shown_one, walked};
 ghost use Rattle.disco_writer.specs.Empty.{OpensOnly, ShowSame, SweepsAt};
+ghost use Rattle.disco_writer.specs.Named.{named_key};
 
+use crate::named::Named;
 use crate::piece::{Piece, Source};
 use disco_history::Places;
 use disco_values::{Bytes, Key};
@@ -76,4 +78,12 @@ pub(crate) fn sweep(places: &mut Places<Bytes>, key: &Key)
     if places.get(key).is_none() {
         places.close(key);
     }
+}
+
+/// Puts a text into the place of what is named, where it has one.
+pub(crate) fn put_named(places: &mut Places<Bytes>, named: Named, text: Bytes)
+    ensures there { IsSome (finmap.get places.old (named_key named)) → places.new ≡ finmap.insert places.old (named_key named) (Some text) }
+    ensures none { finmap.get places.old (named_key named) ≡ None → places.new ≡ places.old }
+{
+    places.put(named.key(), text);
 }

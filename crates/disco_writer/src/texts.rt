@@ -6,18 +6,21 @@ ghost use Rattle.std.specs.FinMap.{entries};
 ghost use Rattle.disco_writer.specs.Joined.{shown_by, walked};
 ghost use Rattle.disco_writer.specs.Kept.{HasNoEmpty, IsReadyFor, IsSameTexts, SetsText, none_kept, kept_text_at};
 
+use crate::named::Named;
 use crate::piece::Piece;
-use crate::places::{make, pieces_in, sweep, text_at};
+use crate::places::{make, pieces_in, put_named, sweep, text_at};
 use disco_history::Places;
+use disco_instance::Record;
 use disco_values::{Bytes, Fault, Key};
 use std::alloc::{AllocError, Global};
 use std::marker::Model;
+use std::sync::Arc;
 
 /// The text of each of some instances, and one that is put next.
 #[derive(Drop)]
 pub struct Texts {
     places: Places<Bytes>,
-    next: Option<(Key, Bytes)>,
+    next: Option<(Named, Bytes)>,
 }
 
 impl Model for Texts {
@@ -25,14 +28,15 @@ impl Model for Texts {
     ghost use Rattle.std.specs.FinMap.{code};
     ghost use Rattle.disco_writer.specs.Kept.{Kept};
     ghost use Rattle.disco_writer.specs.Empty.{OnlyNextIsEmpty};
+    ghost use Rattle.disco_writer.specs.Named.{named_text};
 
     ghost Value = { Kept };
 
     ghost coded = { Prim.hlevel (codes, code) };
 
-    ghost view = { λ t. record { places = t.places; next = t.next } };
+    ghost view = { λ t. record { places = t.places; next = named_text t.next } };
 
-    ghost invariant = { λ t. OnlyNextIsEmpty t.next t.places };
+    ghost invariant = { λ t. OnlyNextIsEmpty (named_text t.next) t.places };
 }
 
 impl Texts {
@@ -66,8 +70,8 @@ impl Texts {
         ensures same { IsSameTexts self.old self.new }
         ensures none_empty { HasNoEmpty self.new.places }
     {
-        if let Some((key, _)) = self.next.take() {
-            sweep(&mut self.places, &key);
+        if let Some((named, _)) = self.next.take() {
+            sweep(&mut self.places, named.key());
         }
     }
 
@@ -87,26 +91,26 @@ impl Texts {
         self.forget();
         let kept = key.clone()?;
         make(&mut self.places, key)?;
-        self.next = Some((kept, Bytes::from_vec(text)));
+        self.next = Some((Named::ByKey(kept), Bytes::from_vec(text)));
         Ok(())
     }
 
-    /// Keeps the text for the next `put` under a key that has one, as [`Texts::ready`] does. The
-    /// key's place is there, so it isn't sought.
+    /// Keeps the text for the next `put` under the key of a record, which has one, as [`Texts::ready`]
+    /// does. The key's place is there, so it isn't sought, and the record is shared until then.
     ///
     /// # Errors
     ///
     /// `OutOfMemory` alone. Then no place stands empty.
-    pub fn ready_over(&mut self, key: &Key, text: Vec<u8>) -> Result<(), Fault>
-        requires { IsSome (kept_text_at self.old key.now) }
+    pub fn ready_over(&mut self, rec: &Arc<Record, Global>, text: Vec<u8>) -> Result<(), Fault>
+        requires { IsSome (kept_text_at self.old rec.now.value.key) }
         ensures same { IsSameTexts self.old self.new }
-        ensures ready { OnOk result (IsReadyFor self.new key.now text.items) }
+        ensures ready { OnOk result (IsReadyFor self.new rec.now.value.key text.items) }
         ensures given_back { OnErr result (HasNoEmpty self.new.places) }
         ensures memory { IfErr result (λ e. e ≡ OutOfMemory) }
     {
         self.forget();
-        let own = key.clone()?;
-        self.next = Some((own, Bytes::from_vec(text)));
+        let shared = Arc::try_clone(rec)?;
+        self.next = Some((Named::ByRecord(shared), Bytes::from_vec(text)));
         Ok(())
     }
 
@@ -115,8 +119,8 @@ impl Texts {
         ensures put { (k : Key) (t : List ℕ) → IsReadyFor self.old k t → SetsText k (Some t) self.old self.new }
         ensures none_empty { HasNoEmpty self.new.places }
     {
-        if let Some((key, text)) = self.next.take() {
-            self.places.put(&key, text);
+        if let Some((named, text)) = self.next.take() {
+            put_named(&mut self.places, named, text);
         }
     }
 
