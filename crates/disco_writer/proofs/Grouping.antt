@@ -1,5 +1,5 @@
 -- The text of an object, group by group.
-use Rattle.std.proofs.Common.{◌≡◌, ℕ, ◌<◌, Bool, true, false, List, [], ◌∷◌, ◌++◌, fold, map, length, Option, Some, None, Result, Ok, Err, IfOk, refl, ap, sym, subst, ◌∙◌, append_assoc, append-nil, arith}
+use Rattle.std.proofs.Common.{◌≡◌, ℕ, ◌<◌, Bool, true, false, List, [], ◌∷◌, ◌++◌, fold, flat_map, map, length, Option, Some, None, refl, ap, sym, subst, ◌∙◌, append_assoc, append-nil, arith}
 use Rattle.std.specs.List.{AllByRecursion}
 use Rattle.std.specs.Str.{IsUtf8}
 use Rattle.std.proofs.lemmas.List.Concat.{flat_map-append}
@@ -7,64 +7,55 @@ use Rattle.std.proofs.lemmas.List.Sums.{fold-append}
 use Rattle.std.proofs.lemmas.Str.{IsUtf8-append}
 use Rattle.json.specs.Json as json
 use Rattle.json.specs.Print.{ends, print, print_from}
-use Rattle.json.specs.Token.{Token, end_object}
+use Rattle.json.specs.Token.{Token, begin_object, end_object, key}
 use Rattle.json.specs.Tree.{items_tokens, json_tokens, members_tokens}
-use Rattle.json.specs.Written.{Written}
 use Rattle.json.proofs.Printed.Tokens.{print_from-append}
 use Rattle.json.proofs.Printed.Utf8.{IsUtf8-are_ascii}
-use Rattle.serde_json.specs.Written.{compact_text, outline}
+use Rattle.serde_json.specs.Data.{Data}
+use Rattle.serde_json.specs.Written.{compact_text, members_outline, outline}
 use Rattle.serde_json.proofs.Texts.{print-outline}
 use Rattle.disco_values.specs.declared.action.Action.{Action}
 use Rattle.disco_values.specs.declared.form.Form.TheVariants.{Full, Compact}
 use Rattle.disco_instance.specs.Row.{Row}
-use Rattle.disco_documents.specs.Trees.{instance_tree, tree}
+use Rattle.disco_documents.specs.Trees.{in_order, instance_tree, tree}
 use Rattle.disco_writer.specs.Fields.{Fields}
 use Rattle.disco_writer.specs.Kept.{mention_tree}
-use Rattle.disco_writer.specs.Groups.{AddsGroup, IsObjectFront, compact_groups, flat, full_groups, object_front, group_fields, group_text, groups_behind}
+use Rattle.disco_writer.specs.Groups.{AppendsUtf8, IsObjectFront, behind_comma, compact_groups, flat, full_groups, group_fields, group_text, member_tokens, object_front}
 use Rattle.disco_writer.specs.declared.groups.Group.{Group}
 use Rattle.disco_writer.specs.declared.groups.Group.TheVariants as group
-use Rattle.disco_writer.specs.Tokens.{AddsTokens, member_tokens}
-use Rattle.disco_writer.proofs.Adding.{append_tokens, tree_tokens}
 
--- ---- a group is written
+-- ---- members
 
-pub ran : (old pushed text : List ℕ) (mark : ℕ) (o n : Written) (fs : Fields) → pushed ≡ old ++ mark ∷ [] → o.before ≡ pushed → o.tokens ≡ [] → AddsTokens o n (member_tokens fs)
-    → text ≡ n.before ++ print n.tokens → IsUtf8 (print n.tokens) → AddsGroup mark old text fs
-unfolding group_text
-ran old pushed text mark o n fs push before tokens adds is utf8 =
-    let all : n.tokens ≡ member_tokens fs = adds.tokens ∙ ap (λ (ts : List Token). ts ++ member_tokens fs) tokens in
-    record {
-      items = is ∙ (λ i. (adds.before ∙ before ∙ push) i ++ print (all i)) ∙ append_assoc old (mark ∷ []) (print (member_tokens fs));
-      utf8 = subst (λ (ts : List Token). IsUtf8 (print ts)) all utf8;
-    }
+append_tokens : (fs gs : List (List ℕ × Data)) → member_tokens (fs ++ gs) ≡ member_tokens fs ++ member_tokens gs
+append_tokens [] gs = refl
+append_tokens (f ∷ fs) gs = ap (λ ts. key f.0 ∷ (json_tokens (outline f.1) ++ ts)) (append_tokens fs gs) ∙ ap (λ ts. key f.0 ∷ ts) (sym (append_assoc (json_tokens (outline f.1)) (member_tokens fs) (member_tokens gs)))
 
-byte_first : (s : List ℕ) → IsUtf8 s → IsUtf8 (44 ∷ s)
-byte_first s is = IsUtf8-append (44 ∷ []) s (IsUtf8-are_ascii (44 ∷ []) refl) is
+-- an object's tokens are those of its members between brackets
+tree_tokens : (fs : List (List ℕ × Data)) → json_tokens (outline (tree fs)) ≡ begin_object ∷ (member_tokens fs ++ end_object ∷ [])
+tree_tokens fs = ap (λ ts. begin_object ∷ ts) (inner fs)
+  where
+    inner : (fs : List (List ℕ × Data)) → members_tokens (members_outline (in_order fs)) ≡ member_tokens fs ++ end_object ∷ []
+    inner [] = refl
+    inner (f ∷ fs) = ap (λ ts. key f.0 ∷ (json_tokens (outline f.1) ++ ts)) (inner fs) ∙ ap (λ ts. key f.0 ∷ ts) (sym (append_assoc (json_tokens (outline f.1)) (member_tokens fs) (end_object ∷ [])))
+
+-- ---- a group is appended
 
 -- the first one
-pub first : {old text : List ℕ} {fs : Fields} → old ≡ [] → AddsGroup 123 old text fs → IsObjectFront text (fs ∷ [])
+pub first : {old text : List ℕ} {fs : Fields} → old ≡ [] → AppendsUtf8 old text (123 ∷ group_text fs) → IsObjectFront text (fs ∷ [])
 first {old = old} {text = text} {fs = fs} empty adds =
     let items : text ≡ 123 ∷ group_text fs = adds.items ∙ ap (λ (s : List ℕ). s ++ 123 ∷ group_text fs) empty in
-    record {
-      items = items ∙ ap (λ (s : List ℕ). 123 ∷ s) (sym (append-nil (group_text fs)));
-      utf8 = subst IsUtf8 (sym items) (IsUtf8-append (123 ∷ []) (group_text fs) (IsUtf8-are_ascii (123 ∷ []) refl) adds.utf8);
-    }
+    record { items = items ∙ ap (λ (s : List ℕ). 123 ∷ s) (sym (append-nil (group_text fs))); utf8 = subst IsUtf8 (sym items) adds.utf8 }
 
-behind_more : (rs : List Fields) (fs : Fields) → groups_behind (rs ++ fs ∷ []) ≡ groups_behind rs ++ 44 ∷ group_text fs
-behind_more rs fs = flat_map-append (λ (gs : Fields). 44 ∷ group_text gs) rs (fs ∷ []) ∙ ap (λ (s : List ℕ). groups_behind rs ++ s) (append-nil (44 ∷ group_text fs))
+behind_more : (rs : List Fields) (fs : Fields) → flat_map behind_comma (rs ++ fs ∷ []) ≡ flat_map behind_comma rs ++ behind_comma fs
+behind_more rs fs = flat_map-append behind_comma rs (fs ∷ []) ∙ ap (λ (s : List ℕ). flat_map behind_comma rs ++ s) (append-nil (behind_comma fs))
 
 -- one more
-pub more : {old text : List ℕ} {f fs : Fields} {rs : List Fields} → IsObjectFront old (f ∷ rs) → AddsGroup 44 old text fs → IsObjectFront text (f ∷ (rs ++ fs ∷ []))
-more {old = old} {text = text} {f = f} {fs = fs} {rs = rs} is adds = record {
-  items = adds.items ∙ ap (λ (s : List ℕ). s ++ 44 ∷ group_text fs) is.items ∙ ap (λ (s : List ℕ). 123 ∷ s) (append_assoc (group_text f) (groups_behind rs) (44 ∷ group_text fs)
+pub more : {old text : List ℕ} {f : Fields} {rs : List Fields} (fs : Fields) → IsObjectFront old (f ∷ rs) → AppendsUtf8 old text (behind_comma fs) → IsObjectFront text (f ∷ (rs ++ fs ∷ []))
+more {old = old} {text = text} {f = f} {rs = rs} fs is adds = record {
+  items = adds.items ∙ ap (λ (s : List ℕ). s ++ behind_comma fs) is.items ∙ ap (λ (s : List ℕ). 123 ∷ s) (append_assoc (group_text f) (flat_map behind_comma rs) (behind_comma fs)
       ∙ ap (λ (s : List ℕ). group_text f ++ s) (sym (behind_more rs fs)));
-  utf8 = subst IsUtf8 (sym adds.items) (IsUtf8-append old (44 ∷ group_text fs) is.utf8 (byte_first (group_text fs) adds.utf8));
+  utf8 = subst IsUtf8 (sym adds.items) (IsUtf8-append old (behind_comma fs) is.utf8 adds.utf8);
 }
-
--- what is so of an answer is so behind the last step, which may be refused
-pub at_end : {A E : Type 0} {P Q : A → Type 0} (r : Result A E) → ((a : A) → P a → Q a) → IfOk r P → IfOk r Q
-at_end (Ok a) f is = f a is
-at_end (Err e) f is = tt
 
 -- a text that stays the same
 pub stays : {old text : List ℕ} {rs : List Fields} → IsObjectFront old rs → text ≡ old → IsObjectFront text rs
@@ -105,7 +96,7 @@ ends_group c (f ∷ g ∷ fs) some = after_both false (json_tokens (outline f.1)
 
 -- ---- the whole object
 
-with_comma : (fs : Fields) → IsGroup fs → print_from true (member_tokens fs) ≡ 44 ∷ group_text fs
+with_comma : (fs : Fields) → IsGroup fs → print_from true (member_tokens fs) ≡ behind_comma fs
 unfolding print_from group_text
 with_comma [] some = absurd (omega arith)
 with_comma (f ∷ fs) some = refl
@@ -117,17 +108,17 @@ split c fs rest some = print_from-append c (member_tokens fs) rest ∙ ap (λ b.
 group_first : (fs : Fields) (rs : List Fields) → member_tokens (flat (fs ∷ rs)) ++ end_object ∷ [] ≡ member_tokens fs ++ (member_tokens (flat rs) ++ end_object ∷ [])
 group_first fs rs = ap (λ (ts : List Token). ts ++ end_object ∷ []) (append_tokens fs (flat rs)) ∙ append_assoc (member_tokens fs) (member_tokens (flat rs)) (end_object ∷ [])
 
-behind_is : (rs : List Fields) → AllByRecursion IsGroup rs → print_from true (member_tokens (flat rs) ++ end_object ∷ []) ≡ groups_behind rs ++ 125 ∷ []
+behind_is : (rs : List Fields) → AllByRecursion IsGroup rs → print_from true (member_tokens (flat rs) ++ end_object ∷ []) ≡ flat_map behind_comma rs ++ 125 ∷ []
 unfolding print_from
 behind_is [] all = refl
 behind_is (fs ∷ rs) all =
     ap (print_from true) (group_first fs rs) ∙ split true fs (member_tokens (flat rs) ++ end_object ∷ []) all.0
-    ∙ (λ i. with_comma fs all.0 i ++ behind_is rs all.1 i) ∙ sym (append_assoc (44 ∷ group_text fs) (groups_behind rs) (125 ∷ []))
+    ∙ (λ i. with_comma fs all.0 i ++ behind_is rs all.1 i) ∙ sym (append_assoc (behind_comma fs) (flat_map behind_comma rs) (125 ∷ []))
 
 object_is : (fs : Fields) (rs : List Fields) → IsGroup fs → AllByRecursion IsGroup rs → object_front (fs ∷ rs) ++ 125 ∷ [] ≡ compact_text (tree (flat (fs ∷ rs)))
 unfolding print_from group_text
 object_is fs rs some all =
-    ap (λ (s : List ℕ). 123 ∷ s) (append_assoc (group_text fs) (groups_behind rs) (125 ∷ []) ∙ ap (λ (s : List ℕ). group_text fs ++ s) (sym (behind_is rs all))
+    ap (λ (s : List ℕ). 123 ∷ s) (append_assoc (group_text fs) (flat_map behind_comma rs) (125 ∷ []) ∙ ap (λ (s : List ℕ). group_text fs ++ s) (sym (behind_is rs all))
     ∙ sym (ap (print_from false) (group_first fs rs) ∙ split false fs (member_tokens (flat rs) ++ end_object ∷ []) some))
     ∙ ap print (sym (tree_tokens (flat (fs ∷ rs)))) ∙ print-outline (tree (flat (fs ∷ rs)))
 

@@ -1,4 +1,6 @@
-mod Adding
+mod Appending
+mod Entries
+mod Escapes
 mod Grouping
 mod Joins
 pub mod KeptLaws

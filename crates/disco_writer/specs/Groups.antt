@@ -1,13 +1,16 @@
 -- The members of an instance's text in groups, which stand next to each other in both forms or in the full one alone. Nothing here is to be believed.
-use Rattle.std.specs.Prelude.{◌≡◌, ℕ, List, [], ◌∷◌, ◌++◌, codes, flat_map, map, Option}
+use Rattle.std.specs.Prelude.{◌≡◌, ℕ, Bool, List, [], ◌∷◌, ◌++◌, codes, flat_map, map, if◌then◌else◌, Option, Some, None}
 use Rattle.std.specs.Str.{IsUtf8}
-use Rattle.json.specs.Print.{print}
+use Rattle.json.specs.Print.{print, print_from, quoted}
+use Rattle.json.specs.Token.{Token, key}
+use Rattle.json.specs.Tree.{json_tokens, members_tokens}
 use Rattle.serde_json.specs.Data.{string}
+use Rattle.serde_json.specs.Written.{members_outline, outline}
+use Rattle.disco_values.specs.Action.{action_name}
 use Rattle.disco_values.specs.declared.action.Action.{Action}
 use Rattle.disco_instance.specs.Row.{Row}
 use Rattle.disco_documents.specs.Trees.{data_center_tree, lease_tree, metadata_tree, truth, whole}
-use Rattle.disco_writer.specs.Fields.{Fields, done_fields, host_fields, moment_fields, state_fields}
-use Rattle.disco_writer.specs.Tokens.{member_tokens}
+use Rattle.disco_writer.specs.Fields.{Fields, done_fields, host_fields, metadata_members, moment_fields, state_fields}
 use Rattle.disco_writer.specs.declared.groups.Group.{Group}
 use Rattle.disco_writer.specs.declared.groups.Group.TheVariants as group
 
@@ -45,25 +48,48 @@ compact_groups r o = compact_front r o ++ map (λ k. group_fields k r o) (group.
 abbrev pub flat : List Fields → Fields
 flat rs = flat_map (λ fs. fs) rs
 
+-- the tokens of these members
+abbrev pub member_tokens : Fields → List Token
+member_tokens [] = []
+member_tokens (f ∷ fs) = key f.0 ∷ (json_tokens (outline f.1) ++ member_tokens fs)
+
 -- the text of members, with commas between them
 unfoldable pub group_text : Fields → List ℕ
 group_text fs = print (member_tokens fs)
 
--- groups behind others
-abbrev pub groups_behind : List Fields → List ℕ
-groups_behind rs = flat_map (λ fs. 44 ∷ group_text fs) rs
+-- ... behind a comma
+abbrev pub behind_comma : Fields → List ℕ
+behind_comma fs = 44 ∷ group_text fs
+
+-- ... behind the brace of an object or a comma, as the group stands in the text
+abbrev pub group_part : Group → Row → Option Action → List ℕ
+group_part group.Names r o = 123 ∷ group_text (group_fields group.Names r o)
+group_part k r o = behind_comma (group_fields k r o)
+
+-- the beginning of the text: what was done, where it is said, and the name of the app
+abbrev pub done_text : Option Action → List ℕ
+done_text None = codes "{\"app\":"
+done_text (Some a) = codes "{\"actionType\":" ++ quoted (action_name a) ++ codes ",\"app\":"
+
+-- an entry of metadata, behind another one or none
+abbrev pub entry_member : Bool → List ℕ → List ℕ → List ℕ
+entry_member later name text = (if later then codes "," else []) ++ (quoted name ++ (codes ":" ++ quoted text))
+
+-- entries of metadata and the end of their object, behind other entries or none
+abbrev pub entries_text : Bool → List (List ℕ × List ℕ) → List ℕ
+entries_text later es = print_from later (members_tokens (members_outline (metadata_members es)))
 
 -- the beginning of an object of these groups
 abbrev pub object_front : List Fields → List ℕ
 object_front [] = []
-object_front (fs ∷ rs) = 123 ∷ (group_text fs ++ groups_behind rs)
+object_front (fs ∷ rs) = 123 ∷ (group_text fs ++ flat_map behind_comma rs)
 
 -- a text begins an object of these groups
 pub record IsObjectFront (text : List ℕ) (rs : List Fields) : Type 0 where
   pub items : text ≡ object_front rs
   pub utf8 : IsUtf8 text
 
--- a group comes behind a byte, which comes behind what was there
-pub record AddsGroup (mark : ℕ) (old new : List ℕ) (fs : Fields) : Type 0 where
-  pub items : new ≡ old ++ mark ∷ group_text fs
-  pub utf8 : IsUtf8 (group_text fs)
+-- a text in UTF-8 comes behind what was there
+pub record AppendsUtf8 (old new text : List ℕ) : Type 0 where
+  pub items : new ≡ old ++ text
+  pub utf8 : IsUtf8 text

@@ -5,4 +5,3 @@ pub mod Joined
 pub mod Kept
 pub mod Laws
 pub mod Named
-pub mod Tokens

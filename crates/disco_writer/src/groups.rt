@@ -1,19 +1,16 @@
 //! The members of an instance's text in groups: those that stand next to each other in both forms,
 //! and those of the full form alone.
-ghost use Rattle.std.specs.Prelude.{IfOk, None};
+ghost use Rattle.std.specs.Prelude.{None, OnOk};
 ghost use Rattle.disco_instance.specs.Row.{row};
-ghost use Rattle.disco_writer.specs.Fields.{done_fields, host_fields, moment_fields, state_fields};
-ghost use Rattle.disco_writer.specs.Groups.{AddsGroup, group_fields};
-ghost use Rattle.disco_writer.specs.Tokens.{WritesMembers};
-ghost use Rattle.disco_writer.specs.declared.groups.Group.TheVariants.{Names, Terms, Urls};
+ghost use Rattle.disco_writer.specs.Groups.{AppendsUtf8, done_text, group_part};
+ghost use Rattle.disco_writer.specs.declared.groups.Group.TheVariants.{Center, Hosts, Moments, Names, State, Terms, Urls};
 
 use crate::members::{
-    put_action, put_data_center, put_digits, put_lease, put_metadata, put_port, put_small,
-    put_status, put_text, put_truth,
+    push, push_entries, push_quoted, put_action, put_digits, put_number, put_status, put_text,
+    put_truth,
 };
 use disco_instance::Record;
 use disco_values::Action;
-use json::Writer;
 use std::alloc::AllocError;
 
 /// Members that stand next to each other, in the order of the text.
@@ -38,98 +35,118 @@ pub(crate) enum Group {
     Vip,
 }
 
-/// What was done, where it is said.
-fn put_done(out: &mut Writer, action: Option<Action>) -> Result<(), AllocError>
-    ensures { WritesMembers result out.old out.new (done_fields action) }
+/// What was done, where it is said, up to the name of the app.
+fn put_done(out: &mut Vec<u8>, action: Option<Action>) -> Result<(), AllocError>
+    ensures { OnOk result (AppendsUtf8 out.old.items out.new.items (done_text action)) }
 {
     match action {
-        Some(action) => put_action(out, "actionType", action),
-        None => Ok(()),
+        Some(action) => {
+            put_action(out, "{\"actionType\":", action)?;
+            push(out, ",\"app\":")
+        }
+        None => push(out, "{\"app\":"),
     }
 }
 
-fn put_names(out: &mut Writer, rec: &Record, action: Option<Action>) -> Result<(), AllocError>
-    ensures { WritesMembers result out.old out.new (group_fields Names (row rec.now) action) }
+fn put_names(out: &mut Vec<u8>, rec: &Record, action: Option<Action>) -> Result<(), AllocError>
+    ensures { OnOk result (AppendsUtf8 out.old.items out.new.items (group_part Names (row rec.now) action)) }
 {
     put_done(out, action)?;
-    put_text(out, "app", &rec.key.app)
+    push_quoted(out, rec.key.app.as_str())
 }
 
-fn put_urls(out: &mut Writer, rec: &Record) -> Result<(), AllocError>
-    ensures { WritesMembers result out.old out.new (group_fields Urls (row rec.now) None) }
+fn put_center(out: &mut Vec<u8>, rec: &Record) -> Result<(), AllocError>
+    ensures { OnOk result (AppendsUtf8 out.old.items out.new.items (group_part Center (row rec.now) None)) }
 {
-    put_text(out, "healthCheckUrl", &rec.health_check_url)?;
-    put_text(out, "homePageUrl", &rec.home_page_url)
+    put_text(
+        out,
+        ",\"dataCenterInfo\":{\"@class\":",
+        &rec.data_center.class,
+    )?;
+    put_text(out, ",\"name\":", &rec.data_center.name)?;
+    push(out, "}")
 }
 
-fn put_hosts(out: &mut Writer, rec: &Record) -> Result<(), AllocError>
-    ensures { WritesMembers result out.old out.new (host_fields (row rec.now)) }
+fn put_urls(out: &mut Vec<u8>, rec: &Record) -> Result<(), AllocError>
+    ensures { OnOk result (AppendsUtf8 out.old.items out.new.items (group_part Urls (row rec.now) None)) }
 {
-    put_text(out, "hostName", &rec.host_name)?;
-    put_text(out, "instanceId", &rec.key.id)?;
-    put_text(out, "ipAddr", &rec.ip_addr)
+    put_text(out, ",\"healthCheckUrl\":", &rec.health_check_url)?;
+    put_text(out, ",\"homePageUrl\":", &rec.home_page_url)
 }
 
-fn put_moments(out: &mut Writer, rec: &Record) -> Result<(), AllocError>
-    ensures { WritesMembers result out.old out.new (moment_fields (row rec.now)) }
+fn put_hosts(out: &mut Vec<u8>, rec: &Record) -> Result<(), AllocError>
+    ensures { OnOk result (AppendsUtf8 out.old.items out.new.items (group_part Hosts (row rec.now) None)) }
 {
-    put_digits(out, "lastDirtyTimestamp", rec.last_dirty)?;
-    put_digits(out, "lastUpdatedTimestamp", rec.last_updated)
+    put_text(out, ",\"hostName\":", &rec.host_name)?;
+    put_text(out, ",\"instanceId\":", &rec.key.id)?;
+    put_text(out, ",\"ipAddr\":", &rec.ip_addr)
 }
 
-fn put_terms(out: &mut Writer, rec: &Record) -> Result<(), AllocError>
-    ensures { WritesMembers result out.old out.new (group_fields Terms (row rec.now) None) }
+fn put_moments(out: &mut Vec<u8>, rec: &Record) -> Result<(), AllocError>
+    ensures { OnOk result (AppendsUtf8 out.old.items out.new.items (group_part Moments (row rec.now) None)) }
 {
-    put_lease(out, rec.lease)?;
-    put_metadata(out, &rec.metadata)
+    put_digits(out, ",\"lastDirtyTimestamp\":", rec.last_dirty)?;
+    put_digits(out, ",\"lastUpdatedTimestamp\":", rec.last_updated)
 }
 
-fn put_state(out: &mut Writer, rec: &Record) -> Result<(), AllocError>
-    ensures { WritesMembers result out.old out.new (state_fields (row rec.now)) }
+fn put_terms(out: &mut Vec<u8>, rec: &Record) -> Result<(), AllocError>
+    ensures { OnOk result (AppendsUtf8 out.old.items out.new.items (group_part Terms (row rec.now) None)) }
 {
-    put_status(out, "overriddenStatus", rec.overridden_status)?;
-    put_port(out, "port", rec.port)?;
-    put_port(out, "securePort", rec.secure_port)?;
-    put_text(out, "secureVipAddress", &rec.secure_vip_address)?;
-    put_status(out, "status", rec.status)
+    let lease = rec.lease;
+    put_number(
+        out,
+        ",\"leaseInfo\":{\"durationInSecs\":",
+        lease.duration_secs,
+    )?;
+    put_number(out, ",\"evictionTimestamp\":", lease.eviction)?;
+    put_number(out, ",\"lastRenewalTimestamp\":", lease.last_renewal)?;
+    put_number(out, ",\"registrationTimestamp\":", lease.registration)?;
+    put_number(
+        out,
+        ",\"renewalIntervalInSecs\":",
+        lease.renewal_interval_secs,
+    )?;
+    put_number(out, ",\"serviceUpTimestamp\":", lease.service_up)?;
+    push(out, "},\"metadata\":{")?;
+    push_entries(out, &rec.metadata)
 }
 
-fn put_group(
-    out: &mut Writer,
+fn put_state(out: &mut Vec<u8>, rec: &Record) -> Result<(), AllocError>
+    ensures { OnOk result (AppendsUtf8 out.old.items out.new.items (group_part State (row rec.now) None)) }
+{
+    put_status(out, ",\"overriddenStatus\":", rec.overridden_status)?;
+    put_number(out, ",\"port\":{\"$\":", rec.port.number)?;
+    put_truth(out, ",\"@enabled\":", rec.port.enabled)?;
+    put_number(out, "},\"securePort\":{\"$\":", rec.secure_port.number)?;
+    put_truth(out, ",\"@enabled\":", rec.secure_port.enabled)?;
+    put_text(out, "},\"secureVipAddress\":", &rec.secure_vip_address)?;
+    put_status(out, ",\"status\":", rec.status)
+}
+
+/// Puts a group, behind a brace or a comma.
+pub(crate) fn put_group(
+    out: &mut Vec<u8>,
     group: Group,
     rec: &Record,
     action: Option<Action>,
 ) -> Result<(), AllocError>
-    ensures { WritesMembers result out.old out.new (group_fields group (row rec.now) action) }
+    ensures { OnOk result (AppendsUtf8 out.old.items out.new.items (group_part group (row rec.now) action)) }
 {
     match group {
         Group::Names => put_names(out, rec, action),
-        Group::Country => put_small(out, "countryId", rec.country_id),
-        Group::Center => put_data_center(out, &rec.data_center),
+        Group::Country => put_number(out, ",\"countryId\":", rec.country_id),
+        Group::Center => put_center(out, rec),
         Group::Urls => put_urls(out, rec),
         Group::Hosts => put_hosts(out, rec),
-        Group::Coordination => put_truth(out, "isCoordinatingDiscoveryServer", rec.is_coordinating),
+        Group::Coordination => put_truth(
+            out,
+            ",\"isCoordinatingDiscoveryServer\":",
+            rec.is_coordinating,
+        ),
         Group::Moments => put_moments(out, rec),
         Group::Terms => put_terms(out, rec),
         Group::State => put_state(out, rec),
-        Group::StatusPage => put_text(out, "statusPageUrl", &rec.status_page_url),
-        Group::Vip => put_text(out, "vipAddress", &rec.vip_address),
+        Group::StatusPage => put_text(out, ",\"statusPageUrl\":", &rec.status_page_url),
+        Group::Vip => put_text(out, ",\"vipAddress\":", &rec.vip_address),
     }
-}
-
-/// The text with a group more, behind this byte.
-pub(crate) fn with_group(
-    text: Vec<u8>,
-    mark: u8,
-    group: Group,
-    rec: &Record,
-    action: Option<Action>,
-) -> Result<Vec<u8>, AllocError>
-    ensures { IfOk result (λ v. AddsGroup mark text.items v.items (group_fields group (row rec.now) action)) }
-{
-    let mut text = text;
-    text.push(mark)?;
-    let mut out = Writer::new(text);
-    put_group(&mut out, group, rec, action)?;
-    Ok(out.into_inner())
 }

@@ -1,13 +1,13 @@
 //! The texts of an instance.
-ghost use Rattle.std.specs.Prelude.{◌≡◌, ◌++◌, ◌∷◌, [], IfErr, IfOk};
+ghost use Rattle.std.specs.Prelude.{◌≡◌, ◌++◌, ◌∷◌, [], IfErr, IfOk, OnOk};
 ghost use Rattle.disco_instance.specs.Row.{row};
 ghost use Rattle.disco_values.specs.declared.fault.Fault.TheVariants.{OutOfMemory};
 ghost use Rattle.disco_values.specs.declared.form.Form.TheVariants.{Full, Compact};
 ghost use Rattle.disco_wire.specs.Wire.{tell};
 ghost use Rattle.disco_writer.specs.Kept.{IsTextOf};
-ghost use Rattle.disco_writer.specs.Groups.{AddsGroup, IsObjectFront, compact_front, compact_groups, full_front, full_groups, group_fields};
+ghost use Rattle.disco_writer.specs.Groups.{AppendsUtf8, IsObjectFront, compact_front, compact_groups, full_front, full_groups, group_part};
 
-use crate::groups::{Group, with_group};
+use crate::groups::{Group, put_group};
 use disco_instance::{Record, well_formed};
 use disco_values::{Action, Fault, Form};
 use disco_wire::Mention;
@@ -38,37 +38,32 @@ impl Both {
         })
     }
 
-    /// With a group more in both texts, behind this byte.
-    fn with_both(
-        self,
-        mark: u8,
+    /// Adds a group to both texts.
+    fn add_both(
+        &mut self,
         group: Group,
         rec: &Record,
         action: Option<Action>,
-    ) -> Result<Both, AllocError>
-        ensures full { IfOk result (λ b. AddsGroup mark self.full.items b.full.items (group_fields group (row rec.now) action)) }
-        ensures compact { IfOk result (λ b. AddsGroup mark self.compact.items b.compact.items (group_fields group (row rec.now) action)) }
+    ) -> Result<(), AllocError>
+        ensures full { OnOk result (AppendsUtf8 self.old.full.items self.new.full.items (group_part group (row rec.now) action)) }
+        ensures compact { OnOk result (AppendsUtf8 self.old.compact.items self.new.compact.items (group_part group (row rec.now) action)) }
     {
-        let Both { full, mut compact } = self;
-        let start = full.len();
-        let full = with_group(full, mark, group, rec, action)?;
-        compact.extend_from_slice(&full[start..])?;
-        Ok(Both { full, compact })
+        let start = self.full.len();
+        put_group(&mut self.full, group, rec, action)?;
+        self.compact.extend_from_slice(&self.full[start..])
     }
 
-    /// With a group more in the full text, behind a comma.
-    fn with_full(
-        self,
+    /// Adds a group to the full text.
+    fn add_full(
+        &mut self,
         group: Group,
         rec: &Record,
         action: Option<Action>,
-    ) -> Result<Both, AllocError>
-        ensures full { IfOk result (λ b. AddsGroup 44 self.full.items b.full.items (group_fields group (row rec.now) action)) }
-        ensures compact { IfOk result (λ b. b.compact.items ≡ self.compact.items) }
+    ) -> Result<(), AllocError>
+        ensures full { OnOk result (AppendsUtf8 self.old.full.items self.new.full.items (group_part group (row rec.now) action)) }
+        ensures compact { self.new.compact.items ≡ self.old.compact.items }
     {
-        let Both { full, compact } = self;
-        let full = with_group(full, b',', group, rec, action)?;
-        Ok(Both { full, compact })
+        put_group(&mut self.full, group, rec, action)
     }
 
     /// With their ends.
@@ -91,27 +86,29 @@ fn front(alloc: Global, rec: &Record, action: Option<Action>) -> Result<Both, Al
     ensures full { IfOk result (λ b. IsObjectFront b.full.items (full_front (row rec.now) action)) }
     ensures compact { IfOk result (λ b. IsObjectFront b.compact.items (compact_front (row rec.now) action)) }
 {
-    let texts = Both::new(alloc)?;
-    let texts = texts.with_both(b'{', Group::Names, rec, action)?;
-    let texts = texts.with_full(Group::Country, rec, action)?;
-    let texts = texts.with_both(b',', Group::Center, rec, action)?;
-    let texts = texts.with_full(Group::Urls, rec, action)?;
-    let texts = texts.with_both(b',', Group::Hosts, rec, action)?;
-    texts.with_full(Group::Coordination, rec, action)
+    let mut texts = Both::new(alloc)?;
+    texts.add_both(Group::Names, rec, action)?;
+    texts.add_full(Group::Country, rec, action)?;
+    texts.add_both(Group::Center, rec, action)?;
+    texts.add_full(Group::Urls, rec, action)?;
+    texts.add_both(Group::Hosts, rec, action)?;
+    texts.add_full(Group::Coordination, rec, action)?;
+    Ok(texts)
 }
 
-/// The groups from the moments on, behind those in front of them.
-fn with_back(texts: Both, rec: &Record, action: Option<Action>) -> Result<Both, AllocError>
-    requires full { IsObjectFront texts.full.items (full_front (row rec.now) action) }
-    requires compact { IsObjectFront texts.compact.items (compact_front (row rec.now) action) }
-    ensures full { IfOk result (λ b. IsObjectFront b.full.items (full_groups (row rec.now) action)) }
-    ensures compact { IfOk result (λ b. IsObjectFront b.compact.items (compact_groups (row rec.now) action)) }
+/// Adds the groups from the moments on.
+fn add_back(texts: &mut Both, rec: &Record, action: Option<Action>) -> Result<(), AllocError>
+    requires full { IsObjectFront texts.old.full.items (full_front (row rec.now) action) }
+    requires compact { IsObjectFront texts.old.compact.items (compact_front (row rec.now) action) }
+    ensures full { OnOk result (IsObjectFront texts.new.full.items (full_groups (row rec.now) action)) }
+    ensures compact { OnOk result (IsObjectFront texts.new.compact.items (compact_groups (row rec.now) action)) }
 {
-    let texts = texts.with_both(b',', Group::Moments, rec, action)?;
-    let texts = texts.with_full(Group::Terms, rec, action)?;
-    let texts = texts.with_both(b',', Group::State, rec, action)?;
-    let texts = texts.with_full(Group::StatusPage, rec, action)?;
-    texts.with_both(b',', Group::Vip, rec, action)
+    texts.add_both(Group::Moments, rec, action)?;
+    texts.add_full(Group::Terms, rec, action)?;
+    texts.add_both(Group::State, rec, action)?;
+    texts.add_full(Group::StatusPage, rec, action)?;
+    texts.add_both(Group::Vip, rec, action)?;
+    Ok(())
 }
 
 /// The texts of an instance in the full and in the compact form, as compact JSON, with what was done
@@ -132,8 +129,8 @@ pub fn write_texts(
     // For the proof alone: what holds of every record, and that its app's name is UTF-8.
     well_formed(rec);
     let _app = rec.key.app.as_str();
-    let texts = front(alloc, rec, action)?;
-    let texts = with_back(texts, rec, action)?;
+    let mut texts = front(alloc, rec, action)?;
+    add_back(&mut texts, rec, action)?;
     Ok(texts.ended()?)
 }
 

@@ -34,7 +34,7 @@ fn push_str(out: &mut Vec<u8>, text: &str) -> Result<(), AllocError>
     push(out, text.as_bytes())
 }
 
-fn quoted(alloc: Global, text: &str) -> Result<Vec<u8>, AllocError>
+pub(crate) fn quoted(alloc: Global, text: &str) -> Result<Vec<u8>, AllocError>
     ensures { IfOk result (λ v. v.items ≡ quoted text.now) }
 {
     let mut out = Writer::new(Vec::new(alloc));

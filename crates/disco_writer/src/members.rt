@@ -1,150 +1,144 @@
-//! The members of an instance's text, each written as it comes.
-ghost use Rattle.std.specs.Prelude.{◌∷◌, [], OnOk, codes};
-ghost use Rattle.json.specs.Token.{begin_object, end_object, key};
-ghost use Rattle.serde_json.specs.Data.{string};
+//! The members of an instance's text. The punctuation and the names are constant texts, and the values
+//! are put behind them.
+ghost use Rattle.std.specs.Prelude.{◌≡◌, ◌∷◌, ◌++◌, [], OnOk, codes, decimal, false, if◌then◌else◌};
+ghost use Rattle.std.specs.Bool.{OnTrue};
+ghost use Rattle.json.specs.Print.{escape, escape_byte, quoted};
 ghost use Rattle.disco_values.specs.Action.{action_name};
 ghost use Rattle.disco_values.specs.Status.{status_name};
-ghost use Rattle.disco_writer.specs.Fields.{entry_fields, lease_fields};
-ghost use Rattle.disco_writer.specs.Tokens.{AddsTokens, WritesMembers};
-ghost use Rattle.disco_documents.specs.Trees.{data_center_tree, digits_text, lease_tree, metadata_tree, port_tree, truth, whole};
+ghost use Rattle.disco_writer.specs.Groups.{AppendsUtf8, entries_text, entry_member};
 
-use disco_instance::{DataCenter, Lease, Port};
+use crate::join::quoted;
 use disco_values::{Action, Entries, Status, Text};
-use json::Writer;
+use itoa::{Buffer, Integer};
 use std::alloc::AllocError;
 
-fn put_str(out: &mut Writer, name: &str, text: &str) -> Result<(), AllocError>
-    ensures { WritesMembers result out.old out.new ((name.now, string text.now) ∷ []) }
+/// Puts a text as it is.
+pub(crate) fn push(out: &mut Vec<u8>, text: &str) -> Result<(), AllocError>
+    ensures { OnOk result (AppendsUtf8 out.old.items out.new.items text.now) }
 {
-    out.key(name)?;
-    out.string(text)
+    out.extend_from_slice(text.as_bytes())
 }
 
-pub(crate) fn put_text(out: &mut Writer, name: &str, text: &Text) -> Result<(), AllocError>
-    ensures { WritesMembers result out.old out.new ((name.now, string text.now) ∷ []) }
+/// Whether the byte is not escaped in JSON.
+fn is_plain_byte(byte: u8) -> bool
+    ensures { OnTrue result (escape_byte byte ≡ byte ∷ []) }
 {
-    put_str(out, name, text.as_str())
+    byte >= 0x20 && byte != b'"' && byte != b'\\'
 }
 
-pub(crate) fn put_status(out: &mut Writer, name: &str, status: Status) -> Result<(), AllocError>
-    ensures { WritesMembers result out.old out.new ((name.now, string (status_name status)) ∷ []) }
+/// Whether no byte of a text is escaped in JSON. Each is looked at, even behind one that is: a loop
+/// with no early exit is compiled to vector instructions.
+fn is_plain(text: &[u8]) -> bool
+    ensures { OnTrue result (escape text.now ≡ text.now) }
 {
-    put_str(out, name, status.name())
-}
-
-pub(crate) fn put_action(out: &mut Writer, name: &str, action: Action) -> Result<(), AllocError>
-    ensures { WritesMembers result out.old out.new ((name.now, string (action_name action)) ∷ []) }
-{
-    put_str(out, name, action.name())
-}
-
-pub(crate) fn put_small(out: &mut Writer, name: &str, number: u32) -> Result<(), AllocError>
-    ensures { WritesMembers result out.old out.new ((name.now, whole number) ∷ []) }
-{
-    put_whole(out, name, u64::from(number))
-}
-
-fn put_number(out: &mut Writer, number: u16) -> Result<(), AllocError>
-    ensures { WritesMembers result out.old out.new ((codes "$", whole number) ∷ []) }
-{
-    put_whole(out, "$", u64::from(number))
-}
-
-pub(crate) fn put_whole(out: &mut Writer, name: &str, number: u64) -> Result<(), AllocError>
-    ensures { WritesMembers result out.old out.new ((name.now, whole number) ∷ []) }
-{
-    out.key(name)?;
-    out.u64(number)
-}
-
-pub(crate) fn put_digits(out: &mut Writer, name: &str, number: u64) -> Result<(), AllocError>
-    ensures { WritesMembers result out.old out.new ((name.now, digits_text number) ∷ []) }
-{
-    out.key(name)?;
-    out.quoted_u64(number)
-}
-
-pub(crate) fn put_truth(out: &mut Writer, name: &str, flag: bool) -> Result<(), AllocError>
-    ensures { WritesMembers result out.old out.new ((name.now, truth flag) ∷ []) }
-{
-    put_str(out, name, if flag { "true" } else { "false" })
-}
-
-pub(crate) fn start(out: &mut Writer) -> Result<(), AllocError>
-    ensures { OnOk result (AddsTokens out.old out.new (begin_object ∷ [])) }
-{
-    out.begin_object()
-}
-
-fn begin(out: &mut Writer, name: &str) -> Result<(), AllocError>
-    ensures { OnOk result (AddsTokens out.old out.new (key name.now ∷ begin_object ∷ [])) }
-{
-    out.key(name)?;
-    out.begin_object()
-}
-
-pub(crate) fn end(out: &mut Writer) -> Result<(), AllocError>
-    ensures { OnOk result (AddsTokens out.old out.new (end_object ∷ [])) }
-{
-    out.end_object()
-}
-
-pub(crate) fn put_port(out: &mut Writer, name: &str, port: Port) -> Result<(), AllocError>
-    ensures { WritesMembers result out.old out.new ((name.now, port_tree port) ∷ []) }
-{
-    begin(out, name)?;
-    put_number(out, port.number)?;
-    put_truth(out, "@enabled", port.enabled)?;
-    end(out)
-}
-
-pub(crate) fn put_data_center(out: &mut Writer, center: &DataCenter) -> Result<(), AllocError>
-    ensures { WritesMembers result out.old out.new ((codes "dataCenterInfo", data_center_tree center.now) ∷ []) }
-{
-    begin(out, "dataCenterInfo")?;
-    put_text(out, "@class", &center.class)?;
-    put_text(out, "name", &center.name)?;
-    end(out)
-}
-
-fn put_terms(out: &mut Writer, lease: Lease) -> Result<(), AllocError>
-    ensures { WritesMembers result out.old out.new (lease_fields lease) }
-{
-    put_small(out, "durationInSecs", lease.duration_secs)?;
-    put_whole(out, "evictionTimestamp", lease.eviction)?;
-    put_whole(out, "lastRenewalTimestamp", lease.last_renewal)?;
-    put_whole(out, "registrationTimestamp", lease.registration)?;
-    put_small(out, "renewalIntervalInSecs", lease.renewal_interval_secs)?;
-    put_whole(out, "serviceUpTimestamp", lease.service_up)
-}
-
-pub(crate) fn put_lease(out: &mut Writer, lease: Lease) -> Result<(), AllocError>
-    ensures { WritesMembers result out.old out.new ((codes "leaseInfo", lease_tree lease) ∷ []) }
-{
-    begin(out, "leaseInfo")?;
-    put_terms(out, lease)?;
-    end(out)
-}
-
-fn put_entry(out: &mut Writer, name: &Text, text: &Text) -> Result<(), AllocError>
-    ensures { WritesMembers result out.old out.new ((name.now, string text.now) ∷ []) }
-{
-    put_str(out, name.as_str(), text.as_str())
-}
-
-fn put_entries(out: &mut Writer, entries: &Entries) -> Result<(), AllocError>
-    ensures { WritesMembers result out.old out.new (entry_fields entries.now) }
-{
-    for (name, text) in entries.as_slice() {
-        put_entry(out, name, text)?;
+    let mut plain = true;
+    for &byte in text {
+        plain &= is_plain_byte(byte);
     }
+    plain
+}
+
+/// Puts a text that needs no escape between quotes.
+fn push_plain(out: &mut Vec<u8>, text: &str) -> Result<(), AllocError>
+    requires { escape text.now ≡ text.now }
+    ensures { OnOk result (AppendsUtf8 out.old.items out.new.items (quoted text.now)) }
+{
+    out.push(b'"')?;
+    out.extend_from_slice(text.as_bytes())?;
+    out.push(b'"')?;
     Ok(())
 }
 
-pub(crate) fn put_metadata(out: &mut Writer, entries: &Entries) -> Result<(), AllocError>
-    ensures { WritesMembers result out.old out.new ((codes "metadata", metadata_tree entries.now) ∷ []) }
+/// Puts a text between quotes. Few texts need an escape, so those may take memory of their own.
+pub(crate) fn push_quoted(out: &mut Vec<u8>, text: &str) -> Result<(), AllocError>
+    ensures { OnOk result (AppendsUtf8 out.old.items out.new.items (quoted text.now)) }
 {
-    begin(out, "metadata")?;
-    put_entries(out, entries)?;
-    end(out)
+    if is_plain(text.as_bytes()) {
+        return push_plain(out, text);
+    }
+    let text = quoted(*out.allocator(), text)?;
+    out.extend_from_slice(text.as_slice())
+}
+
+/// Puts a text between quotes behind the text in front of it.
+pub(crate) fn put_text(out: &mut Vec<u8>, lead: &str, text: &Text) -> Result<(), AllocError>
+    ensures { OnOk result (AppendsUtf8 out.old.items out.new.items (lead.now ++ quoted text.now)) }
+{
+    push(out, lead)?;
+    push_quoted(out, text.as_str())
+}
+
+pub(crate) fn put_status(out: &mut Vec<u8>, lead: &str, status: Status) -> Result<(), AllocError>
+    ensures { OnOk result (AppendsUtf8 out.old.items out.new.items (lead.now ++ quoted (status_name status))) }
+{
+    push(out, lead)?;
+    push_plain(out, status.name())
+}
+
+pub(crate) fn put_action(out: &mut Vec<u8>, lead: &str, action: Action) -> Result<(), AllocError>
+    ensures { OnOk result (AppendsUtf8 out.old.items out.new.items (lead.now ++ quoted (action_name action))) }
+{
+    push(out, lead)?;
+    push_plain(out, action.name())
+}
+
+fn truth_name(flag: bool) -> &'static str
+    ensures { result.now ≡ (if flag then codes "true" else codes "false") }
+{
+    if flag { "true" } else { "false" }
+}
+
+pub(crate) fn put_truth(out: &mut Vec<u8>, lead: &str, flag: bool) -> Result<(), AllocError>
+    ensures { OnOk result (AppendsUtf8 out.old.items out.new.items (lead.now ++ quoted (if flag then codes "true" else codes "false"))) }
+{
+    push(out, lead)?;
+    push_plain(out, truth_name(flag))
+}
+
+pub(crate) fn put_number<I: Integer>(
+    out: &mut Vec<u8>,
+    lead: &str,
+    number: I,
+) -> Result<(), AllocError>
+    ensures { OnOk result (AppendsUtf8 out.old.items out.new.items (lead.now ++ I.text number)) }
+{
+    let mut digits = Buffer::new();
+    push(out, lead)?;
+    push(out, digits.format(number))
+}
+
+/// Puts the digits of a number between quotes.
+pub(crate) fn put_digits(out: &mut Vec<u8>, lead: &str, number: u64) -> Result<(), AllocError>
+    ensures { OnOk result (AppendsUtf8 out.old.items out.new.items (lead.now ++ quoted (decimal number))) }
+{
+    let mut digits = Buffer::new();
+    push(out, lead)?;
+    push_plain(out, digits.format(number))
+}
+
+/// What parts an entry from one before it.
+fn comma(later: bool) -> &'static str
+    ensures { result.now ≡ (if later then codes "," else []) }
+{
+    if later { "," } else { "" }
+}
+
+fn push_entry(out: &mut Vec<u8>, later: bool, name: &Text, text: &Text) -> Result<(), AllocError>
+    ensures { OnOk result (AppendsUtf8 out.old.items out.new.items (entry_member later name.now text.now)) }
+{
+    push(out, comma(later))?;
+    push_quoted(out, name.as_str())?;
+    put_text(out, ":", text)
+}
+
+/// Puts the entries of metadata and the brace that ends their object.
+pub(crate) fn push_entries(out: &mut Vec<u8>, entries: &Entries) -> Result<(), AllocError>
+    ensures { OnOk result (AppendsUtf8 out.old.items out.new.items (entries_text false entries.now)) }
+{
+    let mut later = false;
+    for (name, text) in entries.as_slice() {
+        push_entry(out, later, name, text)?;
+        later = true;
+    }
+    push(out, "}")
 }

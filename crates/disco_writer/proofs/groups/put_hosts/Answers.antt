@@ -1,5 +1,8 @@
-use Rattle.disco_writer.proofs.Adding.{then, at_last}
+use Rattle.json.specs.Print.{escape_byte, print_from}
+use Rattle.disco_writer.specs.Groups.{group_text}
+use Rattle.disco_writer.proofs.Appending.{before, last}
 use Rattle.disco_writer.proofs.groups.put_hosts.Goals as goal
 
 pub returns : goal.returns
-returns c = at_last _ _ _ (then c.in_ok-put_text.ensures c.in_ok-put_text-2.ensures) c.put_text-3.ensures
+unfolding escape_byte group_text print_from
+returns c = before c.put_text-3.result _ _ c.in_ok-put_text.ensures (before c.put_text-3.result _ _ c.in_ok-put_text-2.ensures (last c.put_text-3.result _ _ _ c.put_text-3.ensures))

@@ -1,12 +1,18 @@
-use Rattle.std.proofs.Common.{[], ◌∷◌, List, OnOk, codes, subst, sym}
-use Rattle.json.specs.Token.{Token}
+use Rattle.std.proofs.Common.{◌≡◌, ℕ, List, [], ◌∷◌, ◌++◌, ◌∙◌, codes, Option, Some, None, append_assoc, append-nil}
+use Rattle.json.specs.Print.{escape_byte, print_from, quoted}
 use Rattle.serde_json.specs.Data.{string}
+use Rattle.disco_values.specs.declared.action.Action.{Action}
 use Rattle.disco_writer.specs.Fields.{done_fields}
-use Rattle.disco_writer.specs.Tokens.{AddsTokens}
-use Rattle.disco_writer.proofs.Adding.{append_tokens, at_last}
+use Rattle.disco_writer.specs.Groups.{done_text, group_text}
+use Rattle.disco_writer.proofs.Appending.{before, renamed}
 use Rattle.disco_writer.proofs.groups.put_names.Goals as goal
+
+names : (o : Option Action) (app : List ℕ) → done_text o ++ quoted app ≡ 123 ∷ group_text (done_fields o ++ (codes "app", string app) ∷ [])
+unfolding group_text print_from escape_byte
+names None app = simp append-nil
+names (Some a) app = simp (append_assoc, append-nil)
 
 pub returns : goal.returns
 returns c =
-    subst (λ (ts : List Token). OnOk c.put_text.result (AddsTokens c.args.out.now c.put_text.new.out ts)) (sym (append_tokens (done_fields c.args.action) ((codes "app", string c.args.rec.now.key.app) ∷ [])))
-    (at_last _ _ _ c.in_ok-put_done.ensures c.put_text.ensures)
+    renamed c.push_quoted.result _ _ ((λ i. done_text c.args.action ++ quoted (c.as_str.ensures i)) ∙ names c.args.action c.args.rec.now.key.app)
+    (before c.push_quoted.result _ _ c.in_ok-put_done.ensures c.push_quoted.ensures)

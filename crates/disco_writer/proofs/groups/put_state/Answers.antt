@@ -1,5 +1,8 @@
-use Rattle.disco_writer.proofs.Adding.{then, at_last}
+use Rattle.json.specs.Print.{escape_byte, print_from}
+use Rattle.disco_writer.specs.Groups.{group_text}
+use Rattle.disco_writer.proofs.Appending.{before, last}
 use Rattle.disco_writer.proofs.groups.put_state.Goals as goal
 
 pub returns : goal.returns
-returns c = at_last _ _ _ (then (then (then c.in_ok-put_status.ensures c.in_ok-put_port.ensures) c.in_ok-put_port-2.ensures) c.in_ok-put_text.ensures) c.put_status-2.ensures
+unfolding escape_byte group_text print_from
+returns c = before c.put_status-2.result _ _ c.in_ok-put_status.ensures (before c.put_status-2.result _ _ c.in_ok-put_number.ensures (before c.put_status-2.result _ _ c.in_ok-put_truth.ensures (before c.put_status-2.result _ _ c.in_ok-put_number-2.ensures (before c.put_status-2.result _ _ c.in_ok-put_truth-2.ensures (before c.put_status-2.result _ _ c.in_ok-put_text.ensures (last c.put_status-2.result _ _ _ c.put_status-2.ensures))))))

@@ -1,5 +1,10 @@
-use Rattle.disco_writer.proofs.Adding.{at_last}
+use Rattle.json.specs.Print.{escape_byte, print_from}
+use Rattle.disco_writer.specs.Groups.{group_text}
+use Rattle.disco_writer.proofs.Appending.{before, renamed}
+use Rattle.disco_writer.proofs.Entries.{entries_last}
 use Rattle.disco_writer.proofs.groups.put_terms.Goals as goal
 
 pub returns : goal.returns
-returns c = at_last _ _ _ c.in_ok-put_lease.ensures c.put_metadata.ensures
+unfolding escape_byte group_text print_from
+returns c =
+    before c.push_entries.result _ _ c.in_ok-put_number.ensures (before c.push_entries.result _ _ c.in_ok-put_number-2.ensures (before c.push_entries.result _ _ c.in_ok-put_number-3.ensures (before c.push_entries.result _ _ c.in_ok-put_number-4.ensures (before c.push_entries.result _ _ c.in_ok-put_number-5.ensures (before c.push_entries.result _ _ c.in_ok-put_number-6.ensures (before c.push_entries.result _ _ c.in_ok-push.ensures (renamed c.push_entries.result _ _ (entries_last c.args.rec.now.metadata) c.push_entries.ensures)))))))

@@ -5,10 +5,10 @@ use Rattle.disco_writer.proofs.instance.write_texts.Goals as goal
 
 pub returns-clause-full : goal.returns-clause-full
 returns-clause-full c =
-    let whole = full_ended _ _ (row c.args.rec.now) c.args.action c.in_ok-texts-2.ensures.full c.in_ok-ended.ensures.full in
+    let whole = full_ended _ _ (row c.args.rec.now) c.args.action c.in_ok-add_back.ensures.full c.in_ok-ended.ensures.full in
     record { all = whole.all; row = c.well_formed-2.ensures; utf8 = whole.utf8; app = subst IsUtf8 c.as_str-app.ensures c.as_str-app.utf8 }
 
 pub returns-clause-compact : goal.returns-clause-compact
 returns-clause-compact c =
-    let whole = compact_ended _ _ (row c.args.rec.now) c.args.action c.in_ok-texts-2.ensures.compact c.in_ok-ended.ensures.compact in
+    let whole = compact_ended _ _ (row c.args.rec.now) c.args.action c.in_ok-add_back.ensures.compact c.in_ok-ended.ensures.compact in
     record { all = whole.all; row = c.well_formed-2.ensures; utf8 = whole.utf8; app = subst IsUtf8 c.as_str-app.ensures c.as_str-app.utf8 }
