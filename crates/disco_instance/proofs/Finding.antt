@@ -1,18 +1,18 @@
 -- What one more member changes of what was found, by the index of its name.
 use Rattle.std.proofs.Common.{◌≡◌, ◌≢◌, ℕ, zero, suc, ◌<◌, ◌≤◌, Bool, true, false, not, ◌&&◌, ◌||◌, List, [], ◌∷◌, length, get_or, set}
-use Rattle.std.proofs.Common.{Option, Some, None, is_some, Bor, string_bytes, refl, sym, ap, ◌∙◌, arith, true≢false, ⊎_elim}
+use Rattle.std.proofs.Common.{Some, option_map, refl, sym, ap, ◌∙◌, arith, true≢false, ⊎_elim}
 use Rattle.std.proofs.lemmas.Bool.{cases_eq, cases_lt}
 use Rattle.std.proofs.lemmas.List.{get_or_default, get_or-set_same, get_or-set_other}
+use Rattle.std.proofs.lemmas.Option.{slice_get_past}
 use Rattle.std.proofs.lemmas.Slice.Eq.{bytes_eq-Decides}
 use Rattle.std.specs.List.{list_any}
-use Rattle.std.specs.Option.{option_or}
 use Rattle.std.specs.Str.{bytes_eq}
-use Rattle.serde_json.proofs.Views.{Entry, member_here, member_later}
-use Rattle.serde_json.specs.Data.{Data, Members}
-use Rattle.serde_json.specs.View.{members_view, view}
-use Rattle.serde_json.specs.declared.value.Value.{Value}
-use Rattle.disco_instance.specs.Found.{StillGive, member_at, member_names, value_at}
-use Rattle.disco_instance.specs.Seen.{seen}
+use Rattle.std.specs.List.{slice_get}
+use Rattle.serde_json.specs.Find.{get}
+use Rattle.serde_json.specs.Data.{Data, Members, no_members, put}
+use Rattle.disco_json.proofs.Trees.{named_here, named_otherwise}
+use Rattle.disco_json.specs.View.{view}
+use Rattle.disco_instance.specs.Found.{AreOf, HoldMembers, Named, member_names, standing}
 
 -- ---- no name stands twice
 
@@ -51,72 +51,39 @@ names_apart i k h below ne e = ⊎_elim
 
 -- ---- one more member
 
-abbrev Values : Type 0
-Values = List (Option (Bor Value))
+-- no member stands anywhere: all places are behind the last
+abbrev pub behind : ℕ → ℕ → List ℕ
+behind zero place = []
+behind (suc n) place = place ∷ behind n place
 
--- the value is at the index, unless there was one already
-pub record IsPut (values : Values) (i : ℕ) (d : Data) (new : Values) : Type 0 where
-  pub here : value_at new i ≡ option_or (value_at values i) (Some d)
-  pub elsewhere : (k : ℕ) → k ≢ i → value_at new k ≡ value_at values k
+behind_at : (n place k : ℕ) → get_or (behind n place) k place ≡ place
+behind_at zero place k = refl
+behind_at (suc n) place zero = refl
+behind_at (suc n) place (suc k) = behind_at n place k
 
-if_empty : (o : Option (Bor Value)) (x : Option Data) → is_some o ≡ false → x ≡ option_or (seen o) x
-if_empty None x e = refl
-if_empty (Some v) x e = absurd (true≢false e)
-
-if_full : (o : Option (Bor Value)) (x : Option Data) → is_some o ≡ true → seen o ≡ option_or (seen o) x
-if_full None x e = absurd (true≢false (sym e))
-if_full (Some v) x e = refl
-
--- whether there is one is read of an element, at any default
-pub put_where_empty : (values : Values) (i : ℕ) (v : Bor Value) (other : Option (Bor Value)) → i < length values → is_some (get_or values i other) ≡ false
-    → IsPut values i (view v.now) (set values i (Some v))
-put_where_empty values i v other h empty =
-    let none : is_some (get_or values i None) ≡ false = ap is_some (get_or_default values i None other h) ∙ empty in
-    record {
-      here = ap seen (get_or-set_same values i (Some v) None h) ∙ if_empty (get_or values i None) (Some (view v.now)) none;
-      elsewhere = λ k ne. ap seen (get_or-set_other values i k (Some v) None ne);
-    }
-
-pub kept_where_full : (values : Values) (i : ℕ) (d : Data) (other : Option (Bor Value)) → i < length values → is_some (get_or values i other) ≡ true
-    → IsPut values i d values
-kept_where_full values i d other h full = record {
-  here = if_full (get_or values i None) (Some d) (ap is_some (get_or_default values i None other h) ∙ full);
-  elsewhere = λ k ne. refl;
-}
-
-filled : (o : Option Data) (d : Data) (r : Option Data) → option_or (option_or o (Some d)) r ≡ option_or o (Some d)
-filled None d r = refl
-filled (Some x) d r = refl
-
-first_at : (e : Entry) (left : List Entry) (k : ℕ) → get_or member_names k [] ≡ string_bytes e.0 → member_at (members_view (e ∷ left)) k ≡ Some (view e.1)
-first_at e left k is = member_here (get_or member_names k []) e left is
-
-first_elsewhere : (e : Entry) (left : List Entry) (k : ℕ) → (get_or member_names k [] ≡ string_bytes e.0 → ⊥) → member_at (members_view (e ∷ left)) k ≡ member_at (members_view left) k
-first_elsewhere e left k other = member_later (get_or member_names k []) e left other
+pub none_yet : (members : List Named) → HoldMembers no_members members (behind 21 (length members))
+none_yet members k below = ap (standing members) (behind_at 21 (length members) k) ∙ ap (option_map (λ m. view m.1)) (slice_get_past members (length members) (omega arith))
 
 -- a member of a name that is read
-pub one_found : (es : List Entry) (e : Entry) (left : List Entry) (all : Members) (values new : Values) (i : ℕ) → es ≡ e ∷ left → i < 21
-    → get_or member_names i [] ≡ string_bytes e.0 → IsPut values i (view e.1) new
-    → StillGive (members_view es) all values → StillGive (members_view left) all new
-one_found es e left all values new i first h is put gives = λ k below.
-    let rest = member_at (members_view left) k in
-    let found = value_at values k in
-    let before = ap (λ s. option_or found (member_at (members_view s) k)) (sym first) ∙ gives k below in
-    ⊎_elim
+pub one_found : (ms : Members) (members : List Named) (m : Named) (places : List ℕ) (i place : ℕ) → i < 21 → i < length places → get_or member_names i [] ≡ m.0.now
+    → slice_get members place ≡ Some m → HoldMembers ms members places → HoldMembers (put m.0.now (view m.1) ms) members (set places i place)
+one_found ms members m places i place h within is there hold = λ k below. ⊎_elim
     (λ (at : k ≡ i).
-    let here : get_or member_names k [] ≡ string_bytes e.0 = ap (λ n. get_or member_names n []) at ∙ is in
-    let same : value_at new k ≡ option_or found (Some (view e.1)) = rw at put.here in
-    ap (λ o. option_or o rest) same ∙ filled found (view e.1) rest ∙ ap (option_or found) (sym (first_at e left k here)) ∙ before)
+    let here : m.0.now ≡ get_or member_names k [] = sym (ap (λ n. get_or member_names n []) at ∙ is) in
+    ap (λ n. standing members (get_or (set places i place) n (length members))) at
+    ∙ ap (standing members) (get_or-set_same places i place (length members) within)
+    ∙ ap (option_map (λ x. view x.1)) there ∙ sym (named_here (get_or member_names k []) m ms here))
     (λ (ne : k ≢ i).
-    let other = λ (eq : get_or member_names k [] ≡ string_bytes e.0). names_apart i k h below ne (eq ∙ sym is) in
-    ap (λ o. option_or o rest) (put.elsewhere k ne) ∙ ap (option_or found) (sym (first_elsewhere e left k other)) ∙ before)
+    let other = λ (eq : m.0.now ≡ get_or member_names k []). names_apart i k h below ne (sym eq ∙ sym is) in
+    ap (standing members) (get_or-set_other places i k place (length members) ne) ∙ hold k below ∙ sym (named_otherwise (get_or member_names k []) m ms other))
     (cases_eq k i)
 
 -- a member of another name
-pub none_found : (es : List Entry) (e : Entry) (left : List Entry) (all : Members) (values : Values) → es ≡ e ∷ left
-    → ((k : ℕ) → k < 21 → get_or member_names k [] ≡ string_bytes e.0 → ⊥) → StillGive (members_view es) all values → StillGive (members_view left) all values
-none_found es e left all values first none gives = λ k below.
-    let found = value_at values k in
-    ap (option_or found) (sym (first_elsewhere e left k (none k below)))
-    ∙ ap (λ s. option_or found (member_at (members_view s) k)) (sym first)
-    ∙ gives k below
+pub none_found : (ms : Members) (members : List Named) (m : Named) (places : List ℕ) → ((k : ℕ) → k < 21 → get_or member_names k [] ≡ m.0.now → ⊥)
+    → HoldMembers ms members places → HoldMembers (put m.0.now (view m.1) ms) members places
+none_found ms members m places none hold = λ k below. hold k below ∙ sym (named_otherwise (get_or member_names k []) m ms (λ eq. none k below (sym eq)))
+
+-- what stands at a place that is read with a default of its own
+pub at_place : (d : Data) (members : List Named) (places : List ℕ) (k other : ℕ) → AreOf d members places → k < 21 → k < length places
+    → standing members (get_or places k other) ≡ get (get_or member_names k []) d
+at_place d members places k other are below within = ap (standing members) (get_or_default places k other (length members) within) ∙ are k below

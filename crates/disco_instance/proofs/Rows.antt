@@ -1,24 +1,19 @@
 -- The member table, member by member and as one row.
-use Rattle.std.proofs.Common.{◌≡◌, List, ℕ, IfOk, Option, Result, Ok, Err, sym, ap, ◌∙◌}
+use Rattle.std.proofs.Common.{◌≡◌, List, ℕ, IfOk, Option, Result, Ok, Err, sym, ap, subst, ◌∙◌}
 use Rattle.serde_json.specs.Data.{Data}
 use Rattle.disco_values.specs.declared.fault.Fault.{Fault}
-use Rattle.disco_instance.specs.declared.parts.Addresses.{Addresses}
-use Rattle.disco_instance.specs.declared.parts.Pages.{Pages}
+use Rattle.disco_instance.specs.declared.details.Details.{Details}
 use Rattle.disco_instance.specs.declared.record.Record.{Record}
-use Rattle.disco_instance.specs.Members.{text_or_empty}
 use Rattle.disco_instance.specs.Row.{row}
 use Rattle.disco_instance.specs.Instance.{Gives, row_at, if_ok, key_at, told_by}
-use Rattle.disco_instance.specs.Steps.{HasPagesAndAddresses, SaysRest, SaysTexts, with_texts}
+use Rattle.disco_instance.specs.Steps.{SaysDetails, SaysRest}
 
-abbrev SaysBoth : Data → Pages → Addresses → Type 0
-SaysBoth d p a = SaysTexts (λ name. text_or_empty name d) p a
-
-pub same_rows : (d : Data) (r : Record) (p : Pages) (a : Addresses) → SaysRest d r → SaysBoth d p a → with_texts (row r) p a ≡ row_at d r.key
+pub same_rows : (d : Data) (r : Record) → SaysRest d r → SaysDetails d r.details → row r ≡ row_at d r.key
 unfolding row_at
-same_rows d r p a s t = λ i. record {
+same_rows d r s t = λ i. record {
   key = r.key;
   country_id = s.country i;
-  data_center = s.data_center i;
+  data_center = t.data_center i;
   health_check_url = t.health_check_url i;
   home_page_url = t.home_page_url i;
   status_page_url = t.status_page_url i;
@@ -28,7 +23,7 @@ same_rows d r p a s t = λ i. record {
   last_dirty = s.last_dirty i;
   last_updated = s.last_updated i;
   lease = s.lease i;
-  metadata = s.metadata i;
+  metadata = t.metadata i;
   overridden_status = s.overridden_status i;
   port = s.port i;
   secure_port = s.secure_port i;
@@ -37,18 +32,7 @@ same_rows d r p a s t = λ i. record {
   status = s.status i;
 }
 
-has_them : (r : Record) (p : Pages) (a : Addresses) → HasPagesAndAddresses p a r → row r ≡ with_texts (row r) p a
-has_them r p a h = λ i. record (row r) {
-  health_check_url = h.health_check_url i;
-  home_page_url = h.home_page_url i;
-  status_page_url = h.status_page_url i;
-  host_name = h.host_name i;
-  ip_addr = h.ip_addr i;
-  secure_vip_address = h.secure_vip_address i;
-  vip_address = h.vip_address i;
-}
-
-pub told : (within : Option (List ℕ)) (d : Data) (p : Pages) (a : Addresses) (r : Result Record Fault)
-    → SaysBoth d p a → IfOk r (λ x. SaysRest d x) → IfOk r (λ x. HasPagesAndAddresses p a x) → Gives (λ x. x.key) r (key_at within d) → Gives row r (told_by within d)
-told within d p a (Ok r) t s h k = ap (λ o. if_ok o (λ q. Ok (row_at d q))) k ∙ ap Ok (sym (has_them r p a h ∙ same_rows d r p a s t))
-told within d p a (Err e) t s h k = λ other. ap (λ o. if_ok o (λ q. Ok (row_at d q))) (k other)
+pub told : (within : Option (List ℕ)) (d : Data) (x : Details) (r : Result Record Fault)
+    → SaysDetails d x → IfOk r (λ y. SaysRest d y) → IfOk r (λ y. y.details ≡ x) → Gives (λ y. y.key) r (key_at within d) → Gives row r (told_by within d)
+told within d x (Ok r) t s h k = ap (λ o. if_ok o (λ q. Ok (row_at d q))) k ∙ ap Ok (sym (same_rows d r s (subst (λ y. SaysDetails d y) (sym h) t)))
+told within d x (Err e) t s h k = λ other. ap (λ o. if_ok o (λ q. Ok (row_at d q))) (k other)

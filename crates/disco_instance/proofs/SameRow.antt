@@ -15,22 +15,24 @@ abbrev made : (r : Row) × Known r → Record
 made p = let r = p.0 in record {
   key = r.key;
   country_id = r.country_id;
-  data_center = r.data_center;
-  health_check_url = r.health_check_url;
-  home_page_url = r.home_page_url;
-  status_page_url = r.status_page_url;
-  host_name = r.host_name;
-  ip_addr = r.ip_addr;
+  details = record {
+    data_center = r.data_center;
+    health_check_url = r.health_check_url;
+    home_page_url = r.home_page_url;
+    status_page_url = r.status_page_url;
+    host_name = r.host_name;
+    ip_addr = r.ip_addr;
+    metadata = r.metadata;
+    secure_vip_address = r.secure_vip_address;
+    vip_address = r.vip_address;
+  };
   is_coordinating = r.is_coordinating;
   last_dirty = r.last_dirty;
   last_updated = r.last_updated;
   lease = r.lease;
-  metadata = r.metadata;
   overridden_status = r.overridden_status;
   port = r.port;
   secure_port = r.secure_port;
-  secure_vip_address = r.secure_vip_address;
-  vip_address = r.vip_address;
   status = r.status;
   has_app = p.1.0;
   has_id = p.1.1;

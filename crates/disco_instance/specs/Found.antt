@@ -1,11 +1,11 @@
 -- What is found among members, by the index of a name. Nothing here is to be believed: no public contract rests on it.
-use Rattle.std.specs.Prelude.{◌≡◌, ℕ, ◌<◌, List, [], ◌∷◌, codes, slice_index_or, Option, None}
+use Rattle.std.specs.Prelude.{◌≡◌, ℕ, ◌<◌, List, [], ◌∷◌, codes, length, slice_index_or, Option, option_map}
 use Rattle.std.specs.Borrow.{Bor}
-use Rattle.std.specs.Option.{option_or}
+use Rattle.std.specs.List.{slice_get}
 use Rattle.serde_json.specs.Data.{Data, Members}
 use Rattle.serde_json.specs.Find.{get, get_member}
-use Rattle.serde_json.specs.declared.value.Value.{Value}
-use Rattle.disco_instance.specs.Seen.{seen}
+use Rattle.disco_json.specs.View.{view}
+use Rattle.disco_json.specs.declared.tree.Tree.{Tree}
 
 -- the names that are read, in byte order
 abbrev pub member_names : List (List ℕ)
@@ -14,22 +14,22 @@ member_names = codes "app" ∷ codes "countryId" ∷ codes "dataCenterInfo" ∷ 
     ∷ codes "metadata" ∷ codes "overriddenStatus" ∷ codes "overriddenstatus" ∷ codes "port" ∷ codes "securePort" ∷ codes "secureVipAddress"
     ∷ codes "status" ∷ codes "statusPageUrl" ∷ codes "vipAddress" ∷ []
 
--- the value at an index, as data
-abbrev pub value_at : List (Option (Bor Value)) → ℕ → Option Data
-value_at values k = seen (slice_index_or values k None)
+-- a member, with its name
+abbrev pub Named : Type 0
+Named = Bor (List ℕ) × Tree
 
--- what members give at the index of a name
-abbrev pub member_at : Members → ℕ → Option Data
-member_at ms k = get_member (slice_index_or member_names k []) ms
+-- the value at a place
+abbrev pub standing : List Named → ℕ → Option Data
+standing members place = option_map (λ m. view m.1) (slice_get members place)
 
--- the values are those that members give
-abbrev pub HoldMembers : Members → List (Option (Bor Value)) → Type 0
-HoldMembers ms values = (k : ℕ) → k < 21 → value_at values k ≡ member_at ms k
+-- the value of the member at an index, as the places say
+abbrev pub value_at : List Named → List ℕ → ℕ → Option Data
+value_at members places k = standing members (slice_index_or places k (length members))
 
--- the values are those that a value gives
-abbrev pub AreOf : Data → List (Option (Bor Value)) → Type 0
-AreOf d values = (k : ℕ) → k < 21 → value_at values k ≡ get (slice_index_or member_names k []) d
+-- the places are those of what some members give
+abbrev pub HoldMembers : Members → List Named → List ℕ → Type 0
+HoldMembers ms members places = (k : ℕ) → k < 21 → value_at members places k ≡ get_member (slice_index_or member_names k []) ms
 
--- what all members give is what was found already, and else what those that are left give
-abbrev pub StillGive : Members → Members → List (Option (Bor Value)) → Type 0
-StillGive left all values = (k : ℕ) → k < 21 → option_or (value_at values k) (member_at left k) ≡ member_at all k
+-- the places are those of what a value gives
+abbrev pub AreOf : Data → List Named → List ℕ → Type 0
+AreOf d members places = (k : ℕ) → k < 21 → value_at members places k ≡ get (slice_index_or member_names k []) d

@@ -35,22 +35,22 @@ abbrev pub row : Record → Row
 row r = record {
   key = r.key;
   country_id = r.country_id;
-  data_center = r.data_center;
-  health_check_url = r.health_check_url;
-  home_page_url = r.home_page_url;
-  status_page_url = r.status_page_url;
-  host_name = r.host_name;
-  ip_addr = r.ip_addr;
+  data_center = r.details.data_center;
+  health_check_url = r.details.health_check_url;
+  home_page_url = r.details.home_page_url;
+  status_page_url = r.details.status_page_url;
+  host_name = r.details.host_name;
+  ip_addr = r.details.ip_addr;
   is_coordinating = r.is_coordinating;
   last_dirty = r.last_dirty;
   last_updated = r.last_updated;
   lease = r.lease;
-  metadata = r.metadata;
+  metadata = r.details.metadata;
   overridden_status = r.overridden_status;
   port = r.port;
   secure_port = r.secure_port;
-  secure_vip_address = r.secure_vip_address;
-  vip_address = r.vip_address;
+  secure_vip_address = r.details.secure_vip_address;
+  vip_address = r.details.vip_address;
   status = r.status;
 }
 

@@ -1,11 +1,11 @@
 -- What a value says, where there is one. Nothing here is to be believed: no public contract rests on it.
 use Rattle.std.specs.Borrow.{Bor}
-use Rattle.std.specs.Prelude.{ℕ, Bool, ◌&&◌, List, [], codes, nat_le, if◌then◌else◌, Option, Some, None, option_and_then, option_map, unwrap_or}
+use Rattle.std.specs.Prelude.{ℕ, Bool, ◌&&◌, List, [], ◌∷◌, codes, nat_le, if◌then◌else◌, Option, Some, None, option_and_then, option_map, unwrap_or}
 use Rattle.std.specs.Option.{option_map_or}
-use Rattle.serde_json.specs.Data.{Data, null}
+use Rattle.serde_json.specs.Data.{Data, null, Members, no_members, member}
 use Rattle.serde_json.specs.Find.{as_object, as_str}
-use Rattle.serde_json.specs.View.{view}
-use Rattle.serde_json.specs.declared.value.Value.{Value}
+use Rattle.disco_json.specs.View.{view}
+use Rattle.disco_json.specs.declared.tree.Tree.{Tree}
 use Rattle.disco_values.specs.Text.{in_upper_case}
 use Rattle.disco_values.specs.Status.{status_named}
 use Rattle.disco_values.specs.declared.status.Status.{Status}
@@ -15,7 +15,7 @@ use Rattle.disco_instance.specs.Metadata.{kept_entries}
 use Rattle.disco_instance.specs.declared.port.Port.{Port}
 
 -- the value behind a reference, as data
-abbrev pub seen : Option (Bor Value) → Option Data
+abbrev pub seen : Option (Bor Tree) → Option Data
 seen o = option_map (λ v. view v.now) o
 
 abbrev pub text_in : Option Data → Option (List ℕ)
@@ -42,3 +42,8 @@ status_or default o = unwrap_or (option_map (λ s. unwrap_or (status_named (in_u
 
 abbrev pub entries_in : Option Data → List (List ℕ × List ℕ)
 entries_in o = option_map_or kept_entries (option_and_then as_object o) []
+
+-- members that stand in order
+abbrev pub sorted_members : List (Bor (List ℕ) × Bor Tree) → Members
+sorted_members [] = no_members
+sorted_members (m ∷ ms) = member m.0.now (view m.1.now) (sorted_members ms)

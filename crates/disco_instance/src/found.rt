@@ -1,13 +1,14 @@
 //! The members of an instance that are read, found in one pass over them.
-ghost use Rattle.std.specs.Prelude.{◌≡◌, ◌≤◌, ℕ, ◌<◌, [], IfSome, None, option_map, slice_index_or};
-ghost use Rattle.serde_json.specs.Find.{get};
-ghost use Rattle.serde_json.specs.View.{members_view, view};
+ghost use Rattle.std.specs.Prelude.{◌≡◌, ◌≤◌, ℕ, ◌<◌, List, [], IfSome, None, option_map, slice_index_or};
+ghost use Rattle.std.specs.Str.{bytes_eq};
+ghost use Rattle.serde_json.specs.Find.{get, get_member};
+ghost use Rattle.disco_json.specs.View.{members_view, view};
 ghost use Rattle.disco_instance.specs.Members.{non_empty_at};
 ghost use Rattle.disco_instance.specs.Names.{member_name};
-ghost use Rattle.disco_instance.specs.Found.{AreOf, HoldMembers, member_names};
+ghost use Rattle.disco_instance.specs.Found.{AreOf, HoldMembers, member_names, standing};
 
 use crate::members::non_empty_in;
-use serde_json::{Map, Value};
+use disco_json::Tree;
 use std::marker::Model;
 
 /// A member of an instance that is read. Each is named as its JSON member.
@@ -62,14 +63,32 @@ const NAMES: [&str; 21] = [
     "vipAddress",
 ];
 
-/// The values of the members, each at the index of its name in `NAMES`.
-type Values<'v> = [Option<&'v Value>; 21];
+/// Where the members stand that are found, each at the index of its name in `NAMES`. One that isn't
+/// there stands behind all.
+type Places = [usize; 21];
 
 fn name_at(index: usize) -> &'static str
     requires { index < 21 }
     ensures { result.now ≡ slice_index_or member_names index [] }
 {
     NAMES[index]
+}
+
+/// Whether this is the name at an index. Most names are told apart by their lengths.
+fn is_named(index: usize, name: &str) -> bool
+    requires { index < 21 }
+    ensures { result ≡ bytes_eq (slice_index_or member_names index []) name.now }
+{
+    let own = name_at(index);
+    own.len() == name.len() && own == name
+}
+
+/// The index of a member's name in `NAMES`.
+fn index_of_member(member: Member) -> usize
+    ensures within { result < 21 }
+    ensures name { slice_index_or member_names result [] ≡ member_name member }
+{
+    member as usize
 }
 
 /// The index of a name in `NAMES`, from `low` on and below `high`.
@@ -80,7 +99,7 @@ fn index_within(name: &str, low: usize, high: usize) -> Option<usize>
     ensures none { result ≡ None → (k : ℕ) → k < high → low ≤ k → slice_index_or member_names k [] ≡ name.now → ⊥ }
 {
     for index in low..high {
-        if name_at(index) == name {
+        if is_named(index, name) {
             return Some(index);
         }
     }
@@ -100,77 +119,94 @@ fn index_of(name: &str, next: usize) -> Option<usize>
     }
 }
 
-/// The values that are found among some members, in one pass over them. The first of a name counts.
-fn values_in<'v>(members: &'v Map<String, Value>) -> Values<'v>
-    ensures { HoldMembers (members_view members.now.entries) result }
+/// Where members stand among some, found in one pass over them. Of equal names the last counts.
+fn places_in<'a>(members: &[(&'a str, Tree<'a>)]) -> Places
+    ensures { HoldMembers (members_view members.now) members.now result }
 {
-    let mut values = [None; 21];
+    let mut places = [members.len(); 21];
     let mut next = 0;
-    for (name, value) in members {
-        if let Some(index) = index_of(name.as_str(), next) {
-            if values[index].is_none() {
-                values[index] = Some(value);
-            }
+    let mut place = 0;
+    for (name, _) in members {
+        if let Some(index) = index_of(name, next) {
+            places[index] = place;
             next = index + 1;
         }
+        place += 1;
     }
-    values
+    places
 }
 
-/// The values that are found among the members of an object, and none in another value.
-fn values_of<'v>(value: &'v Value) -> Values<'v>
-    ensures { AreOf (view value.now) result }
+/// The value at a place.
+fn standing<'v, 'a>(members: &'v [(&'a str, Tree<'a>)], place: usize) -> Option<&'v Tree<'a>>
+    ensures { option_map (λ v. view v.now) result ≡ standing members.now place }
+{
+    if place < members.len() {
+        Some(&members[place].1)
+    } else {
+        None
+    }
+}
+
+/// The members of an object, and none of another value.
+fn members_of<'v, 'a>(value: &'v Tree<'a>) -> &'v [(&'a str, Tree<'a>)]
+    ensures { (name : List ℕ) → get name (view value.now) ≡ get_member name (members_view result.now) }
 {
     match value {
-        Value::Object(members) => values_in(members),
-        _ => [None; 21],
+        Tree::Object(members) => members.as_slice(),
+        _ => &[],
     }
 }
 
 /// The members of an instance that are read. Contracts see the value that they were found in.
 #[derive(Drop)]
-pub struct Found<'v> {
-    value: &'v Value,
-    values: Values<'v>,
+pub struct Found<'v, 'a> {
+    value: &'v Tree<'a>,
+    members: &'v [(&'a str, Tree<'a>)],
+    places: Places,
 }
 
-impl<'v> Model for Found<'v> {
+impl<'v, 'a> Model for Found<'v, 'a> {
+    ghost use mir.Syntax.{named};
+    ghost use Rattle.std.specs.Prelude.{[]};
     ghost use Rattle.std.specs.Coded.{codes};
-    ghost use Rattle.serde_json.specs.contracts.value.Value as contract;
-    ghost use Rattle.serde_json.specs.declared.value.Value as json;
-    ghost use Rattle.serde_json.specs.View as tree;
+    ghost use Rattle.disco_json.specs.contracts.tree.Tree as contract;
+    ghost use Rattle.disco_json.specs.declared.tree.Tree as json;
+    ghost use Rattle.disco_json.specs.View as tree;
     ghost use Rattle.disco_instance.specs.Found.{AreOf};
 
-    ghost Value = { json.Value };
+    ghost Value = { json.Tree };
 
-    ghost coded = { Prim.hlevel (codes, contract.the_row.coded) };
+    ghost coded = { Prim.hlevel (codes, (contract.the_row (record { mir = named 1; lft = [] })).coded) };
 
     ghost view = { λ f. f.value.now };
 
-    ghost invariant = { λ f. AreOf (tree.view f.value.now) f.values };
+    ghost invariant = { λ f. AreOf (tree.view f.value.now) f.members.now f.places };
 }
 
-impl<'v> Found<'v> {
+impl<'v, 'a> Found<'v, 'a> {
     /// The members of a value that are read, found in one pass. Takes no memory.
-    pub fn of(value: &'v Value) -> Found<'v>
+    pub fn of(value: &'v Tree<'a>) -> Found<'v, 'a>
         ensures { result ≡ value.now }
     {
+        let members = members_of(value);
+        let places = places_in(members);
         Found {
             value,
-            values: values_of(value),
+            members,
+            places,
         }
     }
 
     /// The value of a member, where it is there.
-    pub fn at(&self, member: Member) -> Option<&'v Value>
+    #[tactic(auto, using(crate::proofs::Finding::at_place))]
+    pub fn at(&self, member: Member) -> Option<&'v Tree<'a>>
         ensures { option_map (λ v. view v.now) result ≡ get (member_name member) (view self.now) }
     {
-        let values = &self.values[..];
-        values[member as usize]
+        standing(self.members, self.places[index_of_member(member)])
     }
 
     /// The text of a member, where it isn't empty.
-    pub fn non_empty(&self, member: Member) -> Option<&'v str>
+    pub fn non_empty(&self, member: Member) -> Option<&'a str>
         ensures { option_map (λ s. s.now) result ≡ non_empty_at (member_name member) (view self.now) }
     {
         non_empty_in(self.at(member))

@@ -23,7 +23,7 @@ pub fn well_formed(rec: &Record)
     ensures { IsWellFormed (row rec.now) }
 {
     // For the proof alone: what holds of each part.
-    rec.metadata.ordered();
+    rec.details.metadata.ordered();
     is_moment(rec.last_dirty);
     is_moment(rec.last_updated);
     is_moment(rec.lease.eviction);

@@ -5,6 +5,7 @@
 #![tactic(auto)]
 
 mod data_center;
+mod details;
 mod found;
 mod known;
 mod lease;
@@ -15,8 +16,10 @@ mod parts;
 mod port;
 mod reading;
 mod record;
+mod shared_details;
 
 pub use data_center::DataCenter;
+pub use details::Details;
 pub use disco_values::{
     Action, Bytes, Entries, Fault, Field, Form, Key, Status, Text, status_of, upper,
 };
@@ -27,3 +30,4 @@ pub use members::{non_empty_member, text_member, whole};
 pub use port::Port;
 pub use reading::action_from_value;
 pub use record::Record;
+pub use shared_details::SharedDetails;

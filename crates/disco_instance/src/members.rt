@@ -1,6 +1,6 @@
 //! What a JSON value, or a member of one, is. A value of another kind counts as absent.
 ghost use Rattle.std.specs.Prelude.{◌≡◌, ◌≤◌, [], IfOk, option_map, unwrap_or};
-ghost use Rattle.serde_json.specs.View.{view};
+ghost use Rattle.disco_json.specs.View.{view};
 ghost use Rattle.disco_values.specs.Status.{status_named};
 ghost use Rattle.disco_values.specs.Text.{in_upper_case};
 ghost use Rattle.disco_values.specs.declared.status.Status.TheVariants.{Unknown};
@@ -9,27 +9,27 @@ ghost use Rattle.disco_instance.specs.Seen.{flag_in, non_empty_in, number_or, po
 
 use crate::port::Port;
 use disco_digits::number_of_digits;
+use disco_json::Tree;
 use disco_values::{Status, Text, status_of, upper_text};
-use serde_json::Value;
 use std::alloc::{AllocError, Global};
 
 /// A whole number, given as a number or as a text of digits, up to 2^64 - 1.
-pub fn whole(value: &Value) -> Option<u64>
+pub fn whole(value: &Tree<'_>) -> Option<u64>
     ensures { result ≡ as_whole (view value.now) }
 {
     match value {
-        Value::Number(number) => number.as_u64(),
-        Value::String(text) => number_of_digits(text.as_str()),
+        Tree::Number(number) => number.as_u64(),
+        Tree::String(text) => number_of_digits(text),
         _ => None,
     }
 }
 
-fn flag(value: &Value) -> Option<bool>
+fn flag(value: &Tree<'_>) -> Option<bool>
     ensures { result ≡ as_flag (view value.now) }
 {
     match value {
-        Value::Bool(flag) => Some(*flag),
-        Value::String(text) => match text.as_str() {
+        Tree::Bool(flag) => Some(*flag),
+        Tree::String(text) => match *text {
             "true" => Some(true),
             "false" => Some(false),
             _ => None,
@@ -39,14 +39,14 @@ fn flag(value: &Value) -> Option<bool>
 }
 
 /// The text that a value is.
-pub(crate) fn text_in<'v>(value: Option<&'v Value>) -> Option<&'v str>
+pub(crate) fn text_in<'a>(value: Option<&Tree<'a>>) -> Option<&'a str>
     ensures { option_map (λ s. s.now) result ≡ text_in (seen value.entry) }
 {
-    value.and_then(Value::as_str)
+    value.and_then(Tree::as_str)
 }
 
 /// The text that a value is, where it isn't empty.
-pub(crate) fn non_empty_in<'v>(value: Option<&'v Value>) -> Option<&'v str>
+pub(crate) fn non_empty_in<'a>(value: Option<&Tree<'a>>) -> Option<&'a str>
     ensures { option_map (λ s. s.now) result ≡ non_empty_in (seen value.entry) }
 {
     match text_in(value) {
@@ -56,33 +56,33 @@ pub(crate) fn non_empty_in<'v>(value: Option<&'v Value>) -> Option<&'v str>
 }
 
 /// The text at a name.
-pub fn text_member<'v>(value: &'v Value, name: &str) -> Option<&'v str>
+pub fn text_member<'a>(value: &Tree<'a>, name: &str) -> Option<&'a str>
     ensures { option_map (λ s. s.now) result ≡ text_at name.now (view value.now) }
 {
     text_in(value.get(name))
 }
 
 /// The text at a name, where it isn't empty.
-pub fn non_empty_member<'v>(value: &'v Value, name: &str) -> Option<&'v str>
+pub fn non_empty_member<'a>(value: &Tree<'a>, name: &str) -> Option<&'a str>
     ensures { option_map (λ s. s.now) result ≡ non_empty_at name.now (view value.now) }
 {
     non_empty_in(value.get(name))
 }
 
-pub(crate) fn text_or_empty(alloc: Global, value: Option<&Value>) -> Result<Text, AllocError>
+pub(crate) fn text_or_empty(alloc: Global, value: Option<&Tree<'_>>) -> Result<Text, AllocError>
     ensures { IfOk result (λ t. t ≡ unwrap_or (text_in (seen value.entry)) []) }
 {
     Text::new(alloc, text_in(value).unwrap_or(""))
 }
 
-pub(crate) fn flag_in(value: Option<&Value>) -> Option<bool>
+pub(crate) fn flag_in(value: Option<&Tree<'_>>) -> Option<bool>
     ensures { result ≡ flag_in (seen value.entry) }
 {
     value.and_then(flag)
 }
 
 /// The whole number that a value is where it is in range, else the default.
-pub(crate) fn number_or(value: Option<&Value>, low: u64, high: u64, default: u64) -> u64
+pub(crate) fn number_or(value: Option<&Tree<'_>>, low: u64, high: u64, default: u64) -> u64
     ensures value { result ≡ number_or low high default (seen value.entry) }
     ensures in_range { low ≤ default → default ≤ high → (low ≤ result) × (result ≤ high) }
 {
@@ -93,7 +93,7 @@ pub(crate) fn number_or(value: Option<&Value>, low: u64, high: u64, default: u64
 }
 
 /// The port that a value is. Its number and its flag have each a default of their own.
-pub(crate) fn port_or(value: Option<&Value>, number: u16, enabled: bool) -> Port
+pub(crate) fn port_or(value: Option<&Tree<'_>>, number: u16, enabled: bool) -> Port
     ensures { result ≡ port_or number enabled (seen value.entry) }
 {
     match value {
@@ -120,7 +120,7 @@ fn status_in_any_case(alloc: Global, text: &str) -> Result<Status, AllocError>
 /// The status that a value is, in any case, where it is a text.
 pub(crate) fn status_or(
     alloc: Global,
-    value: Option<&Value>,
+    value: Option<&Tree<'_>>,
     default: Status,
 ) -> Result<Status, AllocError>
     ensures { IfOk result (λ s. s ≡ status_or default (seen value.entry)) }

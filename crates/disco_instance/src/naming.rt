@@ -1,7 +1,7 @@
 //! What names an instance, and where it runs, from its members.
 ghost use Rattle.std.specs.Prelude.{◌≡◌, IfOk, option_map};
 ghost use Rattle.std.specs.Option.{option_copied};
-ghost use Rattle.serde_json.specs.View.{view};
+ghost use Rattle.disco_json.specs.View.{view};
 ghost use Rattle.disco_instance.specs.Instance.{Gives, data_center_at, id_at, key_at};
 
 use crate::data_center::DataCenter;
@@ -11,7 +11,7 @@ use disco_values::{Fault, Field, Key, Text, upper_text};
 use std::alloc::{AllocError, Global};
 
 /// The id, for which the name of the host stands where there is none.
-fn id_member<'v>(found: &Found<'v>) -> Option<&'v str>
+fn id_member<'v>(found: &Found<'_, 'v>) -> Option<&'v str>
     ensures { option_map (λ s. s.now) result ≡ id_at (view found.now) }
 {
     match found.non_empty(Member::InstanceId) {
@@ -22,7 +22,7 @@ fn id_member<'v>(found: &Found<'v>) -> Option<&'v str>
 
 pub(crate) fn key_from_found(
     alloc: Global,
-    found: &Found<'_>,
+    found: &Found<'_, '_>,
     within: Option<&str>,
 ) -> Result<Key, Fault>
     ensures { Gives (λ k. k) result (key_at (option_copied within.entry) (view found.now)) }
@@ -43,7 +43,10 @@ pub(crate) fn key_from_found(
     })
 }
 
-pub(crate) fn data_center_member(alloc: Global, found: &Found<'_>) -> Result<DataCenter, AllocError>
+pub(crate) fn data_center_member(
+    alloc: Global,
+    found: &Found<'_, '_>,
+) -> Result<DataCenter, AllocError>
     ensures { IfOk result (λ c. c ≡ data_center_at (view found.now)) }
 {
     let (class, name) = match found.at(Member::DataCenterInfo) {

@@ -1,18 +1,19 @@
-//! The parts of a record that are copied, and read, together.
+//! The parts of a record that are read together.
 ghost use Rattle.std.specs.Prelude.{◌≡◌, codes, IfOk};
 ghost use Rattle.std.specs.Option.{option_copied};
-ghost use Rattle.serde_json.specs.View.{view};
+ghost use Rattle.disco_json.specs.View.{view};
 ghost use Rattle.disco_values.specs.declared.status.Status.TheVariants.{Up};
-ghost use Rattle.disco_instance.specs.Instance.{Gives, data_center_at, key_at};
+ghost use Rattle.disco_instance.specs.Instance.{Gives, key_at};
 ghost use Rattle.disco_instance.specs.Members.{override_at, status_at, text_or_empty};
-ghost use Rattle.disco_instance.specs.Metadata.{entries_at};
+ghost use Rattle.disco_instance.specs.Steps.{HasPagesAndAddresses, SaysDetails};
 
 use crate::data_center::DataCenter;
+use crate::details::Details;
 use crate::found::{Found, Member};
 use crate::members::{status_or, text_in, text_or_empty};
 use crate::metadata::entries_in;
 use crate::naming::{data_center_member, key_from_found};
-use crate::record::Record;
+use crate::shared_details::SharedDetails;
 use disco_values::{Entries, Fault, Key, Status, Text};
 use std::alloc::{AllocError, Global};
 
@@ -25,19 +26,7 @@ pub(crate) struct Pages {
 }
 
 impl Pages {
-    pub(crate) fn copied(rec: &Record) -> Result<Pages, AllocError>
-        ensures health { IfOk result (λ p. p.health_check_url ≡ rec.now.health_check_url) }
-        ensures home { IfOk result (λ p. p.home_page_url ≡ rec.now.home_page_url) }
-        ensures status { IfOk result (λ p. p.status_page_url ≡ rec.now.status_page_url) }
-    {
-        Ok(Pages {
-            health_check_url: rec.health_check_url.clone()?,
-            home_page_url: rec.home_page_url.clone()?,
-            status_page_url: rec.status_page_url.clone()?,
-        })
-    }
-
-    pub(crate) fn read(alloc: Global, found: &Found<'_>) -> Result<Pages, AllocError>
+    pub(crate) fn read(alloc: Global, found: &Found<'_, '_>) -> Result<Pages, AllocError>
         ensures health { IfOk result (λ p. p.health_check_url ≡ text_or_empty (codes "healthCheckUrl") (view found.now)) }
         ensures home { IfOk result (λ p. p.home_page_url ≡ text_or_empty (codes "homePageUrl") (view found.now)) }
         ensures status { IfOk result (λ p. p.status_page_url ≡ text_or_empty (codes "statusPageUrl") (view found.now)) }
@@ -59,42 +48,8 @@ pub(crate) struct Addresses {
     pub(crate) vip_address: Text,
 }
 
-/// Addresses with these texts, copied.
-fn addresses_of(
-    host: &Text,
-    ip: &Text,
-    secure_vip: &Text,
-    vip: &Text,
-) -> Result<Addresses, AllocError>
-    ensures host { IfOk result (λ a. a.host_name ≡ host.now) }
-    ensures ip { IfOk result (λ a. a.ip_addr ≡ ip.now) }
-    ensures secure_vip { IfOk result (λ a. a.secure_vip_address ≡ secure_vip.now) }
-    ensures vip { IfOk result (λ a. a.vip_address ≡ vip.now) }
-{
-    Ok(Addresses {
-        host_name: host.clone()?,
-        ip_addr: ip.clone()?,
-        secure_vip_address: secure_vip.clone()?,
-        vip_address: vip.clone()?,
-    })
-}
-
 impl Addresses {
-    pub(crate) fn copied(rec: &Record) -> Result<Addresses, AllocError>
-        ensures host { IfOk result (λ a. a.host_name ≡ rec.now.host_name) }
-        ensures ip { IfOk result (λ a. a.ip_addr ≡ rec.now.ip_addr) }
-        ensures secure_vip { IfOk result (λ a. a.secure_vip_address ≡ rec.now.secure_vip_address) }
-        ensures vip { IfOk result (λ a. a.vip_address ≡ rec.now.vip_address) }
-    {
-        addresses_of(
-            &rec.host_name,
-            &rec.ip_addr,
-            &rec.secure_vip_address,
-            &rec.vip_address,
-        )
-    }
-
-    pub(crate) fn read(alloc: Global, found: &Found<'_>) -> Result<Addresses, AllocError>
+    pub(crate) fn read(alloc: Global, found: &Found<'_, '_>) -> Result<Addresses, AllocError>
         ensures host { IfOk result (λ a. a.host_name ≡ text_or_empty (codes "hostName") (view found.now)) }
         ensures ip { IfOk result (λ a. a.ip_addr ≡ text_or_empty (codes "ipAddr") (view found.now)) }
         ensures secure_vip { IfOk result (λ a. a.secure_vip_address ≡ text_or_empty (codes "secureVipAddress") (view found.now)) }
@@ -109,41 +64,47 @@ impl Addresses {
     }
 }
 
-/// What names an instance, where it runs, what its owner says of it, and its statuses.
+/// The details with these parts.
+fn joined(pages: Pages, addresses: Addresses, data_center: DataCenter, metadata: Entries) -> Details
+    ensures texts { HasPagesAndAddresses pages addresses result }
+    ensures data_center { result.data_center ≡ data_center }
+    ensures metadata { result.metadata ≡ metadata }
+{
+    Details {
+        data_center,
+        health_check_url: pages.health_check_url,
+        home_page_url: pages.home_page_url,
+        status_page_url: pages.status_page_url,
+        host_name: addresses.host_name,
+        ip_addr: addresses.ip_addr,
+        metadata,
+        secure_vip_address: addresses.secure_vip_address,
+        vip_address: addresses.vip_address,
+    }
+}
+
+/// The details that the members of an instance say.
+pub(crate) fn details_in(alloc: Global, found: &Found<'_, '_>) -> Result<SharedDetails, AllocError>
+    ensures { IfOk result (λ d. SaysDetails (view found.now) d) }
+{
+    let pages = Pages::read(alloc, found)?;
+    let addresses = Addresses::read(alloc, found)?;
+    let data_center = data_center_member(alloc, found)?;
+    let metadata = entries_in(alloc, found.at(Member::Metadata))?;
+    let details = joined(pages, addresses, data_center, metadata);
+    SharedDetails::new(alloc, details)
+}
+
+/// What names an instance, and its statuses.
 #[derive(Drop)]
 pub(crate) struct Rest {
     pub(crate) key: Key,
-    pub(crate) data_center: DataCenter,
-    pub(crate) metadata: Entries,
     pub(crate) overridden_status: Status,
     pub(crate) status: Status,
 }
 
-/// The rest of a record with these parts, copied.
-fn rest_of(
-    key: &Key,
-    data_center: &DataCenter,
-    metadata: &Entries,
-    overridden_status: Status,
-    status: Status,
-) -> Result<Rest, AllocError>
-    ensures key { IfOk result (λ r. r.key ≡ key.now) }
-    ensures data_center { IfOk result (λ r. r.data_center ≡ data_center.now) }
-    ensures metadata { IfOk result (λ r. r.metadata ≡ metadata.now) }
-    ensures overridden_status { IfOk result (λ r. r.overridden_status ≡ overridden_status) }
-    ensures status { IfOk result (λ r. r.status ≡ status) }
-{
-    Ok(Rest {
-        key: key.clone()?,
-        data_center: data_center.clone()?,
-        metadata: metadata.copy()?,
-        overridden_status,
-        status,
-    })
-}
-
 /// The override, under either of its two names.
-fn override_member(alloc: Global, found: &Found<'_>) -> Result<Status, AllocError>
+fn override_member(alloc: Global, found: &Found<'_, '_>) -> Result<Status, AllocError>
     ensures { IfOk result (λ s. s ≡ override_at (view found.now)) }
 {
     let exact = found.at(Member::OverriddenStatus);
@@ -156,32 +117,14 @@ fn override_member(alloc: Global, found: &Found<'_>) -> Result<Status, AllocErro
 }
 
 impl Rest {
-    pub(crate) fn copied(rec: &Record) -> Result<Rest, AllocError>
-        ensures key { IfOk result (λ r. r.key ≡ rec.now.key) }
-        ensures data_center { IfOk result (λ r. r.data_center ≡ rec.now.data_center) }
-        ensures metadata { IfOk result (λ r. r.metadata ≡ rec.now.metadata) }
-        ensures overridden_status { IfOk result (λ r. r.overridden_status ≡ rec.now.overridden_status) }
-        ensures status { IfOk result (λ r. r.status ≡ rec.now.status) }
-    {
-        rest_of(
-            &rec.key,
-            &rec.data_center,
-            &rec.metadata,
-            rec.overridden_status,
-            rec.status,
-        )
-    }
-
     /// The rest that the members of an instance say, within an application of that name. Refused as
     /// `MissingField` for no id and else for no app, and as `OutOfMemory`.
     pub(crate) fn read(
         alloc: Global,
-        found: &Found<'_>,
+        found: &Found<'_, '_>,
         within: Option<&str>,
     ) -> Result<Rest, Fault>
         ensures key { Gives (λ r. r.key) result (key_at (option_copied within.entry) (view found.now)) }
-        ensures data_center { IfOk result (λ r. r.data_center ≡ data_center_at (view found.now)) }
-        ensures metadata { IfOk result (λ r. r.metadata ≡ entries_at (codes "metadata") (view found.now)) }
         ensures overridden_status { IfOk result (λ r. r.overridden_status ≡ override_at (view found.now)) }
         ensures status { IfOk result (λ r. r.status ≡ status_at (codes "status") Up (view found.now)) }
     {
@@ -189,8 +132,6 @@ impl Rest {
         let status = status_or(alloc, found.at(Member::Status), Status::Up)?;
         Ok(Rest {
             key: key_from_found(alloc, found, within)?,
-            data_center: data_center_member(alloc, found)?,
-            metadata: entries_in(alloc, found.at(Member::Metadata))?,
             overridden_status,
             status,
         })

@@ -1,40 +1,41 @@
 //! A record from a JSON value, or from its members.
 ghost use Rattle.std.specs.Prelude.{◌≡◌, ◌<◌, ◌^◌, codes, IfOk};
 ghost use Rattle.std.specs.Option.{option_copied};
-ghost use Rattle.serde_json.specs.View.{view};
+ghost use Rattle.disco_json.specs.View.{view};
 ghost use Rattle.disco_instance.specs.Instance.{Gives, action_at, key_at, lease_in, told_by};
-ghost use Rattle.disco_instance.specs.Steps.{HasPagesAndAddresses, IsRecordKey, IsRecordLease, IsRestOf, SaysRest};
+ghost use Rattle.disco_instance.specs.Steps.{IsRecordKey, IsRecordLease, IsRestOf, SaysRest};
 ghost use Rattle.disco_instance.specs.Members.{inner_at, number_at};
 ghost use Rattle.disco_instance.specs.Row.{row};
 
 use crate::found::{Found, Member};
 use crate::lease::Lease;
 use crate::members::{flag_in, number_or, port_or, text_member};
-use crate::parts::{Addresses, Pages, Rest};
+use crate::parts::{Rest, details_in};
 use crate::record::Record;
+use crate::shared_details::SharedDetails;
+use disco_json::Tree;
 use disco_values::{Action, Fault, action_of};
-use serde_json::Value;
 use std::alloc::Global;
 
-fn country_member(found: &Found<'_>) -> u32
+fn country_member(found: &Found<'_, '_>) -> u32
     ensures value { result ≡ number_at (codes "countryId") 0 2147483647 1 (view found.now) }
     ensures in_range { result < 2 ^ 31 }
 {
     number_or(found.at(Member::CountryId), 0, 2147483647, 1) as u32
 }
 
-fn lease_member(found: &Found<'_>) -> Lease
+fn lease_member(found: &Found<'_, '_>) -> Lease
     ensures value { result ≡ lease_in (inner_at (codes "leaseInfo") (view found.now)) }
     ensures in_range { IsRecordLease result }
 {
-    let nothing = Value::Null;
+    let nothing = Tree::Null;
     match found.at(Member::LeaseInfo) {
         Some(inner) => lease_from_value(inner),
         None => lease_from_value(&nothing),
     }
 }
 
-fn lease_from_value(value: &Value) -> Lease
+fn lease_from_value(value: &Tree<'_>) -> Lease
     ensures value { result ≡ lease_in (view value.now) }
     ensures in_range { IsRecordLease result }
 {
@@ -54,57 +55,48 @@ fn lease_from_value(value: &Value) -> Lease
 }
 
 /// What was done to an instance, where its value says so: the member `actionType`.
-pub fn action_from_value(value: &Value) -> Option<Action>
+pub fn action_from_value(value: &Tree<'_>) -> Option<Action>
     ensures { result ≡ action_at (view value.now) }
 {
     action_of(text_member(value, "actionType")?)
 }
 
-/// The record that the members say, of whose rest, pages and addresses this is so.
-fn with_parts(found: &Found<'_>, rest: Rest, pages: Pages, addresses: Addresses) -> Record
+/// The record that the members say, of whose rest and details this is so.
+fn with_parts(found: &Found<'_, '_>, rest: Rest, details: SharedDetails) -> Record
     requires key { IsRecordKey rest.key }
     requires rest { IsRestOf (view found.now) rest }
     ensures table { SaysRest (view found.now) result }
-    ensures texts { HasPagesAndAddresses pages addresses result }
+    ensures details { result.details ≡ details }
     ensures key { result.key ≡ rest.key }
 {
     Record {
         key: rest.key,
         country_id: country_member(found),
-        data_center: rest.data_center,
-        health_check_url: pages.health_check_url,
-        home_page_url: pages.home_page_url,
-        status_page_url: pages.status_page_url,
-        host_name: addresses.host_name,
-        ip_addr: addresses.ip_addr,
+        details,
         is_coordinating: flag_in(found.at(Member::IsCoordinatingDiscoveryServer)).unwrap_or(false),
         last_dirty: number_or(found.at(Member::LastDirtyTimestamp), 0, u64::MAX, 0),
         last_updated: number_or(found.at(Member::LastUpdatedTimestamp), 0, u64::MAX, 0),
         lease: lease_member(found),
-        metadata: rest.metadata,
         overridden_status: rest.overridden_status,
         port: port_or(found.at(Member::Port), 7001, true),
         secure_port: port_or(found.at(Member::SecurePort), 7002, false),
-        secure_vip_address: addresses.secure_vip_address,
-        vip_address: addresses.vip_address,
         status: rest.status,
     }
 }
 
-/// The record that the members say, but for its pages and addresses, which are given.
+/// The record that the members say, but for its details, which are given.
 fn read_record(
     alloc: Global,
-    found: &Found<'_>,
+    found: &Found<'_, '_>,
     within: Option<&str>,
-    pages: Pages,
-    addresses: Addresses,
+    details: SharedDetails,
 ) -> Result<Record, Fault>
     ensures table { IfOk result (λ r. SaysRest (view found.now) r) }
-    ensures texts { IfOk result (λ r. HasPagesAndAddresses pages addresses r) }
+    ensures details { IfOk result (λ r. r.details ≡ details) }
     ensures key { Gives (λ r. r.key) result (key_at (option_copied within.entry) (view found.now)) }
 {
     let rest = Rest::read(alloc, found, within)?;
-    Ok(with_parts(found, rest, pages, addresses))
+    Ok(with_parts(found, rest, details))
 }
 
 impl Record {
@@ -113,7 +105,11 @@ impl Record {
     /// # Errors
     ///
     /// `MissingField` for no id and else for no app, and `OutOfMemory`.
-    pub fn from_value(alloc: Global, value: &Value, within: Option<&str>) -> Result<Record, Fault>
+    pub fn from_value(
+        alloc: Global,
+        value: &Tree<'_>,
+        within: Option<&str>,
+    ) -> Result<Record, Fault>
         ensures { Gives row result (told_by (option_copied within.entry) (view value.now)) }
     {
         Record::from_found(alloc, &Found::of(value), within)
@@ -125,16 +121,14 @@ impl Record {
     ///
     /// As of [`Record::from_value`]: `MissingField` for no id and else for no app, and
     /// `OutOfMemory`.
-    #[tactic(auto, using(crate::proofs::Rows::told))]
     pub fn from_found(
         alloc: Global,
-        found: &Found<'_>,
+        found: &Found<'_, '_>,
         within: Option<&str>,
     ) -> Result<Record, Fault>
         ensures { Gives row result (told_by (option_copied within.entry) (view found.now)) }
     {
-        let pages = Pages::read(alloc, found)?;
-        let addresses = Addresses::read(alloc, found)?;
-        read_record(alloc, found, within, pages, addresses)
+        let details = details_in(alloc, found)?;
+        read_record(alloc, found, within, details)
     }
 }

@@ -4,11 +4,11 @@ ghost use Rattle.disco_instance.specs.Since.{since};
 ghost use Rattle.disco_values.specs.Text.{in_upper_case};
 ghost use Rattle.disco_values.specs.declared.fault.Fault.TheVariants.{OutOfMemory};
 
-use crate::data_center::DataCenter;
 use crate::lease::Lease;
-use crate::parts::{Addresses, Pages, Rest};
 use crate::port::Port;
-use disco_values::{Entries, Fault, Key, Status, Text};
+use crate::shared_details::SharedDetails;
+use disco_values::{Entries, Fault, Key, Status};
+use std::alloc::Global;
 
 /// What an instance registered, as the registry keeps it. Moments are in milliseconds.
 #[derive(Debug, Drop)]
@@ -17,12 +17,7 @@ pub struct Record {
     pub key: Key,
     /// 0 to 2,147,483,647.
     pub country_id: u32,
-    pub data_center: DataCenter,
-    pub health_check_url: Text,
-    pub home_page_url: Text,
-    pub status_page_url: Text,
-    pub host_name: Text,
-    pub ip_addr: Text,
+    pub details: SharedDetails,
     /// The member `isCoordinatingDiscoveryServer`.
     pub is_coordinating: bool,
     /// When the instance last changed its own record.
@@ -30,14 +25,9 @@ pub struct Record {
     /// When the registry last put the record.
     pub last_updated: u64,
     pub lease: Lease,
-    pub metadata: Entries,
     pub overridden_status: Status,
     pub port: Port,
     pub secure_port: Port,
-    /// Vips separated by commas.
-    pub secure_vip_address: Text,
-    /// Vips separated by commas.
-    pub vip_address: Text,
     pub status: Status,
     pub ghost has_app: { key.app ≢ [] },
     pub ghost has_id: { key.id ≢ [] },
@@ -51,10 +41,9 @@ pub struct Record {
 impl Record {
     ghost use Rattle.disco_values.specs.Entries.{with_entries};
     ghost use Rattle.disco_instance.specs.Row.{row};
-    ghost use Rattle.disco_instance.specs.Steps.{HasPagesAndAddresses, HasRest};
     ghost use Rattle.disco_instance.specs.Moments.{put_at, modified_at, cancelled_at};
 
-    /// The same record once more.
+    /// The same record once more. Its key is copied, and its details are shared.
     ///
     /// # Errors
     ///
@@ -63,38 +52,29 @@ impl Record {
         ensures same { IfOk result (λ r. r ≡ self.now) }
         ensures memory { IfErr result (λ e. e ≡ OutOfMemory) }
     {
-        let pages = Pages::copied(self)?;
-        let addresses = Addresses::copied(self)?;
-        let rest = Rest::copied(self)?;
-        Ok(self.joined(pages, addresses, rest))
+        let key = self.key.clone()?;
+        let details = self.details.share()?;
+        Ok(self.made_of(key, details))
     }
 
-    /// The same record, made of copies of its parts.
-    fn joined(&self, pages: Pages, addresses: Addresses, rest: Rest) -> Record
-        requires texts { HasPagesAndAddresses pages addresses self.now }
-        requires rest { HasRest rest self.now }
+    /// The same record, of an equal key and equal details.
+    fn made_of(&self, key: Key, details: SharedDetails) -> Record
+        requires key { key ≡ self.now.key }
+        requires details { details ≡ self.now.details }
         ensures { result ≡ self.now }
     {
         Record {
-            key: rest.key,
+            key,
             country_id: self.country_id,
-            data_center: rest.data_center,
-            health_check_url: pages.health_check_url,
-            home_page_url: pages.home_page_url,
-            status_page_url: pages.status_page_url,
-            host_name: addresses.host_name,
-            ip_addr: addresses.ip_addr,
+            details,
             is_coordinating: self.is_coordinating,
             last_dirty: self.last_dirty,
             last_updated: self.last_updated,
             lease: self.lease,
-            metadata: rest.metadata,
-            overridden_status: rest.overridden_status,
+            overridden_status: self.overridden_status,
             port: self.port,
             secure_port: self.secure_port,
-            secure_vip_address: addresses.secure_vip_address,
-            vip_address: addresses.vip_address,
-            status: rest.status,
+            status: self.status,
         }
     }
 
@@ -137,12 +117,13 @@ impl Record {
     /// # Errors
     ///
     /// `OutOfMemory` alone.
-    pub fn with_entries(self, entries: &Entries) -> Result<Record, Fault>
+    pub fn with_entries(self, alloc: Global, entries: &Entries) -> Result<Record, Fault>
         ensures record_is { IfOk result (λ r. row r ≡ record (row self) { metadata = with_entries (row self).metadata entries.now }) }
         ensures memory { IfErr result (λ e. e ≡ OutOfMemory) }
     {
+        let details = self.details.with_entries(entries)?;
         let mut new = self;
-        new.metadata.put_all(entries)?;
+        new.details = SharedDetails::new(alloc, details)?;
         Ok(new)
     }
 

@@ -1,3 +1,6 @@
+use Rattle.std.proofs.Common.{sym, ap, ◌∙◌}
+use Rattle.disco_values.specs.Entries.{is_by_name}
+use Rattle.disco_instance.specs.declared.details.Details.{Details}
 use Rattle.disco_instance.proofs.known.well_formed.Goals as goal
 
 pub returns : goal.returns
@@ -19,5 +22,5 @@ returns c =
       service_up = c.is_moment-6.ensures;
       port = c.is_port.ensures;
       secure_port = c.is_port-2.ensures;
-      metadata = c.ordered.ensures;
+      metadata = ap (λ (d : Details). is_by_name d.metadata) (sym c.deref.ensures) ∙ c.ordered.ensures;
     }
