@@ -1,10 +1,9 @@
 //! Reading a document.
-ghost use Rattle.std.specs.Prelude.{◌≡◌, codes, map, option_map, option_and_then, unwrap_or, IfOk, Err, None, Some};
+ghost use Rattle.std.specs.Prelude.{◌≡◌, [], codes, is_some, map, option_map, option_and_then, unwrap_or, IfOk, Err, None, Some};
 ghost use Rattle.std.specs.Option.{ok_or, option_copied};
 ghost use Rattle.disco_wire.specs.declared.wire.Shape.TheVariants.{App, Many, One};
-ghost use Rattle.serde_json.specs.Data.{null};
 ghost use Rattle.serde_json.specs.Find.{get};
-ghost use Rattle.serde_json.specs.View.{view};
+ghost use Rattle.disco_json.specs.View.{view};
 ghost use Rattle.disco_instance.specs.Instance.{Gives};
 ghost use Rattle.disco_values.specs.declared.fault.Fault.TheVariants.{BadDocument};
 ghost use Rattle.disco_instance.specs.Members.{as_whole, text_at};
@@ -16,8 +15,9 @@ ghost use Rattle.disco_wire.specs.Wire.{wire_meaning, tell_all};
 use crate::tree::{object_member, tree_of};
 use crate::wire::{Mention, Mentions, Shape, Wire};
 use disco_instance::{Record, action_from_value, text_member, whole};
+use disco_json::Tree;
 use disco_values::{Fault, Text};
-use serde_json::Value;
+use json::Scratch;
 use std::alloc::{AllocError, Global};
 
 /// What a document means: the body of an answer to one of Eureka's `GET`s.
@@ -29,12 +29,13 @@ use std::alloc::{AllocError, Global};
 pub fn read_document(alloc: Global, bytes: &[u8]) -> Result<Wire, Fault>
     ensures { Gives wire_meaning result (document_of bytes.now) }
 {
-    let tree = tree_of(alloc, bytes)?;
+    let mut scratch = Scratch::new(alloc);
+    let tree = tree_of(alloc, bytes, &mut scratch)?;
     from_tree(alloc, &tree)
 }
 
 #[tactic(auto, unfolding(crate::specs::Meaning::meaning_of))]
-fn from_tree(alloc: Global, tree: &Value) -> Result<Wire, Fault>
+fn from_tree(alloc: Global, tree: &Tree<'_>) -> Result<Wire, Fault>
     ensures { Gives wire_meaning result (ok_or (meaning_of (view tree.now)) BadDocument) }
 {
     if let Some(applications) = object_member(tree, "applications") {
@@ -48,7 +49,7 @@ fn from_tree(alloc: Global, tree: &Value) -> Result<Wire, Fault>
     }
 }
 
-fn one_app(alloc: Global, app: &Value) -> Result<Wire, Fault>
+fn one_app(alloc: Global, app: &Tree<'_>) -> Result<Wire, Fault>
     ensures { Gives wire_meaning result (ok_or (option_map (meant App None None) (told_app (view app.now))) BadDocument) }
 {
     let mut mentions = Vec::new(alloc);
@@ -61,7 +62,7 @@ fn one_app(alloc: Global, app: &Value) -> Result<Wire, Fault>
     })
 }
 
-fn one_instance(alloc: Global, instance: &Value) -> Result<Wire, Fault>
+fn one_instance(alloc: Global, instance: &Tree<'_>) -> Result<Wire, Fault>
     ensures { Gives wire_meaning result (ok_or (option_map (meant One None None) (told_in None (view instance.now))) BadDocument) }
 {
     let mut mentions = Vec::new(alloc);
@@ -74,17 +75,16 @@ fn one_instance(alloc: Global, instance: &Value) -> Result<Wire, Fault>
     })
 }
 
-fn many(alloc: Global, applications: &Value) -> Result<Wire, Fault>
+fn many(alloc: Global, applications: &Tree<'_>) -> Result<Wire, Fault>
     ensures { Gives wire_meaning result (ok_or (option_map (meant Many (text_at (codes "apps__hashcode") (view applications.now))
         (option_and_then as_whole (get (codes "versions__delta") (view applications.now)))) (told_apps (view applications.now))) BadDocument) }
 {
     let hash = text_of_member(alloc, applications, "apps__hashcode")?;
     let version = version_of(applications);
-    let Some(items) = items_of(applications.get("application")) else {
-        return Err(Fault::BadDocument);
-    };
     let mut mentions = Vec::new(alloc);
-    push_apps(alloc, &mut mentions, items)?;
+    if let Some(listed) = applications.get("application") {
+        push_listed_apps(alloc, &mut mentions, listed)?;
+    }
     Ok(Wire {
         shape: Shape::Many,
         mentions: Mentions::from_vec(mentions),
@@ -93,7 +93,7 @@ fn many(alloc: Global, applications: &Value) -> Result<Wire, Fault>
     })
 }
 
-fn text_of_member(alloc: Global, value: &Value, name: &str) -> Result<Option<Text>, AllocError>
+fn text_of_member(alloc: Global, value: &Tree<'_>, name: &str) -> Result<Option<Text>, AllocError>
     ensures { IfOk result (λ o. o ≡ text_at name.now (view value.now)) }
 {
     match text_member(value, name) {
@@ -102,28 +102,25 @@ fn text_of_member(alloc: Global, value: &Value, name: &str) -> Result<Option<Tex
     }
 }
 
-/// The items of an array, one object, or nothing.
-fn items_of(place: Option<&Value>) -> Option<&[Value]>
-    ensures { option_map (λ s. map view s.now) result ≡ listed_in (unwrap_or (option_map (λ v. view v.now) place.entry) null) }
+/// Whether this is an array, an object or null.
+fn is_listed(value: &Tree<'_>) -> bool
+    ensures { result ≡ is_some (listed_in (view value.now)) }
 {
-    match place {
-        None => Some(&[]),
-        Some(value) => items_in(value),
-    }
+    matches!(value, Tree::Null | Tree::Array(_) | Tree::Object(_))
 }
 
-fn items_in(value: &Value) -> Option<&[Value]>
-    ensures { option_map (λ s. map view s.now) result ≡ listed_in (view value.now) }
+/// The items of an array, or one object. Another value has none.
+fn items_in<'v, 'a>(value: &'v Tree<'a>) -> &'v [Tree<'a>]
+    ensures { map view result.now ≡ unwrap_or (listed_in (view value.now)) [] }
 {
     match value {
-        Value::Null => Some(&[]),
-        Value::Array(list) => Some(list.as_slice()),
-        Value::Object(_) => Some(std::slice::from_ref(value)),
-        _ => None,
+        Tree::Array(list) => list.as_slice(),
+        Tree::Object(_) => std::slice::from_ref(value),
+        _ => &[],
     }
 }
 
-fn version_of(applications: &Value) -> Option<u64>
+fn version_of(applications: &Tree<'_>) -> Option<u64>
     ensures { result ≡ option_and_then as_whole (get (codes "versions__delta") (view applications.now)) }
 {
     match applications.get("versions__delta") {
@@ -133,7 +130,7 @@ fn version_of(applications: &Value) -> Option<u64>
 }
 
 #[tactic(auto, using(crate::proofs::Telling::step, crate::proofs::Telling::stop))]
-fn push_apps(alloc: Global, out: &mut Vec<Mention>, values: &[Value]) -> Result<(), Fault>
+fn push_apps(alloc: Global, out: &mut Vec<Mention>, values: &[Tree<'_>]) -> Result<(), Fault>
     ensures { Gives (λ _. tell_all out.new.items) result (told_on (tell_all out.old.items) (all_told told_item (map view values.now))) }
 {
     for value in values {
@@ -142,7 +139,17 @@ fn push_apps(alloc: Global, out: &mut Vec<Mention>, values: &[Value]) -> Result<
     Ok(())
 }
 
-fn push_item(alloc: Global, out: &mut Vec<Mention>, value: &Value) -> Result<(), Fault>
+fn push_listed_apps(alloc: Global, out: &mut Vec<Mention>, listed: &Tree<'_>) -> Result<(), Fault>
+    ensures { Gives (λ _. tell_all out.new.items) result (told_on (tell_all out.old.items)
+        (option_and_then (all_told told_item) (listed_in (view listed.now)))) }
+{
+    if !is_listed(listed) {
+        return Err(Fault::BadDocument);
+    }
+    push_apps(alloc, out, items_in(listed))
+}
+
+fn push_item(alloc: Global, out: &mut Vec<Mention>, value: &Tree<'_>) -> Result<(), Fault>
     ensures { Gives (λ _. tell_all out.new.items) result (told_on (tell_all out.old.items) (told_item (view value.now))) }
 {
     if value.is_object() {
@@ -152,12 +159,12 @@ fn push_item(alloc: Global, out: &mut Vec<Mention>, value: &Value) -> Result<(),
     }
 }
 
-fn push_app(alloc: Global, out: &mut Vec<Mention>, app: &Value) -> Result<(), Fault>
+fn push_app(alloc: Global, out: &mut Vec<Mention>, app: &Tree<'_>) -> Result<(), Fault>
     ensures { Gives (λ _. tell_all out.new.items) result (told_on (tell_all out.old.items) (told_app (view app.now))) }
 {
-    match items_of(app.get("instance")) {
-        Some(items) => push_instances(alloc, out, text_member(app, "name"), items),
-        None => Err(Fault::BadDocument),
+    match app.get("instance") {
+        Some(listed) => push_listed_instances(alloc, out, text_member(app, "name"), listed),
+        None => Ok(()),
     }
 }
 
@@ -166,7 +173,7 @@ fn push_instances(
     alloc: Global,
     out: &mut Vec<Mention>,
     within: Option<&str>,
-    values: &[Value],
+    values: &[Tree<'_>],
 ) -> Result<(), Fault>
     ensures { Gives (λ _. tell_all out.new.items) result (told_on (tell_all out.old.items)
         (all_told (told_in (option_copied within.entry)) (map view values.now))) }
@@ -177,12 +184,27 @@ fn push_instances(
     Ok(())
 }
 
+fn push_listed_instances(
+    alloc: Global,
+    out: &mut Vec<Mention>,
+    within: Option<&str>,
+    listed: &Tree<'_>,
+) -> Result<(), Fault>
+    ensures { Gives (λ _. tell_all out.new.items) result (told_on (tell_all out.old.items)
+        (option_and_then (all_told (told_in (option_copied within.entry))) (listed_in (view listed.now)))) }
+{
+    if !is_listed(listed) {
+        return Err(Fault::BadDocument);
+    }
+    push_instances(alloc, out, within, items_in(listed))
+}
+
 #[tactic(auto, unfolding(crate::specs::Meaning::told_in))]
 fn push_instance(
     alloc: Global,
     out: &mut Vec<Mention>,
     within: Option<&str>,
-    value: &Value,
+    value: &Tree<'_>,
 ) -> Result<(), Fault>
     ensures { Gives (λ _. tell_all out.new.items) result (told_on (tell_all out.old.items) (told_in (option_copied within.entry) (view value.now))) }
 {

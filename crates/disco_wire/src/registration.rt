@@ -1,7 +1,7 @@
 //! Reading a registration.
 ghost use Rattle.std.specs.Prelude.{◌≡◌, Err, None, codes, is_some};
 ghost use Rattle.std.specs.Option.{option_map_or};
-ghost use Rattle.serde_json.specs.View.{view};
+ghost use Rattle.disco_json.specs.View.{view};
 ghost use Rattle.disco_values.specs.declared.fault.Fault.TheVariants.{MissingField};
 ghost use Rattle.disco_instance.specs.Instance.{Gives, told_by};
 ghost use Rattle.disco_instance.specs.Members.{inner_at, non_empty_at};
@@ -10,8 +10,9 @@ ghost use Rattle.disco_wire.specs.Registration.{missing_in, registration_in, reg
 
 use crate::tree::{object_member, tree_of};
 use disco_instance::{Found, Member, Record, non_empty_member};
+use disco_json::Tree;
 use disco_values::{Fault, Field};
-use serde_json::Value;
+use json::Scratch;
 use std::alloc::Global;
 
 /// The record of a registration, the body of Eureka's `POST /apps/{app}`.
@@ -24,11 +25,12 @@ use std::alloc::Global;
 pub fn read_registration(alloc: Global, bytes: &[u8]) -> Result<Record, Fault>
     ensures { Gives row result (registration_of bytes.now) }
 {
-    let tree = tree_of(alloc, bytes)?;
+    let mut scratch = Scratch::new(alloc);
+    let tree = tree_of(alloc, bytes, &mut scratch)?;
     registration_from_tree(alloc, &tree)
 }
 
-fn registration_from_tree(alloc: Global, tree: &Value) -> Result<Record, Fault>
+fn registration_from_tree(alloc: Global, tree: &Tree<'_>) -> Result<Record, Fault>
     ensures { Gives row result (registration_in (view tree.now)) }
 {
     match object_member(tree, "instance") {
@@ -37,7 +39,7 @@ fn registration_from_tree(alloc: Global, tree: &Value) -> Result<Record, Fault>
     }
 }
 
-fn registered(alloc: Global, instance: &Value) -> Result<Record, Fault>
+fn registered(alloc: Global, instance: &Tree<'_>) -> Result<Record, Fault>
     ensures { Gives row result (option_map_or (λ field. Err (MissingField field)) (missing_in (view instance.now)) (told_by None (view instance.now))) }
 {
     let found = Found::of(instance);
@@ -48,7 +50,7 @@ fn registered(alloc: Global, instance: &Value) -> Result<Record, Fault>
 }
 
 /// The first required member that is absent or empty.
-fn missing_member(found: &Found<'_>) -> Option<Field>
+fn missing_member(found: &Found<'_, '_>) -> Option<Field>
     ensures { result ≡ missing_in (view found.now) }
 {
     let has_host = found.non_empty(Member::HostName).is_some();
@@ -67,7 +69,7 @@ fn missing_member(found: &Found<'_>) -> Option<Field>
     }
 }
 
-fn has_data_center(found: &Found<'_>) -> bool
+fn has_data_center(found: &Found<'_, '_>) -> bool
     ensures { result ≡ is_some (non_empty_at (codes "name") (inner_at (codes "dataCenterInfo") (view found.now))) }
 {
     match found.at(Member::DataCenterInfo) {
