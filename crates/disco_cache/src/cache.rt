@@ -102,8 +102,8 @@ fn are_asked_alike(old: Option<&Record>, new: Option<&Record>) -> bool
     match (old, new) {
         (Some(old), Some(new)) => {
             old.key == new.key
-                && old.vip_address == new.vip_address
-                && old.secure_vip_address == new.secure_vip_address
+                && old.details.vip_address == new.details.vip_address
+                && old.details.secure_vip_address == new.details.secure_vip_address
         }
         _ => false,
     }
@@ -204,8 +204,8 @@ impl DocCache {
         self.drop_both(QueryRef::Delta);
         self.drop_both(QueryRef::App(rec.key.app.as_str()));
         self.drop_both(QueryRef::Instance(&rec.key));
-        self.drop_vips(rec.vip_address.as_str(), false);
-        self.drop_vips(rec.secure_vip_address.as_str(), true);
+        self.drop_vips(rec.details.vip_address.as_str(), false);
+        self.drop_vips(rec.details.secure_vip_address.as_str(), true);
     }
 
     /// Drops the documents of each vip, or secure vip, of an address.

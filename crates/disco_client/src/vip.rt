@@ -35,5 +35,5 @@ fn has_vip(address: &str, vip: &str) -> bool
 pub(crate) fn is_up_under(rec: &Record, vip: &str) -> bool
     ensures { result ≡ is_up_under vip.now (row rec.now) }
 {
-    rec.status.is(Status::Up) && has_vip(rec.vip_address.as_str(), vip)
+    rec.status.is(Status::Up) && has_vip(rec.details.vip_address.as_str(), vip)
 }

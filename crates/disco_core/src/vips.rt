@@ -97,7 +97,7 @@ fn stay(held: Option<&Held>, change: &Change) -> bool
                 action: Action::Added | Action::Modified,
                 rec,
             },
-        ) => held.rec.vip_address == rec.vip_address,
+        ) => held.rec.details.vip_address == rec.details.vip_address,
         _ => false,
     }
 }

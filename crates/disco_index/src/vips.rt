@@ -73,7 +73,7 @@ impl VipIndex {
         ensures places { KeepsVipPlaces self.old self.new }
         ensures memory { IfErr result (λ e. e ≡ OutOfMemory) }
     {
-        let mut rest = rec.vip_address.as_str();
+        let mut rest = rec.details.vip_address.as_str();
         while let Some((vip, after)) = next_vip(rest) {
             self.open(vip, &rec.key)?;
             rest = after;
@@ -109,7 +109,7 @@ impl VipIndex {
         ensures swept { HasNoneEmpty self.new (row rec.now) }
         ensures others { KeepsOtherVips (row rec.now) self.old self.new }
     {
-        let mut rest = rec.vip_address.as_str();
+        let mut rest = rec.details.vip_address.as_str();
         while let Some((vip, after)) = next_vip(rest) {
             self.close(vip, &rec.key);
             rest = after;
@@ -158,9 +158,9 @@ impl VipIndex {
 
     /// Says under each of the record's vips whether its instance is there, where it has a place.
     fn write_all(&mut self, rec: &Record, there: bool)
-        ensures { Alters (written there) (vips rec.now.vip_address) rec.now.key self.old self.new }
+        ensures { Alters (written there) (vips rec.now.details.vip_address) rec.now.key self.old self.new }
     {
-        let mut rest = rec.vip_address.as_str();
+        let mut rest = rec.details.vip_address.as_str();
         while let Some((vip, after)) = next_vip(rest) {
             self.write(vip, &rec.key, there);
             rest = after;

@@ -430,7 +430,7 @@ impl Registry {
         if self.version >= self.versions {
             return Err(Fault::VersionsSpent);
         }
-        let posted = held.copy()?.with_entries(entries)?;
+        let posted = held.copy()?.with_entries(self.alloc, entries)?;
         let new = settled(Some(held), posted, now)?;
         let kept = kept_as(self.alloc, new, Action::Added)?;
         let ready = put_ready(kept)?;

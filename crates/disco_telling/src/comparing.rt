@@ -3,7 +3,7 @@ ghost use Rattle.std.specs.Prelude.{◌≡◌, ◌↔◌, IsTrue, map};
 ghost use Rattle.disco_instance.specs.Row.{row};
 
 use disco_history::Held;
-use disco_instance::{DataCenter, Lease, Port, Record};
+use disco_instance::{DataCenter, Details, Lease, Port, Record};
 use disco_values::{Entries, Key, Text};
 
 fn same_texts(one: &Text, other: &Text) -> bool
@@ -74,7 +74,7 @@ fn same_entries(ones: &Entries, others: &Entries) -> bool
     same_pairs(ones.as_slice(), others.as_slice())
 }
 
-fn same_pages(one: &Record, other: &Record) -> bool
+fn same_pages(one: &Details, other: &Details) -> bool
     ensures { IsTrue result ↔ ((one.now.health_check_url ≡ other.now.health_check_url) × (one.now.home_page_url ≡ other.now.home_page_url)
         × (one.now.status_page_url ≡ other.now.status_page_url)) }
 {
@@ -83,7 +83,7 @@ fn same_pages(one: &Record, other: &Record) -> bool
         && same_texts(&one.status_page_url, &other.status_page_url)
 }
 
-fn same_addresses(one: &Record, other: &Record) -> bool
+fn same_addresses(one: &Details, other: &Details) -> bool
     ensures { IsTrue result ↔ ((one.now.host_name ≡ other.now.host_name) × (one.now.ip_addr ≡ other.now.ip_addr)
         × (one.now.vip_address ≡ other.now.vip_address) × (one.now.secure_vip_address ≡ other.now.secure_vip_address)) }
 {
@@ -91,6 +91,16 @@ fn same_addresses(one: &Record, other: &Record) -> bool
         && same_texts(&one.ip_addr, &other.ip_addr)
         && same_texts(&one.vip_address, &other.vip_address)
         && same_texts(&one.secure_vip_address, &other.secure_vip_address)
+}
+
+/// Whether instances told the same of themselves.
+fn same_details(one: &Details, other: &Details) -> bool
+    ensures { IsTrue result ↔ (one.now ≡ other.now) }
+{
+    same_data_centers(&one.data_center, &other.data_center)
+        && same_pages(one, other)
+        && same_addresses(one, other)
+        && same_entries(&one.metadata, &other.metadata)
 }
 
 fn same_numbers(one: &Record, other: &Record) -> bool
@@ -110,11 +120,9 @@ fn same_statuses(one: &Record, other: &Record) -> bool
 }
 
 fn same_places(one: &Record, other: &Record) -> bool
-    ensures { IsTrue result ↔ ((one.now.key ≡ other.now.key) × (one.now.data_center ≡ other.now.data_center) × (one.now.port ≡ other.now.port)
-        × (one.now.secure_port ≡ other.now.secure_port)) }
+    ensures { IsTrue result ↔ ((one.now.key ≡ other.now.key) × (one.now.port ≡ other.now.port) × (one.now.secure_port ≡ other.now.secure_port)) }
 {
     same_keys(&one.key, &other.key)
-        && same_data_centers(&one.data_center, &other.data_center)
         && same_ports(one.port, other.port)
         && same_ports(one.secure_port, other.secure_port)
 }
@@ -124,12 +132,10 @@ pub(crate) fn same_records(one: &Record, other: &Record) -> bool
     ensures { IsTrue result ↔ (row one.now ≡ row other.now) }
 {
     same_places(one, other)
-        && same_pages(one, other)
-        && same_addresses(one, other)
+        && same_details(&one.details, &other.details)
         && same_numbers(one, other)
         && same_statuses(one, other)
         && same_leases(one.lease, other.lease)
-        && same_entries(&one.metadata, &other.metadata)
 }
 
 /// Whether the records are the same, in the same order.

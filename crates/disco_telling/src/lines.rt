@@ -19,7 +19,7 @@ use std::io::Write;
 fn write_reached<W: Write>(rec: &Record, out: &mut W) -> io::Result<()>
     ensures { OnOk result (Appends (W.contents out.old) (W.contents out.new) (reached_at (row rec.now))) }
 {
-    let (host, port) = (rec.host_name.as_str(), rec.port.number);
+    let (host, port) = (rec.details.host_name.as_str(), rec.port.number);
     write!(out, " {host}:{port}")
 }
 

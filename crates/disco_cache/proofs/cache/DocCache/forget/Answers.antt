@@ -1,5 +1,6 @@
-use Rattle.std.proofs.Common.{ℕ, List, false, true, subst}
+use Rattle.std.proofs.Common.{ℕ, List, false, true, ap, subst, ◌∙◌}
 use Rattle.disco_instance.specs.Row.{row}
+use Rattle.disco_instance.specs.declared.details.Details.{Details}
 use Rattle.disco_history.specs.Query.{vips}
 use Rattle.disco_query.specs.declared.query.Query.TheVariants as query
 use Rattle.disco_cache.specs.Docs.{Drops}
@@ -11,8 +12,8 @@ pub returns : goal.returns
 returns c =
     let r = row c.args.rec.now in
     let app = subst (λ (name : List ℕ). Drops (is_of (query.App name)) c.drop_both-2.new.self c.drop_both-3.new.self) c.as_str.ensures c.drop_both-3.ensures in
-    let plain = subst (λ (address : List ℕ). Drops (is_of_any false (vips address)) c.drop_both-4.new.self c.drop_vips.new.self) c.as_str-2.ensures c.drop_vips.ensures in
-    let secure = subst (λ (address : List ℕ). Drops (is_of_any true (vips address)) c.drop_vips.new.self c.drop_vips-2.new.self) c.as_str-3.ensures c.drop_vips-2.ensures in
+    let plain = subst (λ (address : List ℕ). Drops (is_of_any false (vips address)) c.drop_both-4.new.self c.drop_vips.new.self) (c.as_str-2.ensures ∙ ap (λ (d : Details). d.vip_address) c.deref.ensures) c.drop_vips.ensures in
+    let secure = subst (λ (address : List ℕ). Drops (is_of_any true (vips address)) c.drop_vips.new.self c.drop_vips-2.new.self) (c.as_str-3.ensures ∙ ap (λ (d : Details). d.secure_vip_address) c.deref-2.ensures) c.drop_vips-2.ensures in
     alike (is_asked r) _ c.args.self.now c.drop_vips-2.new.self (asked r)
     (then _ _ c.args.self.now c.drop_both.new.self c.drop_vips-2.new.self c.drop_both.ensures
     (then _ _ c.drop_both.new.self c.drop_both-2.new.self c.drop_vips-2.new.self c.drop_both-2.ensures

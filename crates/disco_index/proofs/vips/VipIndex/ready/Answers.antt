@@ -10,9 +10,9 @@ loop-vip-preserved c =
     let k = c.args.rec.now.key in
     let here = c.loop-vip.self in
     let next = c.open.new.self in
-    let all = vips c.args.rec.now.vip_address in (
+    let all = vips c.args.rec.now.details.vip_address in (
       search rules,
-      left-step opened_vip opened-twice (vips c.args.rec.now.vip_address) k c.args.self.now c.in-Some.vip.now (vips c.loop-vip.rest.now) (vips c.in-Some.after.now) here next
+      left-step opened_vip opened-twice (vips c.args.rec.now.details.vip_address) k c.args.self.now c.in-Some.vip.now (vips c.loop-vip.rest.now) (vips c.in-Some.after.now) here next
           c.in-Some.ensures c.in_ok-open.ensures.ok c.loop-vip.invariant.1,
       λ q p. opens_same one k here next c.in_ok-open.ensures.ok q p ∙ c.loop-vip.invariant.2 q p,
       λ q p some. opens_keeps one k here next c.in_ok-open.ensures.ok q p (c.loop-vip.invariant.3 q p some),

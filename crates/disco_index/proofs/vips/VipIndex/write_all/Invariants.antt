@@ -7,7 +7,7 @@ use Rattle.disco_index.proofs.Alterings.{Left}
 use Rattle.disco_index.proofs.vips.VipIndex.write_all.Given as goal
 
 abbrev pub invariant-loop-vip : goal.invariant-loop-vip
-invariant-loop-vip l = shadow (Utf8 l.rest) × Left (written l.there) (vips l.fn.rec.vip_address) l.fn.rec.key l.fn.self (vips l.rest) l.self
+invariant-loop-vip l = shadow (Utf8 l.rest) × Left (written l.there) (vips l.fn.rec.details.vip_address) l.fn.rec.key l.fn.self (vips l.rest) l.self
 
 abbrev pub decreases-loop-vip : goal.decreases-loop-vip
 decreases-loop-vip l = length (vips l.rest)
