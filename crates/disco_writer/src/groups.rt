@@ -9,7 +9,7 @@ use crate::members::{
     push, push_entries, push_quoted, put_action, put_digits, put_number, put_status, put_text,
     put_truth,
 };
-use disco_instance::Record;
+use disco_instance::{Details, Record};
 use disco_values::Action;
 use std::alloc::AllocError;
 
@@ -58,28 +58,27 @@ fn put_names(out: &mut Vec<u8>, rec: &Record, action: Option<Action>) -> Result<
 fn put_center(out: &mut Vec<u8>, rec: &Record) -> Result<(), AllocError>
     ensures { OnOk result (AppendsUtf8 out.old.items out.new.items (group_part Center (row rec.now) None)) }
 {
-    put_text(
-        out,
-        ",\"dataCenterInfo\":{\"@class\":",
-        &rec.data_center.class,
-    )?;
-    put_text(out, ",\"name\":", &rec.data_center.name)?;
+    let center = &rec.details.data_center;
+    put_text(out, ",\"dataCenterInfo\":{\"@class\":", &center.class)?;
+    put_text(out, ",\"name\":", &center.name)?;
     push(out, "}")
 }
 
 fn put_urls(out: &mut Vec<u8>, rec: &Record) -> Result<(), AllocError>
     ensures { OnOk result (AppendsUtf8 out.old.items out.new.items (group_part Urls (row rec.now) None)) }
 {
-    put_text(out, ",\"healthCheckUrl\":", &rec.health_check_url)?;
-    put_text(out, ",\"homePageUrl\":", &rec.home_page_url)
+    let details: &Details = &rec.details;
+    put_text(out, ",\"healthCheckUrl\":", &details.health_check_url)?;
+    put_text(out, ",\"homePageUrl\":", &details.home_page_url)
 }
 
 fn put_hosts(out: &mut Vec<u8>, rec: &Record) -> Result<(), AllocError>
     ensures { OnOk result (AppendsUtf8 out.old.items out.new.items (group_part Hosts (row rec.now) None)) }
 {
-    put_text(out, ",\"hostName\":", &rec.host_name)?;
+    let details: &Details = &rec.details;
+    put_text(out, ",\"hostName\":", &details.host_name)?;
     put_text(out, ",\"instanceId\":", &rec.key.id)?;
-    put_text(out, ",\"ipAddr\":", &rec.ip_addr)
+    put_text(out, ",\"ipAddr\":", &details.ip_addr)
 }
 
 fn put_moments(out: &mut Vec<u8>, rec: &Record) -> Result<(), AllocError>
@@ -108,7 +107,7 @@ fn put_terms(out: &mut Vec<u8>, rec: &Record) -> Result<(), AllocError>
     )?;
     put_number(out, ",\"serviceUpTimestamp\":", lease.service_up)?;
     push(out, "},\"metadata\":{")?;
-    push_entries(out, &rec.metadata)
+    push_entries(out, &rec.details.metadata)
 }
 
 fn put_state(out: &mut Vec<u8>, rec: &Record) -> Result<(), AllocError>
@@ -119,7 +118,11 @@ fn put_state(out: &mut Vec<u8>, rec: &Record) -> Result<(), AllocError>
     put_truth(out, ",\"@enabled\":", rec.port.enabled)?;
     put_number(out, "},\"securePort\":{\"$\":", rec.secure_port.number)?;
     put_truth(out, ",\"@enabled\":", rec.secure_port.enabled)?;
-    put_text(out, "},\"secureVipAddress\":", &rec.secure_vip_address)?;
+    put_text(
+        out,
+        "},\"secureVipAddress\":",
+        &rec.details.secure_vip_address,
+    )?;
     put_status(out, ",\"status\":", rec.status)
 }
 
@@ -146,7 +149,7 @@ pub(crate) fn put_group(
         Group::Moments => put_moments(out, rec),
         Group::Terms => put_terms(out, rec),
         Group::State => put_state(out, rec),
-        Group::StatusPage => put_text(out, ",\"statusPageUrl\":", &rec.status_page_url),
-        Group::Vip => put_text(out, ",\"vipAddress\":", &rec.vip_address),
+        Group::StatusPage => put_text(out, ",\"statusPageUrl\":", &rec.details.status_page_url),
+        Group::Vip => put_text(out, ",\"vipAddress\":", &rec.details.vip_address),
     }
 }

@@ -45,7 +45,7 @@ pub(crate) fn held_under_vip(
 fn has_svip(held: &Held, svip: &Text) -> bool
     ensures { result ≡ asks_for (of_secure_vip svip.now) (entry_of held.now).0 }
 {
-    has_vip(held.rec.secure_vip_address.as_str(), svip.as_str())
+    has_vip(held.rec.details.secure_vip_address.as_str(), svip.as_str())
 }
 
 /// The records with a secure vip, in the order of their keys, shared.

@@ -5,4 +5,4 @@ use Rattle.disco_writer.proofs.groups.put_center.Goals as goal
 
 pub returns : goal.returns
 unfolding escape_byte group_text print_from
-returns c = before c.push.result _ _ c.in_ok-put_text.ensures (before c.push.result _ _ c.in_ok-put_text-2.ensures (c.push.ensures))
+returns c = rw (← c.deref.ensures) (before c.push.result _ _ c.in_ok-put_text.ensures (before c.push.result _ _ c.in_ok-put_text-2.ensures (c.push.ensures)))

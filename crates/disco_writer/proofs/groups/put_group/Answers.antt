@@ -13,8 +13,8 @@ returns-in-Coordination c = rw c.in-Coordination.is (last c.put_truth.result _ _
 
 pub returns-in-StatusPage : goal.returns-in-StatusPage
 unfolding escape_byte group_text print_from
-returns-in-StatusPage c = rw c.in-StatusPage.is (last c.put_text.result _ _ _ c.put_text.ensures)
+returns-in-StatusPage c = rw (c.in-StatusPage.is, ← c.deref.ensures) (last c.put_text.result _ _ _ c.put_text.ensures)
 
 pub returns-in-Vip : goal.returns-in-Vip
 unfolding escape_byte group_text print_from
-returns-in-Vip c = rw c.in-Vip.is (last c.put_text-in-Vip.result _ _ _ c.put_text-in-Vip.ensures)
+returns-in-Vip c = rw (c.in-Vip.is, ← c.deref-in-Vip.ensures) (last c.put_text-in-Vip.result _ _ _ c.put_text-in-Vip.ensures)

@@ -5,4 +5,4 @@ use Rattle.disco_writer.proofs.groups.put_state.Goals as goal
 
 pub returns : goal.returns
 unfolding escape_byte group_text print_from
-returns c = before c.put_status-2.result _ _ c.in_ok-put_status.ensures (before c.put_status-2.result _ _ c.in_ok-put_number.ensures (before c.put_status-2.result _ _ c.in_ok-put_truth.ensures (before c.put_status-2.result _ _ c.in_ok-put_number-2.ensures (before c.put_status-2.result _ _ c.in_ok-put_truth-2.ensures (before c.put_status-2.result _ _ c.in_ok-put_text.ensures (last c.put_status-2.result _ _ _ c.put_status-2.ensures))))))
+returns c = rw (← c.deref.ensures) (before c.put_status-2.result _ _ c.in_ok-put_status.ensures (before c.put_status-2.result _ _ c.in_ok-put_number.ensures (before c.put_status-2.result _ _ c.in_ok-put_truth.ensures (before c.put_status-2.result _ _ c.in_ok-put_number-2.ensures (before c.put_status-2.result _ _ c.in_ok-put_truth-2.ensures (before c.put_status-2.result _ _ c.in_ok-put_text.ensures (last c.put_status-2.result _ _ _ c.put_status-2.ensures)))))))

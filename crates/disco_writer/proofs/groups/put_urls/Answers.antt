@@ -5,4 +5,4 @@ use Rattle.disco_writer.proofs.groups.put_urls.Goals as goal
 
 pub returns : goal.returns
 unfolding escape_byte group_text print_from
-returns c = before c.put_text-2.result _ _ c.in_ok-put_text.ensures (last c.put_text-2.result _ _ _ c.put_text-2.ensures)
+returns c = rw (← c.deref-details.ensures) (before c.put_text-2.result _ _ c.in_ok-put_text.ensures (last c.put_text-2.result _ _ _ c.put_text-2.ensures))
