@@ -1,7 +1,8 @@
 //! Names that are percent-encoded.
-ghost use Rattle.std.specs.Prelude.{◌≡◌, if◌then◌else◌, IfOk, IfErr, None, Some, option_map};
+ghost use Rattle.std.specs.Prelude.{◌≡◌, ◌==◌, ◌&&◌, not, IfOk, IfErr, IfSome, Some, option_map};
+ghost use Rattle.std.specs.Char.{is_ascii};
 ghost use Rattle.std.specs.Cow.{cow_str_bytes};
-ghost use Rattle.std.specs.Str.{is_utf8};
+ghost use Rattle.std.specs.List.{list_all};
 ghost use Rattle.disco_values.specs.declared.fault.Fault.TheVariants.{OutOfMemory};
 ghost use Rattle.disco_operations.specs.Decoding.{decoded_text};
 
@@ -11,13 +12,37 @@ use std::alloc::Global;
 use std::borrow::CowStr;
 use std::str;
 
-/// The text that some bytes are, where they are UTF-8.
-fn plain<'a>(bytes: &'a [u8]) -> Option<CowStr<'a>>
-    ensures { option_map cow_str_bytes result ≡ (if is_utf8 bytes.entry.now then Some bytes.entry.now else None) }
+/// Whether a name is ASCII and has no escape, so that it spells itself.
+#[inline(always)]
+fn is_plain(name: &[u8]) -> bool
+    ensures { result ≡ list_all (λ b. is_ascii b && not (b == 37)) name.now }
 {
-    match str::from_utf8(bytes) {
-        Ok(text) => Some(CowStr::Borrowed(text)),
-        Err(_) => None,
+    name.iter().all(|byte| byte.is_ascii() && *byte != b'%')
+}
+
+/// What a name spells that is ASCII and has no escape, `None` for any other.
+#[inline(always)]
+fn plain<'a>(name: &'a [u8]) -> Option<&'a str>
+    ensures { IfSome result (λ text. Some text.now ≡ decoded_text name.entry.now) }
+{
+    if is_plain(name) {
+        // SAFETY: ASCII is UTF-8, which the call wants proved.
+        Some(unsafe { str::from_utf8_unchecked(name) })
+    } else {
+        None
+    }
+}
+
+/// What any name spells, as [`decoded`] gives it.
+#[inline(never)]
+fn spelled<'a>(alloc: Global, encoded: &'a [u8]) -> Result<Option<CowStr<'a>>, Fault>
+    ensures text { IfOk result (λ found. option_map cow_str_bytes found ≡ decoded_text encoded.entry.now) }
+    ensures memory { IfErr result (λ e. e ≡ OutOfMemory) }
+{
+    match percent_decode(encoded).decode_utf8(alloc) {
+        Ok(text) => Ok(Some(text)),
+        Err(DecodeError::Utf8(_)) => Ok(None),
+        Err(DecodeError::OutOfMemory) => Err(Fault::OutOfMemory),
     }
 }
 
@@ -27,17 +52,14 @@ fn plain<'a>(bytes: &'a [u8]) -> Option<CowStr<'a>>
 /// # Errors
 ///
 /// `OutOfMemory` alone.
+#[inline(always)]
 pub fn decoded<'a>(alloc: Global, encoded: &'a [u8]) -> Result<Option<CowStr<'a>>, Fault>
     ensures text { IfOk result (λ found. option_map cow_str_bytes found ≡ decoded_text encoded.entry.now) }
     ensures memory { IfErr result (λ e. e ≡ OutOfMemory) }
 {
-    if !encoded.contains(&b'%') {
-        return Ok(plain(encoded));
-    }
-    match percent_decode(encoded).decode_utf8(alloc) {
-        Ok(text) => Ok(Some(text)),
-        Err(DecodeError::Utf8(_)) => Ok(None),
-        Err(DecodeError::OutOfMemory) => Err(Fault::OutOfMemory),
+    match plain(encoded) {
+        Some(text) => Ok(Some(CowStr::Borrowed(text))),
+        None => spelled(alloc, encoded),
     }
 }
 

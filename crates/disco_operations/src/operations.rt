@@ -1,5 +1,7 @@
 //! Operations by what names them.
-ghost use Rattle.std.specs.Prelude.{◌≡◌, IfOk, IfErr, Ok, OnOk, false, true};
+ghost use Rattle.std.specs.Prelude.{◌≡◌, IfOk, IfErr, Ok, OnOk, false, not, true};
+ghost use Rattle.std.specs.Char.{is_ascii_lowercase};
+ghost use Rattle.std.specs.List.{list_all};
 ghost use Rattle.std.specs.Str.{bytes_eq};
 ghost use Rattle.disco_instance.specs.Instance.{Gives};
 ghost use Rattle.disco_values.specs.Text.{in_upper_case};
@@ -19,12 +21,32 @@ use std::alloc::Global;
 /// # Errors
 ///
 /// `OutOfMemory` alone.
+#[inline]
 pub fn key_named(alloc: Global, app: &Text, id: Text) -> Result<Key, Fault>
     ensures key { IfOk result (λ k. k ≡ key_named app.now id) }
     ensures memory { IfErr result (λ e. e ≡ OutOfMemory) }
 {
-    let app = upper(alloc, app.as_str())?;
+    let app = upper_name(alloc, app)?;
     Ok(Key { app, id })
+}
+
+/// Whether a name has no ASCII letter in lower case.
+#[inline(always)]
+fn is_upper(name: &[u8]) -> bool
+    ensures { result ≡ list_all (λ b. not (is_ascii_lowercase b)) name.now }
+{
+    name.iter().all(|byte| !byte.is_ascii_lowercase())
+}
+
+/// A name in upper case. Most names are, and those are copied as they stand.
+fn upper_name(alloc: Global, name: &Text) -> Result<Text, Fault>
+    ensures text { IfOk result (λ t. t ≡ in_upper_case name.now) }
+    ensures memory { IfErr result (λ e. e ≡ OutOfMemory) }
+{
+    if is_upper(name.as_str().as_bytes()) {
+        return Ok(name.clone()?);
+    }
+    upper(alloc, name.as_str())
 }
 
 /// Whether a name in upper case is an app's own. The own name counts exactly.
@@ -79,6 +101,7 @@ pub fn cancel(alloc: Global, app: &Text, id: Text) -> Result<Op, Fault>
 /// # Errors
 ///
 /// `OutOfMemory` alone.
+#[inline]
 pub fn renew(alloc: Global, app: &Text, id: Text) -> Result<Op, Fault>
     ensures { Gives op_view result (Ok (asking.renew (key_named app.now id))) }
 {
@@ -90,6 +113,7 @@ pub fn renew(alloc: Global, app: &Text, id: Text) -> Result<Op, Fault>
 /// # Errors
 ///
 /// `OutOfMemory` alone: the registry refuses a text that is no status.
+#[inline]
 pub fn set_status(alloc: Global, app: &Text, id: Text, status: Text) -> Result<Op, Fault>
     ensures { Gives op_view result (Ok (asking.set_status (key_named app.now id) status)) }
 {

@@ -1,8 +1,9 @@
-use Rattle.disco_operations.proofs.Spelling.{text_of, no_text}
+use Rattle.std.proofs.Common.{Some, ap, sym, ◌∙◌}
+use Rattle.disco_operations.proofs.Spelling.{plain_utf8, spells_itself}
 use Rattle.disco_operations.proofs.decoding.plain.Goals as goal
 
-pub returns-in-Ok : goal.returns-in-Ok
-returns-in-Ok c = text_of _ _ c.in-Ok.ensures.cases.0 c.in-Ok.ensures.cases.1
+pub from_utf8_unchecked-requires : goal.from_utf8_unchecked-requires
+from_utf8_unchecked-requires c = plain_utf8 _ (sym c.is_plain.ensures ∙ c.if-is_plain.true)
 
-pub returns-in-Err : goal.returns-in-Err
-returns-in-Err c = no_text _ c.in-Err.ensures.cases.0
+pub returns-then-is_plain : goal.returns-then-is_plain
+returns-then-is_plain c = ap Some c.from_utf8_unchecked.ensures ∙ spells_itself _ (sym c.is_plain.ensures ∙ c.if-is_plain.true)

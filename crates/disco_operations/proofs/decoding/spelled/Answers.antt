@@ -1,9 +1,6 @@
-use Rattle.std.proofs.Common.{rules, sym, ◌∙◌}
-use Rattle.disco_operations.proofs.Spelling.{plainly, spelled, misspelled}
-use Rattle.disco_operations.proofs.decoding.decoded.Goals as goal
-
-pub returns-then-not-contains-clause-text : goal.returns-then-not-contains-clause-text
-returns-then-not-contains-clause-text c = c.plain.ensures ∙ plainly _ (sym c.contains.ensures.value ∙ c.if-not-contains.true)
+use Rattle.std.proofs.Common.{rules}
+use Rattle.disco_operations.proofs.Spelling.{spelled, misspelled}
+use Rattle.disco_operations.proofs.decoding.spelled.Goals as goal
 
 pub returns-in-Ok-clause-text : goal.returns-in-Ok-clause-text
 returns-in-Ok-clause-text c = spelled _ _ _ c.in-Ok.ensures.value c.percent_decode.ensures.bytes c.in-Ok.ensures.ok_only_if_utf8

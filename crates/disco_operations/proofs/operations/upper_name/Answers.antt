@@ -1,0 +1,10 @@
+use Rattle.std.proofs.Common.{ℕ, not, ap, sym, ◌∙◌}
+use Rattle.std.specs.Char.{is_ascii_lowercase}
+use Rattle.std.specs.List.{list_all}
+use Rattle.disco_operations.proofs.Names.{is_upper_already}
+use Rattle.disco_operations.proofs.operations.upper_name.Goals as goal
+
+pub returns-then-is_upper-clause-text : goal.returns-then-is_upper-clause-text
+returns-then-is_upper-clause-text c =
+    let as_it_is = sym (c.as_bytes.ensures.value ∙ c.as_str.ensures) in
+    c.in_ok-clone.ensures.cases ∙ is_upper_already c.args.name.now (ap (list_all (λ (b : ℕ). not (is_ascii_lowercase b))) as_it_is ∙ sym c.is_upper.ensures ∙ c.if-is_upper.true)
