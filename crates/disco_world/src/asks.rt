@@ -1,25 +1,28 @@
 //! The operations that events ask for. An event stays as it is, so what it names is copied.
-ghost use Rattle.std.specs.Prelude.{Ok};
+ghost use Rattle.std.specs.Prelude.{◌≡◌, IfErr, IfOk, Ok};
 ghost use Rattle.disco_instance.specs.Instance.{Gives};
+ghost use Rattle.disco_values.specs.declared.fault.Fault.TheVariants.{OutOfMemory};
 ghost use Rattle.disco_registry.specs.Op as asking;
 ghost use Rattle.disco_registry.specs.Op.{op_view};
 ghost use Rattle.disco_operations.specs.Operations.{key_named};
 
 use disco_operations as operations;
 use disco_registry::Op;
-use disco_values::{Entries, Fault, Text};
+use disco_values::{Entries, Fault, Key, Text};
 use std::alloc::Global;
+
+/// The key that an event names.
+pub(crate) fn copied_key(alloc: Global, app: &Text, id: &Text) -> Result<Key, Fault>
+    ensures key { IfOk result (λ k. k ≡ key_named app.now id.now) }
+    ensures memory { IfErr result (λ e. e ≡ OutOfMemory) }
+{
+    operations::key_named(alloc, app, id.clone()?)
+}
 
 pub(crate) fn cancel(alloc: Global, app: &Text, id: &Text) -> Result<Op, Fault>
     ensures { Gives op_view result (Ok (asking.cancel (key_named app.now id.now))) }
 {
     operations::cancel(alloc, app, id.clone()?)
-}
-
-pub(crate) fn renew(alloc: Global, app: &Text, id: &Text) -> Result<Op, Fault>
-    ensures { Gives op_view result (Ok (asking.renew (key_named app.now id.now))) }
-{
-    operations::renew(alloc, app, id.clone()?)
 }
 
 pub(crate) fn set_status(alloc: Global, app: &Text, id: &Text, status: &Text) -> Result<Op, Fault>

@@ -1,10 +1,12 @@
 //! Runs of events.
-ghost use Rattle.std.specs.Prelude.{◌≡◌, ◌≢◌, length, IfOk, IfErr, IfSome, IfNone, None, Result, Some, option_map};
+ghost use Rattle.std.specs.Prelude.{◌≡◌, ◌≢◌, length, IfOk, IfErr, IfSome, IfNone, None, Ok, Result, Some, option_map};
 ghost use Rattle.std.specs.BTreeMap as tree;
 ghost use Rattle.std.specs.FinMap.{empty};
 ghost use Rattle.disco_instance.specs.Instance.{Gives};
 ghost use Rattle.disco_values.specs.declared.fault.Fault.{Fault};
 ghost use Rattle.disco_values.specs.declared.fault.Fault.TheVariants.{OutOfMemory};
+ghost use Rattle.disco_operations.specs.Operations.{key_named};
+ghost use Rattle.disco_registry.specs.Op as asking;
 ghost use Rattle.disco_registry.specs.Op.{OpView, op_view};
 ghost use Rattle.disco_core.specs.Past.{nothing};
 ghost use Rattle.disco_core.specs.State.{rules};
@@ -16,7 +18,7 @@ ghost use Rattle.disco_world.specs.Levels.{AreLevelsOf, AnswersEvent};
 ghost use Rattle.disco_world.specs.Steps.{AreHeld, AreReadable, Performs, cache_of, holders, reply_to, reply_to_give, reply_to_show, reply_to_take};
 ghost use Rattle.disco_world.specs.declared.event.Event.TheVariants as event;
 
-use crate::asks::{add_metadata, cancel, drop_status, renew, set_status};
+use crate::asks::{add_metadata, cancel, copied_key, drop_status, set_status};
 use crate::certified::{Given, give};
 use crate::clients::{Clients, Told, show, show_certified, take};
 use crate::event::{Event, Reply, Step};
@@ -31,7 +33,7 @@ use disco_operations::register;
 use disco_query::Query;
 use disco_registry::{Applied, Op};
 use disco_settings::Settings;
-use disco_values::Fault;
+use disco_values::{Fault, Text};
 use std::alloc::Global;
 
 /// Runs the events in order from an empty registry, in the run that the settings name, and answers
@@ -143,7 +145,7 @@ pub(crate) fn answer_step(
             register(alloc, app, json.as_slice()),
         ),
         Step::Cancel { now, app, id } => write(&mut levels.hub, *now, cancel(alloc, app, id)),
-        Step::Renew { now, app, id } => write(&mut levels.hub, *now, renew(alloc, app, id)),
+        Step::Renew { now, app, id } => renew(alloc, &mut levels.hub, *now, app, id),
         Step::SetStatus {
             now,
             app,
@@ -267,12 +269,33 @@ fn write(hub: &mut Hub, now: u64, op: Result<Op, Fault>) -> Reply
     ensures rounds { hub.new.rounds ≡ hub.old.rounds }
 {
     match op {
-        Ok(op) => {
-            let applied = hub.write(op, now);
-            written(applied, hub.version())
-        }
+        Ok(op) => perform(hub, now, op),
         Err(fault) => Reply::Refused(fault),
     }
+}
+
+/// Renews a lease. Renewals come most often, and an operation has the size of a record: this one is
+/// made where it is performed, and isn't moved there.
+fn renew(alloc: Global, hub: &mut Hub, now: u64, app: &Text, id: &Text) -> Reply
+    ensures does { Performs hub.old hub.new (λ _. writes now (Ok (asking.renew (key_named app.now id.now)))) result }
+    ensures rules { rules_of hub.new ≡ rules_of hub.old }
+    ensures rounds { hub.new.rounds ≡ hub.old.rounds }
+{
+    match copied_key(alloc, app, id) {
+        Ok(key) => perform(hub, now, Op::Renew(key)),
+        Err(fault) => Reply::Refused(fault),
+    }
+}
+
+/// Does an operation.
+#[inline(always)]
+fn perform(hub: &mut Hub, now: u64, op: Op) -> Reply
+    ensures does { Performs hub.old hub.new (λ _. writes now (Ok (op_view op))) result }
+    ensures rules { rules_of hub.new ≡ rules_of hub.old }
+    ensures rounds { hub.new.rounds ≡ hub.old.rounds }
+{
+    let applied = hub.write(op, now);
+    written(applied, hub.version())
 }
 
 /// The reply to a write, after which the registry has this version.

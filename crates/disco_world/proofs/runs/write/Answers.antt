@@ -1,8 +1,11 @@
-use Rattle.disco_registry.specs.Op.{op_view}
-use Rattle.disco_world.proofs.Writes.{does}
+use Rattle.std.proofs.Common.{Result, subst, sym}
+use Rattle.disco_values.specs.declared.fault.Fault.{Fault}
+use Rattle.disco_registry.specs.Op.{OpView}
+use Rattle.disco_world.specs.Events.{writes}
+use Rattle.disco_world.specs.Steps.{Performs}
 use Rattle.disco_world.proofs.runs.write.Goals as goal
 
 pub returns-in-Ok-clause-does : goal.returns-in-Ok-clause-does
 returns-in-Ok-clause-does c = λ asked gives.
     let is = rw c.in-Ok.is at gives in
-    rw (c.written.ensures, c.version.ensures) (does c.args.hub.now c.write-applied.new.self (op_view c.in-Ok.op) asked c.args.now c.write-applied.result is c.write-applied.ensures.rest.rounds c.write-applied.ensures.done c.write-applied.ensures.refused)
+    subst (λ (a : Result OpView Fault). Performs c.args.hub.now c.perform.new.hub (λ _. writes c.args.now a) c.perform.result) (sym is) c.perform.ensures.does
