@@ -4,9 +4,9 @@ use native.Mathlib.Numerals.{unary_clauses}
 use Rattle.std.specs.List.{before_first, after_first, position_or_len}
 use Rattle.disco_values.specs.declared.fault.Fault.TheVariants.{BadEvent}
 use Rattle.disco_world.specs.declared.event.Event.{Event}
-use Rattle.std.specs.Option.{is_none}
+use Rattle.std.specs.Option.{is_none, is_some}
 use Rattle.disco_lines.specs.Lines.{lines, meanings, event_of, IsFirstBadLine}
-use Rattle.disco_lines.specs.Steps.{is_feed}
+use Rattle.disco_lines.specs.Steps.{is_feed, with_found}
 
 split_on : (t : Bool) → (t ≡ true) ⊎ (t ≡ false)
 split_on true = inl refl
@@ -82,3 +82,20 @@ bad_line events n input rest line after count pos e f g inv =
       number = rw (← whole, first_none events (meanings after), count) refl;
       is_line = rw (← whole, first_none events (meanings after)) (none_is_within events (meanings after));
     }
+
+-- a line was looked at, and the event that it means was put behind those before it
+pub taken_line : (before now : List Event) (found : Option Event) (says : Bool) (input rest line after : List ℕ)
+    → says ≡ true → says ≡ is_some found → now ≡ with_found before found
+    → 0 < length rest → line ≡ before_first is_feed rest → after ≡ after_first is_feed rest → found ≡ event_of line
+    → map Some before ++ meanings rest ≡ meanings input → map Some now ++ meanings after ≡ meanings input
+taken_line before now None says input rest line after put is puts pos e f g inv = absurd (cc)
+taken_line before now (Some event) says input rest line after put is puts pos e f g inv = rw puts (taken before event input rest line after pos e f g inv)
+
+-- a line was looked at, and no event was put
+pub missed_line : (before now : List Event) (found : Option Event) (says : Bool) (n : ℕ) (input rest line after : List ℕ)
+    → says ≡ false → says ≡ is_some found → now ≡ with_found before found → n ≡ length now
+    → 0 < length rest → line ≡ before_first is_feed rest → after ≡ after_first is_feed rest → found ≡ event_of line
+    → map Some before ++ meanings rest ≡ meanings input → IsFirstBadLine input (BadEvent (n + 1))
+missed_line before now None says n input rest line after unput is puts count pos e f g inv =
+    bad_line before n input rest line after (count ∙ ap length puts) pos e f g inv
+missed_line before now (Some event) says n input rest line after unput is puts count pos e f g inv = absurd (cc)

@@ -1,6 +1,7 @@
 -- What is read of a line, and written of one, in steps. Nothing here is to be believed.
-use Rattle.std.specs.Prelude.{ℕ, Bool, List, [], ◌==◌, ◌++◌, codes, decimal, Option, Some, None}
+use Rattle.std.specs.Prelude.{ℕ, Bool, List, [], ◌∷◌, ◌==◌, ◌++◌, codes, decimal, Option, Some, None}
 use Rattle.disco_cache.specs.declared.payload.Payload.{Payload}
+use Rattle.disco_world.specs.declared.event.Event.{Event}
 use Rattle.disco_lines.specs.Words.{words}
 
 -- the byte between two words
@@ -19,3 +20,8 @@ document_front p = codes "doc " ++ decimal p.base ++ codes " " ++ decimal p.vers
 abbrev pub words_left : Option (List ℕ) → List (List ℕ)
 words_left None = []
 words_left (Some rest) = words rest
+
+-- the events that are read when a line was looked at, with the event that it means behind those before it
+abbrev pub with_found : List Event → Option Event → List Event
+with_found events None = events
+with_found events (Some event) = events ++ event ∷ []

@@ -8,6 +8,7 @@ mod find;
 mod line;
 mod lines;
 mod load;
+mod put;
 mod telling;
 mod words;
 

@@ -1,15 +1,18 @@
-//! The event that a line means. `None` stands for a line that can't be read.
+//! The event that a line means. Where a function gives an event or a part of one, `None` stands for a
+//! line that can't be read; where it puts one, so does `false`.
 ghost use Rattle.std.specs.Prelude.{◌≡◌, IfOk, IfErr, Some, option_map};
+ghost use Rattle.std.specs.Option.{is_some};
 ghost use Rattle.disco_values.specs.declared.fault.Fault.TheVariants.{OutOfMemory};
-ghost use Rattle.disco_lines.specs.Lines.{alone, client_and_event, event_named, event_of, only_client, override_removal, registration};
+ghost use Rattle.disco_lines.specs.Lines.{client_and_event, event_named, event_of, only_client, override_removal, registration};
 ghost use Rattle.disco_lines.specs.Lines.{step_at, step_named, step_of_instance};
-ghost use Rattle.disco_lines.specs.Words.{client_of_word, joined, moment_of_word, only_moment, only_text};
-ghost use Rattle.disco_operations.specs.Query.{entries_of_query};
+ghost use Rattle.disco_lines.specs.Steps.{with_found};
+ghost use Rattle.disco_lines.specs.Words.{client_of_word, moment_of_word, only_moment, only_text};
 ghost use Rattle.disco_world.specs.declared.event.Event.TheVariants as event;
 ghost use Rattle.disco_world.specs.declared.event.Event.TheVariants.{Certify, Take};
-ghost use Rattle.disco_world.specs.declared.event.Step.TheVariants.{Metadata};
+ghost use Rattle.disco_world.specs.declared.event.Step.TheVariants.{SetStatus};
 
 use crate::load::{load_of, look_for, target_of};
+use crate::put::{put_alone, put_found, put_found_step, put_step};
 use crate::words::Words;
 use disco_digits::number_of_digits;
 use disco_operations::{decoded, decoded_text, entries_of_query};
@@ -17,8 +20,8 @@ use disco_values::{Bytes, Fault, Text};
 use disco_world::{Event, Step};
 use std::alloc::Global;
 
-/// The event that a line means, `None` where it means none. Words stand with one space between
-/// them, and each may be percent-encoded.
+/// Puts the event that a line means behind those before it, and says whether it means one. Words
+/// stand with one space between them, and each may be percent-encoded.
 ///
 /// - `register NOW APP JSON`, where the JSON is the rest of the line as it stands;
 /// - `cancel NOW APP ID`;
@@ -39,73 +42,90 @@ use std::alloc::Global;
 /// - `restart RUN`.
 ///
 /// Refused only as `OutOfMemory`.
-pub(crate) fn event_of(alloc: Global, line: &[u8]) -> Result<Option<Event>, Fault>
-    ensures value { IfOk result (λ found. found ≡ event_of line.now) }
+#[inline(always)]
+pub(crate) fn put_event_of(
+    alloc: Global,
+    line: &[u8],
+    events: &mut Vec<Event>,
+) -> Result<bool, Fault>
+    ensures says { IfOk result (λ found. found ≡ is_some (event_of line.now)) }
+    ensures puts { IfOk result (λ _. events.new.items ≡ with_found events.old.items (event_of line.now)) }
     ensures memory { IfErr result (λ e. e ≡ OutOfMemory) }
 {
     let Some((keyword, words)) = Words::of(line).split() else {
-        return Ok(None);
+        return Ok(false);
     };
     match decoded(alloc, keyword)? {
-        Some(keyword) => event_named(alloc, keyword.as_str(), words),
-        None => Ok(None),
+        Some(keyword) => put_event_named(alloc, keyword.as_str(), words, events),
+        None => Ok(false),
     }
 }
 
-/// What a keyword and the words behind it mean.
-fn event_named(alloc: Global, keyword: &str, words: Words) -> Result<Option<Event>, Fault>
-    ensures value { IfOk result (λ found. found ≡ event_named keyword.now words.entry) }
+/// Puts what a keyword and the words behind it mean.
+#[inline(always)]
+fn put_event_named(
+    alloc: Global,
+    keyword: &str,
+    words: Words,
+    events: &mut Vec<Event>,
+) -> Result<bool, Fault>
+    ensures says { IfOk result (λ found. found ≡ is_some (event_named keyword.now words.entry)) }
+    ensures puts { IfOk result (λ _. events.new.items ≡ with_found events.old.items (event_named keyword.now words.entry)) }
     ensures memory { IfErr result (λ e. e ≡ OutOfMemory) }
 {
     match keyword {
         // What comes most often is looked for first.
-        "renew" | "status" => step_event(alloc, keyword, words),
-        "take" => take_of(alloc, words),
-        "certified" => certify_of(alloc, words),
-        _ => Ok(step_named(alloc, keyword, words)?.map(|step| Event::Step(step))),
+        "renew" | "status" => put_step_of_instance(alloc, keyword, words, events),
+        "take" => put_found(take_of(alloc, words)?, events),
+        "certified" => put_found(certify_of(alloc, words)?, events),
+        _ => put_step_named(alloc, keyword, words, events),
     }
 }
 
-/// The event of a step behind whose keyword a moment, an app and an id stand.
-fn step_event(alloc: Global, keyword: &str, words: Words) -> Result<Option<Event>, Fault>
-    ensures value { IfOk result (λ found. found ≡ option_map event.Step (step_of_instance keyword.now words.entry)) }
-    ensures memory { IfErr result (λ e. e ≡ OutOfMemory) }
-{
-    Ok(step_of_instance(alloc, keyword, words)?.map(|step| Event::Step(step)))
-}
-
-/// What a keyword and the words behind it mean, where it gives no client a document.
-fn step_named(alloc: Global, keyword: &str, words: Words) -> Result<Option<Step>, Fault>
-    ensures value { IfOk result (λ found. found ≡ step_named keyword.now words.entry) }
+/// Puts what a keyword and the words behind it mean, where it gives no client a document.
+fn put_step_named(
+    alloc: Global,
+    keyword: &str,
+    words: Words,
+    events: &mut Vec<Event>,
+) -> Result<bool, Fault>
+    ensures says { IfOk result (λ found. found ≡ is_some (option_map event.Step (step_named keyword.now words.entry))) }
+    ensures puts { IfOk result (λ _. events.new.items ≡ with_found events.old.items (option_map event.Step (step_named keyword.now words.entry))) }
     ensures memory { IfErr result (λ e. e ≡ OutOfMemory) }
 {
     match keyword {
-        "register" => register_of(alloc, words),
-        "clean" => Ok(only_moment(alloc, words)?.map(|now| Step::Clean { now })),
-        "minute" => Ok(alone(Step::Minute, &words)),
-        "expire" => Ok(only_moment(alloc, words)?.map(|now| Step::Expire { now })),
-        "begin" => Ok(alone(Step::Begin, &words)),
-        "copy" => Ok(alone(Step::Copy, &words)),
-        "publish" => Ok(alone(Step::Publish, &words)),
-        "load" => Ok(target_of(alloc, words)?.map(load_of)),
-        "look" => Ok(target_of(alloc, words)?.map(look_for)),
-        "show" => Ok(only_client(alloc, words)?.map(|client| Step::Show { client })),
-        "certshow" => Ok(only_client(alloc, words)?.map(|client| Step::ShowCertified { client })),
-        "restart" => Ok(only_moment(alloc, words)?.map(|run| Step::Restart { run })),
-        _ => step_of_instance(alloc, keyword, words),
+        "register" => put_found_step(register_of(alloc, words)?, events),
+        "clean" => {
+            let step = only_moment(alloc, words)?.map(|now| Step::Clean { now });
+            put_found_step(step, events)
+        }
+        "minute" => put_alone(Step::Minute, &words, events),
+        "expire" => {
+            let step = only_moment(alloc, words)?.map(|now| Step::Expire { now });
+            put_found_step(step, events)
+        }
+        "begin" => put_alone(Step::Begin, &words, events),
+        "copy" => put_alone(Step::Copy, &words, events),
+        "publish" => put_alone(Step::Publish, &words, events),
+        "load" => put_found_step(target_of(alloc, words)?.map(load_of), events),
+        "look" => put_found_step(target_of(alloc, words)?.map(look_for), events),
+        "show" => {
+            let step = only_client(alloc, words)?.map(|client| Step::Show { client });
+            put_found_step(step, events)
+        }
+        "certshow" => {
+            let step = only_client(alloc, words)?.map(|client| Step::ShowCertified { client });
+            put_found_step(step, events)
+        }
+        "restart" => {
+            let step = only_moment(alloc, words)?.map(|run| Step::Restart { run });
+            put_found_step(step, events)
+        }
+        _ => put_step_of_instance(alloc, keyword, words, events),
     }
 }
 
-/// A step behind which no word stands.
-fn alone(step: Step, words: &Words) -> Option<Step>
-    ensures { result ≡ alone step words.now }
-{
-    if !words.is_empty() {
-        return None;
-    }
-    Some(step)
-}
-
+#[inline(always)]
 fn moment_of_word(alloc: Global, word: &[u8]) -> Result<Option<u64>, Fault>
     ensures value { IfOk result (λ found. found ≡ moment_of_word word.now) }
     ensures memory { IfErr result (λ e. e ≡ OutOfMemory) }
@@ -162,60 +182,98 @@ fn register_of(alloc: Global, words: Words) -> Result<Option<Step>, Fault>
     Ok(Some(Step::Register { now, app, json }))
 }
 
-/// What a keyword means behind which a moment, an app and an id stand.
-fn step_of_instance(alloc: Global, keyword: &str, words: Words) -> Result<Option<Step>, Fault>
-    ensures value { IfOk result (λ found. found ≡ step_of_instance keyword.now words.entry) }
+/// Puts what a keyword means behind which a moment, an app and an id stand.
+#[inline(always)]
+fn put_step_of_instance(
+    alloc: Global,
+    keyword: &str,
+    words: Words,
+    events: &mut Vec<Event>,
+) -> Result<bool, Fault>
+    ensures says { IfOk result (λ found. found ≡ is_some (option_map event.Step (step_of_instance keyword.now words.entry))) }
+    ensures puts { IfOk result (λ _. events.new.items ≡ with_found events.old.items (option_map event.Step (step_of_instance keyword.now words.entry))) }
     ensures memory { IfErr result (λ e. e ≡ OutOfMemory) }
 {
     let Some((now, words)) = words.split() else {
-        return Ok(None);
+        return Ok(false);
     };
     let Some((app, words)) = words.split() else {
-        return Ok(None);
+        return Ok(false);
     };
     let Some((id, words)) = words.split() else {
-        return Ok(None);
+        return Ok(false);
     };
     let Some(now) = moment_of_word(alloc, now)? else {
-        return Ok(None);
+        return Ok(false);
     };
     let Some(app) = decoded_text(alloc, app)? else {
-        return Ok(None);
+        return Ok(false);
     };
     let Some(id) = decoded_text(alloc, id)? else {
-        return Ok(None);
+        return Ok(false);
     };
-    step_at(alloc, keyword, now, app, id, words)
+    put_step_at(alloc, keyword, now, app, id, words, events)
 }
 
-/// What a keyword means for an instance, with the words behind its id.
-fn step_at(
+/// Puts what a keyword means for an instance, with the words behind its id.
+#[inline(always)]
+fn put_step_at(
     alloc: Global,
     keyword: &str,
     now: u64,
     app: Text,
     id: Text,
     words: Words,
-) -> Result<Option<Step>, Fault>
-    ensures value { IfOk result (λ found. found ≡ step_at keyword.now now app id words.entry) }
+    events: &mut Vec<Event>,
+) -> Result<bool, Fault>
+    ensures says { IfOk result (λ found. found ≡ is_some (option_map event.Step (step_at keyword.now now app id words.entry))) }
+    ensures puts { IfOk result (λ _. events.new.items ≡ with_found events.old.items (option_map event.Step (step_at keyword.now now app id words.entry))) }
     ensures memory { IfErr result (λ e. e ≡ OutOfMemory) }
 {
     match keyword {
-        "cancel" => Ok(alone(Step::Cancel { now, app, id }, &words)),
-        "renew" => Ok(alone(Step::Renew { now, app, id }, &words)),
-        "status" => match only_text(alloc, words)? {
-            Some(status) => Ok(Some(Step::SetStatus {
+        "cancel" => put_alone(Step::Cancel { now, app, id }, &words, events),
+        "renew" => put_alone(Step::Renew { now, app, id }, &words, events),
+        "status" => put_status(alloc, now, app, id, words, events),
+        "unstatus" => put_found_step(unstatus_of(alloc, now, app, id, words)?, events),
+        "metadata" => {
+            let entries = entries_of_query(alloc, words.rest())?;
+            let step = Step::Metadata {
                 now,
                 app,
                 id,
-                status,
-            })),
-            None => Ok(None),
-        },
-        "unstatus" => unstatus_of(alloc, now, app, id, words),
-        "metadata" => metadata_of(alloc, now, app, id, words),
-        _ => Ok(None),
+                entries,
+            };
+            put_step(step, events)
+        }
+        _ => Ok(false),
     }
+}
+
+/// Puts a change of status.
+#[inline(always)]
+fn put_status(
+    alloc: Global,
+    now: u64,
+    app: Text,
+    id: Text,
+    words: Words,
+    events: &mut Vec<Event>,
+) -> Result<bool, Fault>
+    ensures says { IfOk result (λ found. found ≡ is_some (option_map event.Step (option_map (λ s. SetStatus now app id s) (only_text words.entry)))) }
+    ensures puts { IfOk result (λ _. events.new.items ≡ with_found events.old.items
+        (option_map event.Step (option_map (λ s. SetStatus now app id s) (only_text words.entry)))) }
+    ensures memory { IfErr result (λ e. e ≡ OutOfMemory) }
+{
+    let Some(status) = only_text(alloc, words)? else {
+        return Ok(false);
+    };
+    let step = Step::SetStatus {
+        now,
+        app,
+        id,
+        status,
+    };
+    put_step(step, events)
 }
 
 fn unstatus_of(
@@ -247,25 +305,6 @@ fn unstatus_of(
         })),
         None => Ok(None),
     }
-}
-
-fn metadata_of(
-    alloc: Global,
-    now: u64,
-    app: Text,
-    id: Text,
-    words: Words,
-) -> Result<Option<Step>, Fault>
-    ensures value { IfOk result (λ found. found ≡ Some (Metadata now app id (entries_of_query (joined words.entry)))) }
-    ensures memory { IfErr result (λ e. e ≡ OutOfMemory) }
-{
-    let entries = entries_of_query(alloc, words.rest())?;
-    Ok(Some(Step::Metadata {
-        now,
-        app,
-        id,
-        entries,
-    }))
 }
 
 /// The number of a client.

@@ -9,7 +9,7 @@ ghost use Rattle.disco_lines.specs.Input.{AreRead, NamesBadLine};
 ghost use Rattle.disco_reader.specs.Causes.{Cause};
 
 use crate::find::first_of;
-use crate::line::event_of;
+use crate::line::put_event_of;
 use disco_streams::{Source, read_all};
 use disco_values::Fault;
 use disco_world::Event;
@@ -36,9 +36,8 @@ pub(crate) fn events_of(alloc: Global, input: &[u8]) -> Result<Vec<Event>, Fault
     let mut rest = input;
     while !rest.is_empty() {
         let (line, after) = split_line(rest);
-        match event_of(alloc, line)? {
-            Some(event) => events.push(event)?,
-            None => return Err(Fault::BadEvent(events.len() as u64 + 1)),
+        if !put_event_of(alloc, line, &mut events)? {
+            return Err(Fault::BadEvent(events.len() as u64 + 1));
         }
         rest = after;
     }

@@ -22,6 +22,7 @@ impl<'a> Model for Words<'a> {
 }
 
 /// The first word of a line, and what stands behind the space that follows it.
+#[inline]
 fn split_word(line: &[u8]) -> (&[u8], Option<&[u8]>)
     ensures { words line.now ≡ result.0.now ∷ words_left (option_map (λ r. r.now) result.1) }
 {
@@ -40,6 +41,7 @@ impl<'a> Words<'a> {
     }
 
     /// The first word and those behind it, `None` where no word is left.
+    #[inline]
     pub(crate) fn split(self) -> Option<(&'a [u8], Words<'a>)>
         ensures { MatchOption result (self.entry ≡ []) (λ r. self.entry ≡ r.0.now ∷ r.1) }
     {

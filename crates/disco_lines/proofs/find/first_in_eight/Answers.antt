@@ -1,0 +1,19 @@
+use Rattle.std.proofs.Common.{eqb, Some, sym, ap, ◌∙◌, arith, w8}
+use lib.Count.{count_trailing_zeros}
+use lib.Lanes.{chunk}
+use Rattle.std.proofs.lemmas.Simd.{length-chunk, bitmask_splat}
+use Rattle.disco_lines.proofs.First.{none_in_mask, some_in_mask}
+use Rattle.disco_lines.proofs.find.first_in_eight.Goals as goal
+
+pub returns-then-places-eq0 : goal.returns-then-places-eq0
+returns-then-places-eq0 c =
+    let eight = c.args.eight.now in
+    let places = bitmask_splat w8 eqb (chunk 0 8 eight) 8 c.args.byte (length-chunk 0 8 eight (omega arith)) (omega arith) in
+    none_in_mask 8 (λ b. eqb b c.args.byte) eight c.requires (sym places ∙ c.if-places-eq0.true)
+
+pub returns-else-places-eq0 : goal.returns-else-places-eq0
+returns-else-places-eq0 c =
+    let eight = c.args.eight.now in
+    let places = bitmask_splat w8 eqb (chunk 0 8 eight) 8 c.args.byte (length-chunk 0 8 eight (omega arith)) (omega arith) in
+    ap (λ m. Some (count_trailing_zeros 64 m)) places
+    ∙ some_in_mask 8 (λ b. eqb b c.args.byte) eight c.requires (omega arith) (omega (arith, places))
