@@ -87,16 +87,16 @@ not_in_rest p at xs within so_far e =
     let long = length-drop at xs in
     is_none p xs (omega (arith, so_far, told_none p (drop at xs) e, long))
 
--- as many bytes as a mask has bits, by the mask of those that pass
-pub none_in_mask : (n : ℕ) (p : ℕ → Bool) (block : List ℕ) → length block ≡ n → mask_l (map p (take n block)) ≡ 0 → None ≡ position p block
-none_in_mask n p block long none =
-    let whole = take_all n block (omega (arith, long)) in
+-- a block of 8 bytes by the mask of those that pass
+pub none_in_mask : (p : ℕ → Bool) (block : List ℕ) → length block ≡ 8 → mask_l (map p (take 8 block)) ≡ 0 → None ≡ position p block
+none_in_mask p block long none =
+    let whole = take_all 8 block (omega (arith, long)) in
     is_none p block (omega (arith, leading_from_mask_l p block (ap (λ xs. mask_l (map p xs)) (sym whole) ∙ none)))
 
-pub some_in_mask : (n : ℕ) (p : ℕ → Bool) (block : List ℕ) → length block ≡ n → n ≤ 64 → 0 < mask_l (map p (take n block))
-    → Some (count_trailing_zeros 64 (mask_l (map p (take n block)))) ≡ position p block
-some_in_mask n p block long fits some =
-    let same = ap (λ xs. mask_l (map p xs)) (take_all n block (omega (arith, long))) in
+pub some_in_mask : (p : ℕ → Bool) (block : List ℕ) → length block ≡ 8 → 0 < mask_l (map p (take 8 block))
+    → Some (count_trailing_zeros 64 (mask_l (map p (take 8 block)))) ≡ position p block
+some_in_mask p block long some =
+    let same = ap (λ xs. mask_l (map p xs)) (take_all 8 block (omega (arith, long))) in
     let set : 0 < mask_l (map p block) = omega (arith, same) in
-    let first = ap (count_trailing_zeros 64) same ∙ trailing_mask_l p 64 block (omega (arith, long, fits)) set in
+    let first = ap (count_trailing_zeros 64) same ∙ trailing_mask_l p 64 block (omega (arith, long)) set in
     is_some p block _ first (omega (arith, first, some_passes p block set))

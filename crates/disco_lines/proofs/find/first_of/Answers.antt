@@ -9,8 +9,8 @@ returns-in-Some c =
     let p : ℕ → Bool = λ b. eqb b c.args.byte in
     let bytes = c.args.bytes.now in
     let at = c.loop-at.at in
-    let width : at + 32 - at ≡ 32 = omega arith in
-    found_in_block p at 32 c.in-Some.found bytes (omega arith) c.loop-at.invariant.so_far
+    let width : at + 8 - at ≡ 8 = omega arith in
+    found_in_block p at 8 c.in-Some.found bytes (omega arith) c.loop-at.invariant.so_far
     (c.in-Some.ensures ∙ ap (λ n. position p (take n (drop at bytes))) width)
 
 pub loop-at-preserved : goal.loop-at-preserved
@@ -18,10 +18,10 @@ loop-at-preserved c =
     let p : ℕ → Bool = λ b. eqb b c.args.byte in
     let bytes = c.args.bytes.now in
     let at = c.loop-at.at in
-    let width : at + 32 - at ≡ 32 = omega arith in
+    let width : at + 8 - at ≡ 8 = omega arith in
     record {
       within = omega arith;
-      so_far = past_block p at 32 bytes (omega arith) c.loop-at.invariant.so_far
+      so_far = past_block p at 8 bytes (omega arith) c.loop-at.invariant.so_far
           (sym c.in_default.is ∙ c.first_in_block.ensures ∙ ap (λ n. position p (take n (drop at bytes))) width);
     }
 
