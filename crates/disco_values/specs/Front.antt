@@ -4,4 +4,6 @@ use Rattle.std.specs.Int.{from_be_bytes, w64}
 
 -- the first eight bytes as one number, the first of them the highest, with 0 for each that isn't there
 unfoldable pub front_of : List ℕ → ℕ
-front_of s = from_be_bytes w64 (get_or s 0 0 ∷ get_or s 1 0 ∷ get_or s 2 0 ∷ get_or s 3 0 ∷ get_or s 4 0 ∷ get_or s 5 0 ∷ get_or s 6 0 ∷ get_or s 7 0 ∷ [])
+front_of s =
+    from_be_bytes w64
+    (get_or s 0 0 ∷ get_or s 1 0 ∷ get_or s 2 0 ∷ get_or s 3 0 ∷ get_or s 4 0 ∷ get_or s 5 0 ∷ get_or s 6 0 ∷ get_or s 7 0 ∷ [])

@@ -57,6 +57,7 @@ fn order_whole(one: &str, other: &str) -> Ordering
 }
 
 /// The order of two texts with one front.
+#[inline(always)]
 fn order_behind(one: &str, other: &str) -> Ordering
     requires { front_of one.now ≡ front_of other.now }
     ensures { result ≡ slice_cmp nat_cmp one.now other.now }
@@ -69,7 +70,7 @@ fn order_behind(one: &str, other: &str) -> Ordering
 }
 
 /// The order of two texts with these fronts, in byte order.
-#[inline]
+#[inline(always)]
 pub(crate) fn order(one: &str, one_front: u64, other: &str, other_front: u64) -> Ordering
     requires one { one_front ≡ front_of one.now }
     requires other { other_front ≡ front_of other.now }

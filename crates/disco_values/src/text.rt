@@ -37,6 +37,9 @@ impl Text {
     pub fn new(alloc: Global, text: &str) -> Result<Text, AllocError>
         ensures { IfOk result (λ t. t ≡ text.now) }
     {
+        if text.is_empty() {
+            return Ok(Text::empty(alloc));
+        }
         Ok(Text::from_string(String::from_str(alloc, text)?))
     }
 
@@ -49,10 +52,14 @@ impl Text {
     }
 
     /// The empty text. Takes no memory.
+    #[tactic(auto, unfolding(crate::specs::Front::front_of))]
     pub fn empty(alloc: Global) -> Text
         ensures { result ≡ [] }
     {
-        Text::from_string(String::new(alloc))
+        Text {
+            text: String::new(alloc),
+            front: 0,
+        }
     }
 
     /// The text as a `&str`.
@@ -153,6 +160,7 @@ impl Ord for Text {
 
     ghost matches_eq = { texts_ties };
 
+    #[inline(always)]
     fn cmp(&self, other: &Text) -> Ordering {
         order(self.as_str(), self.front, other.as_str(), other.front)
     }
