@@ -16,6 +16,9 @@ use std::alloc::Global;
 /// How deep arrays and objects may nest, as in `serde_json`.
 const MAX_DEPTH: usize = 127;
 
+/// For how many members of an object room is made at first: most objects have no more.
+const USUAL_MEMBERS: usize = 8;
+
 /// The tree of a JSON text, the one that `serde_json` reads from it. Texts with escapes are kept in
 /// `scratch`.
 ///
@@ -121,7 +124,7 @@ fn read_members<'a>(
     ensures err { result ≡ Err BadJson → converted (λ ms. of_members ms no_members) (members (value depth) (length reader.old) reader.old) ≡ None }
     ensures causes { IfErr result (λ e. (e ≡ BadJson) ⊎ (e ≡ OutOfMemory)) }
 {
-    let mut found = Vec::new(alloc);
+    let mut found = Vec::with_capacity(alloc, USUAL_MEMBERS)?;
     'members: while let Some(name) = next_name(reader)? {
         let member = read_value(alloc, reader, depth)?;
         found.push((name, member))?;
