@@ -1,5 +1,5 @@
 //! The texts of what is held, which follow each change.
-ghost use Rattle.std.specs.Prelude.{◌≡◌, IfErr, IsSome, OnOk, Some, true};
+ghost use Rattle.std.specs.Prelude.{◌≡◌, IfErr, OnOk, Some, true};
 ghost use Rattle.std.specs.FinMap.{FinMap, insert, remove};
 ghost use Rattle.disco_values.specs.Key.{key_cmp};
 ghost use Rattle.disco_values.specs.declared.fault.Fault.TheVariants.{OutOfMemory};
@@ -8,7 +8,6 @@ ghost use Rattle.disco_history.specs.Change.{Entry, key_of, change_view};
 ghost use Rattle.disco_history.specs.Registry.{put_of};
 ghost use Rattle.disco_registry.specs.Commit.{held_after};
 ghost use Rattle.disco_core.specs.Written.{AreWritten, HasNoEmptyText, HasTexts, HasTextsAt, IsSameWritten, kept_in, none_written};
-ghost use Rattle.disco_writer.specs.Kept.{IsReadyFor, IsSameTexts, kept_text_at};
 
 use disco_history::Change;
 use disco_instance::Record;
@@ -36,25 +35,6 @@ impl Model for BothTexts {
     ghost coded = { Prim.hlevel (codes, code) };
 
     ghost view = { λ t. record { full = t.full; compact = t.compact } };
-}
-
-/// Makes a text ready under the key of a record, which has one already where it is held.
-fn ready_one(
-    texts: &mut Texts,
-    rec: &Arc<Record, Global>,
-    text: Vec<u8>,
-    held: bool,
-) -> Result<(), Fault>
-    requires { held ≡ true → IsSome (kept_text_at texts.old rec.now.value.key) }
-    ensures same { IsSameTexts texts.old texts.new }
-    ensures ready { OnOk result (IsReadyFor texts.new rec.now.value.key text.items) }
-    ensures memory { IfErr result (λ e. e ≡ OutOfMemory) }
-{
-    if held {
-        texts.ready_over(rec, text)
-    } else {
-        texts.ready(&rec.key, text)
-    }
 }
 
 impl BothTexts {
@@ -99,8 +79,8 @@ impl BothTexts {
         ensures memory { IfErr result (λ e. e ≡ OutOfMemory) }
     {
         let (full, compact) = write_texts(self.alloc, rec, Some(action))?;
-        ready_one(&mut self.full, rec, full, held)?;
-        ready_one(&mut self.compact, rec, compact, held)
+        self.full.ready_for(rec, full, held)?;
+        self.compact.ready_for(rec, compact, held)
     }
 
     /// Makes the texts of what a change puts, and places for them where its key isn't held. Refused

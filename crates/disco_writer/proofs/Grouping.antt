@@ -57,10 +57,6 @@ more {old = old} {text = text} {f = f} {rs = rs} fs is adds = record {
   utf8 = subst IsUtf8 (sym adds.items) (IsUtf8-append old (behind_comma fs) is.utf8 adds.utf8);
 }
 
--- a text that stays the same
-pub stays : {old text : List ℕ} {rs : List Fields} → IsObjectFront old rs → text ≡ old → IsObjectFront text rs
-stays {rs = rs} is same = subst (λ (t : List ℕ). IsObjectFront t rs) (sym same) is
-
 -- ---- each value and each group ends a value
 
 abbrev after : Bool → List Token → Bool

@@ -53,19 +53,6 @@ impl Both {
         self.compact.extend_from_slice(&self.full[start..])
     }
 
-    /// Adds a group to the full text.
-    fn add_full(
-        &mut self,
-        group: Group,
-        rec: &Record,
-        action: Option<Action>,
-    ) -> Result<(), AllocError>
-        ensures full { OnOk result (AppendsUtf8 self.old.full.items self.new.full.items (group_part group (row rec.now) action)) }
-        ensures compact { self.new.compact.items ≡ self.old.compact.items }
-    {
-        put_group(&mut self.full, group, rec, action)
-    }
-
     /// With their ends.
     fn ended(self) -> Result<(Vec<u8>, Vec<u8>), AllocError>
         ensures full { IfOk result (λ t. t.0.items ≡ self.full.items ++ 125 ∷ []) }
@@ -88,11 +75,11 @@ fn front(alloc: Global, rec: &Record, action: Option<Action>) -> Result<Both, Al
 {
     let mut texts = Both::new(alloc)?;
     texts.add_both(Group::Names, rec, action)?;
-    texts.add_full(Group::Country, rec, action)?;
+    put_group(&mut texts.full, Group::Country, rec, action)?;
     texts.add_both(Group::Center, rec, action)?;
-    texts.add_full(Group::Urls, rec, action)?;
+    put_group(&mut texts.full, Group::Urls, rec, action)?;
     texts.add_both(Group::Hosts, rec, action)?;
-    texts.add_full(Group::Coordination, rec, action)?;
+    put_group(&mut texts.full, Group::Coordination, rec, action)?;
     Ok(texts)
 }
 
@@ -104,9 +91,9 @@ fn add_back(texts: &mut Both, rec: &Record, action: Option<Action>) -> Result<()
     ensures compact { OnOk result (IsObjectFront texts.new.compact.items (compact_groups (row rec.now) action)) }
 {
     texts.add_both(Group::Moments, rec, action)?;
-    texts.add_full(Group::Terms, rec, action)?;
+    put_group(&mut texts.full, Group::Terms, rec, action)?;
     texts.add_both(Group::State, rec, action)?;
-    texts.add_full(Group::StatusPage, rec, action)?;
+    put_group(&mut texts.full, Group::StatusPage, rec, action)?;
     texts.add_both(Group::Vip, rec, action)?;
     Ok(())
 }

@@ -49,10 +49,15 @@ fn push_plain(out: &mut Vec<u8>, text: &str) -> Result<(), AllocError>
     Ok(())
 }
 
-/// Puts a text between quotes. Few texts need an escape, so those may take memory of their own.
+/// Puts a text between quotes. Many texts are empty. Few need an escape, so those may take memory of
+/// their own.
+#[tactic(auto, unfolding(json::specs::Print::escape_byte))]
 pub(crate) fn push_quoted(out: &mut Vec<u8>, text: &str) -> Result<(), AllocError>
     ensures { OnOk result (AppendsUtf8 out.old.items out.new.items (quoted text.now)) }
 {
+    if text.is_empty() {
+        return push(out, "\"\"");
+    }
     if is_plain(text.as_bytes()) {
         return push_plain(out, text);
     }

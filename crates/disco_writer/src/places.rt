@@ -1,5 +1,5 @@
 //! The texts in places by key, some of which may stand empty.
-ghost use Rattle.std.specs.Prelude.{◌≡◌, IfOk, IsSome, None, OnErr, OnOk, Some, option_map};
+ghost use Rattle.std.specs.Prelude.{◌≡◌, IfOk, IsSome, None, OnErr, OnOk, Some, option_map, true};
 ghost use Rattle.std.specs.FinMap as finmap;
 ghost use Rattle.std.specs.Option.{option_flatten};
 ghost use Rattle.disco_values.specs.declared.key.Key.{Key};
@@ -68,6 +68,24 @@ pub(crate) fn make(places: &mut Places<Bytes>, key: &Key) -> Result<(), AllocErr
     ensures err { OnErr result (places.new ≡ places.old) }
 {
     places.make(key)
+}
+
+/// The same, but without a search where it is known that there is one.
+pub(crate) fn make_unless(
+    places: &mut Places<Bytes>,
+    key: &Key,
+    is_there: bool,
+) -> Result<(), AllocError>
+    requires { is_there ≡ true → IsSome (finmap.get places.old key.now) }
+    ensures same { ShowSame places.old places.new }
+    ensures place { OnOk result (IsSome (finmap.get places.new key.now)) }
+    ensures opens { OpensOnly key.now places.old places.new }
+    ensures err { OnErr result (places.new ≡ places.old) }
+{
+    if is_there {
+        return Ok(());
+    }
+    make(places, key)
 }
 
 /// Takes the place of a key out if it is empty.

@@ -1,5 +1,5 @@
 //! The texts of mentions, by the keys of their instances.
-ghost use Rattle.std.specs.Prelude.{◌≡◌, IfErr, IfOk, IsSome, List, None, OnErr, OnOk, Some, option_map, ℕ};
+ghost use Rattle.std.specs.Prelude.{◌≡◌, IfErr, IfOk, IsSome, List, None, OnErr, OnOk, Some, option_map, true, ℕ};
 ghost use Rattle.disco_values.specs.declared.fault.Fault.TheVariants.{OutOfMemory};
 ghost use Rattle.disco_values.specs.declared.key.Key.{Key};
 ghost use Rattle.std.specs.FinMap.{entries};
@@ -8,7 +8,7 @@ ghost use Rattle.disco_writer.specs.Kept.{HasNoEmpty, IsReadyFor, IsSameTexts, S
 
 use crate::named::Named;
 use crate::piece::Piece;
-use crate::places::{make, pieces_in, put_named, sweep, text_at};
+use crate::places::{make, make_unless, pieces_in, put_named, sweep, text_at};
 use disco_history::Places;
 use disco_instance::Record;
 use disco_values::{Bytes, Fault, Key};
@@ -95,14 +95,19 @@ impl Texts {
         Ok(())
     }
 
-    /// Keeps the text for the next `put` under the key of a record, which has one, as [`Texts::ready`]
-    /// does. The key's place is there, so it isn't sought, and the record is shared until then.
+    /// Keeps the text for the next `put` under the key of a record, which is shared until then, as
+    /// [`Texts::ready`] does. Where the key has a text, its place is there and isn't sought.
     ///
     /// # Errors
     ///
     /// `OutOfMemory` alone. Then no place stands empty.
-    pub fn ready_over(&mut self, rec: &Arc<Record, Global>, text: Vec<u8>) -> Result<(), Fault>
-        requires { IsSome (kept_text_at self.old rec.now.value.key) }
+    pub fn ready_for(
+        &mut self,
+        rec: &Arc<Record, Global>,
+        text: Vec<u8>,
+        has_text: bool,
+    ) -> Result<(), Fault>
+        requires { has_text ≡ true → IsSome (kept_text_at self.old rec.now.value.key) }
         ensures same { IsSameTexts self.old self.new }
         ensures ready { OnOk result (IsReadyFor self.new rec.now.value.key text.items) }
         ensures given_back { OnErr result (HasNoEmpty self.new.places) }
@@ -110,11 +115,12 @@ impl Texts {
     {
         self.forget();
         let shared = Arc::try_clone(rec)?;
+        make_unless(&mut self.places, &rec.key, has_text)?;
         self.next = Some((Named::ByRecord(shared), Bytes::from_vec(text)));
         Ok(())
     }
 
-    /// Puts the text that `ready` or `ready_over` was given. Takes no memory.
+    /// Puts the text that `ready` or `ready_for` was given. Takes no memory.
     pub fn put(&mut self)
         ensures put { (k : Key) (t : List ℕ) → IsReadyFor self.old k t → SetsText k (Some t) self.old self.new }
         ensures none_empty { HasNoEmpty self.new.places }
