@@ -7,7 +7,7 @@ ghost use Rattle.disco_lines.specs.Answers.{answer_line, answer_lines, document_
 ghost use Rattle.disco_lines.specs.Steps.{document_front};
 ghost use Rattle.std.specs.List.{flat_map};
 ghost use Rattle.disco_world.specs.declared.event.Reply.TheVariants as reply;
-ghost use Rattle.disco_world.specs.declared.event.Reply.TheVariants.{Taken, Certified, Held};
+ghost use Rattle.disco_world.specs.declared.event.Reply.TheVariants.{Taken, Certified, Changed, Held};
 
 use disco_cache::Payload;
 use disco_hub::Expired;
@@ -16,6 +16,7 @@ use disco_rounds::Copied;
 use disco_streams::{Failed, Sink, write_all};
 use disco_values::Fault;
 use disco_world::{InstanceSummary, Reply};
+use itoa::Buffer;
 use std::alloc::Global;
 use std::io;
 use std::io::Write;
@@ -136,11 +137,21 @@ fn write_held<W: Write>(listed: &[InstanceSummary], out: &mut W) -> io::Result<(
     out.write_all(b"\n")
 }
 
+/// Writes the line of a change, which most lines are of: with no formatter.
+fn write_changed<W: Write>(version: u64, out: &mut W) -> io::Result<()>
+    ensures { OnOk result (Appends (W.contents out.old) (W.contents out.new) (answer_line (Changed version))) }
+{
+    let mut digits = Buffer::new();
+    out.write_all(b"ok ")?;
+    out.write_all(digits.format(version).as_bytes())?;
+    out.write_all(b"\n")
+}
+
 fn write_answer<W: Write>(reply: &Reply, out: &mut W) -> io::Result<()>
     ensures { OnOk result (Appends (W.contents out.old) (W.contents out.new) (answer_line reply.now)) }
 {
     match reply {
-        Reply::Changed(version) => writeln!(out, "ok {version}"),
+        Reply::Changed(version) => write_changed(*version, out),
         Reply::Same => out.write_all(b"same\n"),
         Reply::Doc(payload) => write_document(payload, out),
         Reply::Cleaned(base) => writeln!(out, "base {base}"),
