@@ -1,5 +1,5 @@
 //! The registry and all that follows its changes.
-ghost use Rattle.std.specs.Prelude.{◌≡◌, ◌≢◌, ◌<◌, ◌≤◌, ◌+◌, ◌-◌, List, IfErr, IfNone, IfOk, IfSome, OnErr, OnOk, Ok, Some, None, length, map, true};
+ghost use Rattle.std.specs.Prelude.{◌≡◌, ◌≢◌, ◌<◌, ◌≤◌, ◌+◌, ◌-◌, List, Err, IfErr, IfNone, IfOk, IfSome, OnErr, OnOk, Ok, Some, None, length, map, true};
 ghost use Rattle.std.specs.Prelude.{false, option_map};
 ghost use Rattle.std.specs.FinMap.{len};
 ghost use Rattle.disco_values.specs.declared.fault.Fault.TheVariants.{OutOfMemory};
@@ -169,7 +169,6 @@ fn accept(held: &mut Registry, op: Op, now: u64) -> Result<Ready, Fault>
 {
     match op {
         Op::Register(posted) => accept_registration(held, posted, now),
-        Op::Renew(key) => accept_renewal(held, key, now),
         other => accept_other(held, other, now),
     }
 }
@@ -184,19 +183,6 @@ fn accept_registration(held: &mut Registry, posted: Record, now: u64) -> Result<
     let key = posted.key.clone()?;
     let ready = held.ready(Op::Register(posted), now)?;
     with_kept(ready, key, false, now)
-}
-
-/// An operation has the size of a record, so a renewal, which comes most often, isn't moved as one.
-fn accept_renewal(held: &mut Registry, key: Key, now: u64) -> Result<Ready, Fault>
-    ensures same { registry.IsSameRegistry held.old held.new }
-    ensures ready { IfOk result (λ r. accepts held.old (renew key) now ≡ Ok r.change × commit.IsReady held.new r.change) }
-    ensures moment { IfOk result (λ r. r.moment ≡ now) }
-    ensures asked { IfOk result (λ r. (r.key ≡ key) × (r.renewal ≡ true)) }
-    ensures refused { IfErr result (MayRefuse held.old (renew key) now) }
-{
-    let op = Op::Renew(key);
-    let ready = held.ready_borrowed(&op, now)?;
-    with_kept(ready, into_key(op), true, now)
 }
 
 fn accept_other(held: &mut Registry, op: Op, now: u64) -> Result<Ready, Fault>
@@ -442,6 +428,29 @@ impl Core {
         );
         remember(&mut self.queue, ready.kept, ready.moment);
         self.registry.commit(ready.ready)
+    }
+
+    /// Renews the lease of a key at a moment in milliseconds: what [`Core::ready`] and
+    /// [`Core::commit`] of a renewal do, with nothing made ready. Takes no memory.
+    ///
+    /// # Errors
+    ///
+    /// `NotFound` alone, as the registry refuses a renewal. All is then as it was.
+    pub fn renew(&mut self, key: &Key, now: u64) -> Result<(), Fault>
+        ensures accepted { OnOk result (accepts self.old.registry (renew key.now) now ≡ Ok None) }
+        ensures history { OnOk result ((p : Past) → CoreStandsFor self.old p
+            → CoreStandsFor self.new (with_done self.old.queue.max p now (renew key.now) None)) }
+        ensures refused { IfErr result (λ e. accepts self.old.registry (renew key.now) now ≡ Err e) }
+        ensures as_before { OnErr result (self.new ≡ self.old) }
+        ensures rest { self.new ≡ record self.old { leases = self.new.leases } }
+    {
+        match self.registry.admit_renewal(key) {
+            Ok(()) => {
+                keep(&mut self.leases, key, true, now);
+                Ok(())
+            }
+            Err(fault) => Err(fault),
+        }
     }
 
     /// Forgets the recent changes that are older than the retention at a moment in milliseconds, up

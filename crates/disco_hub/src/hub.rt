@@ -4,7 +4,7 @@ ghost use Rattle.std.specs.Prelude.{slice_get, true};
 ghost use Rattle.disco_values.specs.declared.fault.Fault.TheVariants.{NoRound, OutOfMemory};
 ghost use Rattle.disco_registry.specs.Accept.{MayRefuse, accepts};
 ghost use Rattle.disco_registry.specs.Commit.{Takes, changes_properly, done_by};
-ghost use Rattle.disco_registry.specs.Op.{OpView, op_view};
+ghost use Rattle.disco_registry.specs.Op.{OpView, op_view, renew};
 ghost use Rattle.disco_registry.specs.State as registry;
 ghost use Rattle.disco_query.specs.Query.{is_delta};
 ghost use Rattle.disco_core.specs.Past.{Past, history, taken_in, with_done};
@@ -131,6 +131,32 @@ impl Hub {
     /// What the registry refuses the operation as, and `OutOfMemory`. Places of vips and leases
     /// that it leaves empty are given back then too.
     pub fn write(&mut self, op: Op, now: u64) -> Result<Applied, Fault>
+        ensures done { IfOk result (λ a. Writes self.old self.new (op_view op) now (done_by a)) }
+        ensures proper { IfOk result (λ a. changes_properly a ≡ true) }
+        ensures refused { IfErr result (Declines self.old self.new (op_view op) now) }
+        ensures rest { KeepsRest self.old self.new }
+    {
+        match op {
+            Op::Renew(key) => self.renew(&key, now),
+            other => self.perform(other, now),
+        }
+    }
+
+    /// Renews the lease of a key. Renewals come most often, and nothing is made ready for them.
+    fn renew(&mut self, key: &Key, now: u64) -> Result<Applied, Fault>
+        ensures done { IfOk result (λ a. Writes self.old self.new (renew key.now) now (done_by a)) }
+        ensures proper { IfOk result (λ a. changes_properly a ≡ true) }
+        ensures refused { IfErr result (Declines self.old self.new (renew key.now) now) }
+        ensures rest { KeepsRest self.old self.new }
+    {
+        if let Err(fault) = self.core.renew(key, now) {
+            return Err(fault);
+        }
+        Ok(Applied::Same)
+    }
+
+    /// Makes an operation ready and commits it.
+    fn perform(&mut self, op: Op, now: u64) -> Result<Applied, Fault>
         ensures done { IfOk result (λ a. Writes self.old self.new (op_view op) now (done_by a)) }
         ensures proper { IfOk result (λ a. changes_properly a ≡ true) }
         ensures refused { IfErr result (Declines self.old self.new (op_view op) now) }

@@ -1,5 +1,5 @@
 //! The registry.
-ghost use Rattle.std.specs.Prelude.{◌≡◌, ◌<◌, ◌^◌, ◌&&◌, not, nat_lt, List, [], map, IfOk, IfErr, IfSome, IsTrue, None, Some, Ok, OnOk, false, is_none};
+ghost use Rattle.std.specs.Prelude.{◌≡◌, ◌<◌, ◌^◌, ◌&&◌, ℕ, not, nat_lt, List, [], map, Err, IfOk, IfErr, IfSome, IsTrue, None, Some, Ok, OnOk, false, is_none};
 ghost use Rattle.std.specs.Prelude.{filter, option_map, true};
 ghost use Rattle.std.specs.FinMap.{get, len, values};
 ghost use Rattle.std.specs.List.{filter_map, find};
@@ -365,19 +365,35 @@ impl Registry {
         Ok(ready)
     }
 
-    fn ready_renew(&self, key: &Key, now: u64) -> Result<Ready, Fault>
-        ensures ready { IfOk result (λ r. accepts self.now (renew key.now) now ≡ Ok r × IsReady self.now r) }
-        ensures refused { IfErr result (MayRefuse self.now (renew key.now) now) }
+    /// Whether a renewal of the lease of a key is accepted: where it is held, and its status isn't
+    /// Unknown. Takes no memory.
+    ///
+    /// # Errors
+    ///
+    /// `NotFound` alone, exactly where a renewal is refused.
+    pub fn admit_renewal(&self, key: &Key) -> Result<(), Fault>
+        ensures accepted { OnOk result ((now : ℕ) → accepts self.now (renew key.now) now ≡ Ok None) }
+        ensures refused { IfErr result (λ e. (now : ℕ) → accepts self.now (renew key.now) now ≡ Err e) }
     {
-        // For the proof alone: only the clauses name it.
-        let _ = now;
         let Some(held) = self.records.get(key) else {
             return Err(Fault::NotFound);
         };
         if held.status.is(Status::Unknown) {
             return Err(Fault::NotFound);
         }
-        Ok(same_ready())
+        Ok(())
+    }
+
+    fn ready_renew(&self, key: &Key, now: u64) -> Result<Ready, Fault>
+        ensures ready { IfOk result (λ r. accepts self.now (renew key.now) now ≡ Ok r × IsReady self.now r) }
+        ensures refused { IfErr result (MayRefuse self.now (renew key.now) now) }
+    {
+        // For the proof alone: only the clauses name it.
+        let _ = now;
+        match self.admit_renewal(key) {
+            Ok(()) => Ok(same_ready()),
+            Err(fault) => Err(fault),
+        }
     }
 
     fn ready_set_status(&self, key: &Key, text: &Text, now: u64) -> Result<Ready, Fault>
