@@ -1,5 +1,5 @@
 -- Texts that are appended one after another.
-use Rattle.std.proofs.Common.{◌≡◌, ℕ, List, [], ◌++◌, Result, Ok, Err, OnOk, is_ok, if◌then◌else◌, IsUtf8, ap, subst, sym, ◌∙◌, append_assoc, append-nil}
+use Rattle.std.proofs.Common.{◌≡◌, ℕ, List, [], ◌++◌, Result, Ok, Err, OnOk, IsUtf8, ap, subst, sym, ◌∙◌, append_assoc, append-nil}
 use Rattle.std.proofs.lemmas.Str.{IsUtf8-append}
 use Rattle.disco_writer.specs.Groups.{AppendsUtf8}
 
@@ -11,8 +11,8 @@ pub before : {E : Type 0} (r : Result (Unit {0}) E) {a b x : List ℕ} (c y : Li
 before (Ok u) c y f g = both f g
 before (Err e) c y f g = tt
 
--- what a slice is extended by
-pub appended : {E : Type 0} (r : Result (Unit {0}) E) (a b : List ℕ) {x y : List ℕ} → b ≡ (if is_ok r then a ++ x else a) → x ≡ y → IsUtf8 y → OnOk r (AppendsUtf8 a b y)
+-- a piece is put behind a text
+pub appended : {E : Type 0} (r : Result (Unit {0}) E) (a b : List ℕ) {x y : List ℕ} → OnOk r (b ≡ a ++ x) → x ≡ y → IsUtf8 y → OnOk r (AppendsUtf8 a b y)
 appended (Ok u) a b e is utf8 = record { items = e ∙ ap (λ (s : List ℕ). a ++ s) is; utf8 = utf8 }
 appended (Err z) a b e is utf8 = tt
 

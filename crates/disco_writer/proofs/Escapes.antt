@@ -1,10 +1,10 @@
 -- Texts that need no escape.
-use Rattle.std.proofs.Common.{◌≡◌, ℕ, ◌+◌, ◌%◌, ◌^◌, ◌<◌, ◌≤◌, Bool, true, false, not, ◌==◌, List, [], ◌∷◌, ◌++◌, codes, decimal, if◌then◌else◌, refl, ap, sym, ◌∙◌, arith, append_assoc}
+use Rattle.std.proofs.Common.{◌≡◌, ℕ, ◌+◌, ◌%◌, ◌^◌, ◌<◌, ◌≤◌, Bool, true, false, not, ◌==◌, List, [], ◌∷◌, ◌++◌, codes, decimal, if◌then◌else◌, refl, ap, ◌∙◌, arith}
 use Rattle.std.specs.Bool.{OnTrue}
 use Rattle.std.proofs.lemmas.Bool.{OnTrue_from, eqb-false, not-true}
 use Rattle.std.proofs.lemmas.Fmt.{decimal_by_steps}
 use Rattle.std.proofs.lemmas.List.Concat.{flat_map-append}
-use Rattle.json.specs.Print.{escape, escape_byte, quoted}
+use Rattle.json.specs.Print.{escape, escape_byte}
 use Rattle.json.proofs.Printed.Strings.{escape_byte_plain}
 use Rattle.disco_values.specs.Action.{action_name}
 use Rattle.disco_values.specs.Status.{status_name}
@@ -34,11 +34,6 @@ truth_plain false = refl
 
 pub plain_unless : (x : ℕ) → 32 ≤ x → (x ≡ 34 → ⊥) → OnTrue (not (x == 92)) (escape_byte x ≡ x ∷ [])
 plain_unless x visible quote = OnTrue_from (not (x == 92)) (escape_byte x ≡ x ∷ []) (λ e. escape_byte_plain x quote (eqb-false x 92 (not-true (x == 92) e)) visible)
-
-pub between_quotes : (old text : List ℕ) {a b now : List ℕ} → a ≡ old ++ 34 ∷ [] → b ≡ a ++ text → now ≡ b ++ 34 ∷ [] → escape text ≡ text → now ≡ old ++ quoted text
-between_quotes old text first inner last plain =
-    last ∙ ap (λ (s : List ℕ). s ++ 34 ∷ []) (inner ∙ ap (λ (s : List ℕ). s ++ text) first ∙ append_assoc old (34 ∷ []) text)
-    ∙ append_assoc old (34 ∷ text) (34 ∷ []) ∙ ap (λ (s : List ℕ). old ++ 34 ∷ (s ++ 34 ∷ [])) (sym plain)
 
 digit_plain : (d : ℕ) → d < 10 → escape_byte (48 + d) ≡ (48 + d) ∷ []
 digit_plain d below = escape_byte_plain (48 + d) (λ e. omega arith) (λ e. omega arith) (omega arith)

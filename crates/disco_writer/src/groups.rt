@@ -9,6 +9,7 @@ use crate::members::{
     push, push_entries, push_quoted, put_action, put_digits, put_number, put_status, put_text,
     put_truth,
 };
+use crate::text_buffer::TextBuffer;
 use disco_instance::{Details, Record};
 use disco_values::Action;
 use std::alloc::AllocError;
@@ -36,8 +37,8 @@ pub(crate) enum Group {
 }
 
 /// What was done, where it is said, up to the name of the app.
-fn put_done(out: &mut Vec<u8>, action: Option<Action>) -> Result<(), AllocError>
-    ensures { OnOk result (AppendsUtf8 out.old.items out.new.items (done_text action)) }
+fn put_done(out: &mut TextBuffer, action: Option<Action>) -> Result<(), AllocError>
+    ensures { OnOk result (AppendsUtf8 out.old out.new (done_text action)) }
 {
     match action {
         Some(action) => {
@@ -48,15 +49,15 @@ fn put_done(out: &mut Vec<u8>, action: Option<Action>) -> Result<(), AllocError>
     }
 }
 
-fn put_names(out: &mut Vec<u8>, rec: &Record, action: Option<Action>) -> Result<(), AllocError>
-    ensures { OnOk result (AppendsUtf8 out.old.items out.new.items (group_part Names (row rec.now) action)) }
+fn put_names(out: &mut TextBuffer, rec: &Record, action: Option<Action>) -> Result<(), AllocError>
+    ensures { OnOk result (AppendsUtf8 out.old out.new (group_part Names (row rec.now) action)) }
 {
     put_done(out, action)?;
     push_quoted(out, rec.key.app.as_str())
 }
 
-fn put_center(out: &mut Vec<u8>, rec: &Record) -> Result<(), AllocError>
-    ensures { OnOk result (AppendsUtf8 out.old.items out.new.items (group_part Center (row rec.now) None)) }
+fn put_center(out: &mut TextBuffer, rec: &Record) -> Result<(), AllocError>
+    ensures { OnOk result (AppendsUtf8 out.old out.new (group_part Center (row rec.now) None)) }
 {
     let center = &rec.details.data_center;
     put_text(out, ",\"dataCenterInfo\":{\"@class\":", &center.class)?;
@@ -64,16 +65,16 @@ fn put_center(out: &mut Vec<u8>, rec: &Record) -> Result<(), AllocError>
     push(out, "}")
 }
 
-fn put_urls(out: &mut Vec<u8>, rec: &Record) -> Result<(), AllocError>
-    ensures { OnOk result (AppendsUtf8 out.old.items out.new.items (group_part Urls (row rec.now) None)) }
+fn put_urls(out: &mut TextBuffer, rec: &Record) -> Result<(), AllocError>
+    ensures { OnOk result (AppendsUtf8 out.old out.new (group_part Urls (row rec.now) None)) }
 {
     let details: &Details = &rec.details;
     put_text(out, ",\"healthCheckUrl\":", &details.health_check_url)?;
     put_text(out, ",\"homePageUrl\":", &details.home_page_url)
 }
 
-fn put_hosts(out: &mut Vec<u8>, rec: &Record) -> Result<(), AllocError>
-    ensures { OnOk result (AppendsUtf8 out.old.items out.new.items (group_part Hosts (row rec.now) None)) }
+fn put_hosts(out: &mut TextBuffer, rec: &Record) -> Result<(), AllocError>
+    ensures { OnOk result (AppendsUtf8 out.old out.new (group_part Hosts (row rec.now) None)) }
 {
     let details: &Details = &rec.details;
     put_text(out, ",\"hostName\":", &details.host_name)?;
@@ -81,15 +82,15 @@ fn put_hosts(out: &mut Vec<u8>, rec: &Record) -> Result<(), AllocError>
     put_text(out, ",\"ipAddr\":", &details.ip_addr)
 }
 
-fn put_moments(out: &mut Vec<u8>, rec: &Record) -> Result<(), AllocError>
-    ensures { OnOk result (AppendsUtf8 out.old.items out.new.items (group_part Moments (row rec.now) None)) }
+fn put_moments(out: &mut TextBuffer, rec: &Record) -> Result<(), AllocError>
+    ensures { OnOk result (AppendsUtf8 out.old out.new (group_part Moments (row rec.now) None)) }
 {
     put_digits(out, ",\"lastDirtyTimestamp\":", rec.last_dirty)?;
     put_digits(out, ",\"lastUpdatedTimestamp\":", rec.last_updated)
 }
 
-fn put_terms(out: &mut Vec<u8>, rec: &Record) -> Result<(), AllocError>
-    ensures { OnOk result (AppendsUtf8 out.old.items out.new.items (group_part Terms (row rec.now) None)) }
+fn put_terms(out: &mut TextBuffer, rec: &Record) -> Result<(), AllocError>
+    ensures { OnOk result (AppendsUtf8 out.old out.new (group_part Terms (row rec.now) None)) }
 {
     let lease = rec.lease;
     put_number(
@@ -110,8 +111,8 @@ fn put_terms(out: &mut Vec<u8>, rec: &Record) -> Result<(), AllocError>
     push_entries(out, &rec.details.metadata)
 }
 
-fn put_state(out: &mut Vec<u8>, rec: &Record) -> Result<(), AllocError>
-    ensures { OnOk result (AppendsUtf8 out.old.items out.new.items (group_part State (row rec.now) None)) }
+fn put_state(out: &mut TextBuffer, rec: &Record) -> Result<(), AllocError>
+    ensures { OnOk result (AppendsUtf8 out.old out.new (group_part State (row rec.now) None)) }
 {
     put_status(out, ",\"overriddenStatus\":", rec.overridden_status)?;
     put_number(out, ",\"port\":{\"$\":", rec.port.number)?;
@@ -128,12 +129,12 @@ fn put_state(out: &mut Vec<u8>, rec: &Record) -> Result<(), AllocError>
 
 /// Puts a group, behind a brace or a comma.
 pub(crate) fn put_group(
-    out: &mut Vec<u8>,
+    out: &mut TextBuffer,
     group: Group,
     rec: &Record,
     action: Option<Action>,
 ) -> Result<(), AllocError>
-    ensures { OnOk result (AppendsUtf8 out.old.items out.new.items (group_part group (row rec.now) action)) }
+    ensures { OnOk result (AppendsUtf8 out.old out.new (group_part group (row rec.now) action)) }
 {
     match group {
         Group::Names => put_names(out, rec, action),

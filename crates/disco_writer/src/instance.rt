@@ -8,6 +8,7 @@ ghost use Rattle.disco_writer.specs.Kept.{IsTextOf};
 ghost use Rattle.disco_writer.specs.Groups.{AppendsUtf8, IsObjectFront, compact_front, compact_groups, full_front, full_groups, group_part};
 
 use crate::groups::{Group, put_group};
+use crate::text_buffer::TextBuffer;
 use disco_instance::{Record, well_formed};
 use disco_values::{Action, Fault, Form};
 use disco_wire::Mention;
@@ -23,18 +24,18 @@ const USUAL_COMPACT: usize = 512;
 /// written once and copied.
 #[derive(Drop)]
 struct Both {
-    full: Vec<u8>,
-    compact: Vec<u8>,
+    full: TextBuffer,
+    compact: TextBuffer,
 }
 
 impl Both {
     fn new(alloc: Global) -> Result<Both, AllocError>
-        ensures full { IfOk result (λ b. b.full.items ≡ []) }
-        ensures compact { IfOk result (λ b. b.compact.items ≡ []) }
+        ensures full { IfOk result (λ b. b.full ≡ []) }
+        ensures compact { IfOk result (λ b. b.compact ≡ []) }
     {
         Ok(Both {
-            full: Vec::with_capacity(alloc, USUAL_FULL)?,
-            compact: Vec::with_capacity(alloc, USUAL_COMPACT)?,
+            full: TextBuffer::with_capacity(alloc, USUAL_FULL)?,
+            compact: TextBuffer::with_capacity(alloc, USUAL_COMPACT)?,
         })
     }
 
@@ -45,33 +46,33 @@ impl Both {
         rec: &Record,
         action: Option<Action>,
     ) -> Result<(), AllocError>
-        ensures full { OnOk result (AppendsUtf8 self.old.full.items self.new.full.items (group_part group (row rec.now) action)) }
-        ensures compact { OnOk result (AppendsUtf8 self.old.compact.items self.new.compact.items (group_part group (row rec.now) action)) }
+        ensures full { OnOk result (AppendsUtf8 self.old.full self.new.full (group_part group (row rec.now) action)) }
+        ensures compact { OnOk result (AppendsUtf8 self.old.compact self.new.compact (group_part group (row rec.now) action)) }
     {
         let start = self.full.len();
         put_group(&mut self.full, group, rec, action)?;
-        self.compact.extend_from_slice(&self.full[start..])
+        self.compact.push(&self.full.as_slice()[start..])
     }
 
     /// With their ends.
     fn ended(self) -> Result<(Vec<u8>, Vec<u8>), AllocError>
-        ensures full { IfOk result (λ t. t.0.items ≡ self.full.items ++ 125 ∷ []) }
-        ensures compact { IfOk result (λ t. t.1.items ≡ self.compact.items ++ 125 ∷ []) }
+        ensures full { IfOk result (λ t. t.0.items ≡ self.full ++ 125 ∷ []) }
+        ensures compact { IfOk result (λ t. t.1.items ≡ self.compact ++ 125 ∷ []) }
     {
         let Both {
             mut full,
             mut compact,
         } = self;
-        full.push(b'}')?;
-        compact.push(b'}')?;
-        Ok((full, compact))
+        full.push(b"}")?;
+        compact.push(b"}")?;
+        Ok((full.into_vec(), compact.into_vec()))
     }
 }
 
 /// The groups in front of the moments.
 fn front(alloc: Global, rec: &Record, action: Option<Action>) -> Result<Both, AllocError>
-    ensures full { IfOk result (λ b. IsObjectFront b.full.items (full_front (row rec.now) action)) }
-    ensures compact { IfOk result (λ b. IsObjectFront b.compact.items (compact_front (row rec.now) action)) }
+    ensures full { IfOk result (λ b. IsObjectFront b.full (full_front (row rec.now) action)) }
+    ensures compact { IfOk result (λ b. IsObjectFront b.compact (compact_front (row rec.now) action)) }
 {
     let mut texts = Both::new(alloc)?;
     texts.add_both(Group::Names, rec, action)?;
@@ -85,10 +86,10 @@ fn front(alloc: Global, rec: &Record, action: Option<Action>) -> Result<Both, Al
 
 /// Adds the groups from the moments on.
 fn add_back(texts: &mut Both, rec: &Record, action: Option<Action>) -> Result<(), AllocError>
-    requires full { IsObjectFront texts.old.full.items (full_front (row rec.now) action) }
-    requires compact { IsObjectFront texts.old.compact.items (compact_front (row rec.now) action) }
-    ensures full { OnOk result (IsObjectFront texts.new.full.items (full_groups (row rec.now) action)) }
-    ensures compact { OnOk result (IsObjectFront texts.new.compact.items (compact_groups (row rec.now) action)) }
+    requires full { IsObjectFront texts.old.full (full_front (row rec.now) action) }
+    requires compact { IsObjectFront texts.old.compact (compact_front (row rec.now) action) }
+    ensures full { OnOk result (IsObjectFront texts.new.full (full_groups (row rec.now) action)) }
+    ensures compact { OnOk result (IsObjectFront texts.new.compact (compact_groups (row rec.now) action)) }
 {
     texts.add_both(Group::Moments, rec, action)?;
     put_group(&mut texts.full, Group::Terms, rec, action)?;

@@ -16,6 +16,7 @@ mod named;
 mod piece;
 mod places;
 mod selected;
+mod text_buffer;
 mod texts;
 
 pub use disco_query::Query;

@@ -8,15 +8,17 @@ ghost use Rattle.disco_values.specs.Status.{status_name};
 ghost use Rattle.disco_writer.specs.Groups.{AppendsUtf8, entries_text, entry_member};
 
 use crate::join::quoted;
+use crate::text_buffer::TextBuffer;
 use disco_values::{Action, Entries, Status, Text};
 use itoa::{Buffer, Integer};
 use std::alloc::AllocError;
 
 /// Puts a text as it is.
-pub(crate) fn push(out: &mut Vec<u8>, text: &str) -> Result<(), AllocError>
-    ensures { OnOk result (AppendsUtf8 out.old.items out.new.items text.now) }
+#[inline(always)]
+pub(crate) fn push(out: &mut TextBuffer, text: &str) -> Result<(), AllocError>
+    ensures { OnOk result (AppendsUtf8 out.old out.new text.now) }
 {
-    out.extend_from_slice(text.as_bytes())
+    out.push(text.as_bytes())
 }
 
 /// Whether the byte is not escaped in JSON.
@@ -39,21 +41,20 @@ fn is_plain(text: &[u8]) -> bool
 }
 
 /// Puts a text that needs no escape between quotes.
-fn push_plain(out: &mut Vec<u8>, text: &str) -> Result<(), AllocError>
+fn push_plain(out: &mut TextBuffer, text: &str) -> Result<(), AllocError>
     requires { escape text.now ≡ text.now }
-    ensures { OnOk result (AppendsUtf8 out.old.items out.new.items (quoted text.now)) }
+    ensures { OnOk result (AppendsUtf8 out.old out.new (quoted text.now)) }
 {
-    out.push(b'"')?;
-    out.extend_from_slice(text.as_bytes())?;
-    out.push(b'"')?;
-    Ok(())
+    push(out, "\"")?;
+    push(out, text)?;
+    push(out, "\"")
 }
 
 /// Puts a text between quotes. Many texts are empty. Few need an escape, so those may take memory of
 /// their own.
 #[tactic(auto, unfolding(json::specs::Print::escape_byte))]
-pub(crate) fn push_quoted(out: &mut Vec<u8>, text: &str) -> Result<(), AllocError>
-    ensures { OnOk result (AppendsUtf8 out.old.items out.new.items (quoted text.now)) }
+pub(crate) fn push_quoted(out: &mut TextBuffer, text: &str) -> Result<(), AllocError>
+    ensures { OnOk result (AppendsUtf8 out.old out.new (quoted text.now)) }
 {
     if text.is_empty() {
         return push(out, "\"\"");
@@ -61,27 +62,30 @@ pub(crate) fn push_quoted(out: &mut Vec<u8>, text: &str) -> Result<(), AllocErro
     if is_plain(text.as_bytes()) {
         return push_plain(out, text);
     }
-    let text = quoted(*out.allocator(), text)?;
-    out.extend_from_slice(text.as_slice())
+    let text = quoted(out.allocator(), text)?;
+    out.push(text.as_slice())
 }
 
 /// Puts a text between quotes behind the text in front of it.
-pub(crate) fn put_text(out: &mut Vec<u8>, lead: &str, text: &Text) -> Result<(), AllocError>
-    ensures { OnOk result (AppendsUtf8 out.old.items out.new.items (lead.now ++ quoted text.now)) }
+#[inline(always)]
+pub(crate) fn put_text(out: &mut TextBuffer, lead: &str, text: &Text) -> Result<(), AllocError>
+    ensures { OnOk result (AppendsUtf8 out.old out.new (lead.now ++ quoted text.now)) }
 {
     push(out, lead)?;
     push_quoted(out, text.as_str())
 }
 
-pub(crate) fn put_status(out: &mut Vec<u8>, lead: &str, status: Status) -> Result<(), AllocError>
-    ensures { OnOk result (AppendsUtf8 out.old.items out.new.items (lead.now ++ quoted (status_name status))) }
+#[inline(always)]
+pub(crate) fn put_status(out: &mut TextBuffer, lead: &str, status: Status) -> Result<(), AllocError>
+    ensures { OnOk result (AppendsUtf8 out.old out.new (lead.now ++ quoted (status_name status))) }
 {
     push(out, lead)?;
     push_plain(out, status.name())
 }
 
-pub(crate) fn put_action(out: &mut Vec<u8>, lead: &str, action: Action) -> Result<(), AllocError>
-    ensures { OnOk result (AppendsUtf8 out.old.items out.new.items (lead.now ++ quoted (action_name action))) }
+#[inline(always)]
+pub(crate) fn put_action(out: &mut TextBuffer, lead: &str, action: Action) -> Result<(), AllocError>
+    ensures { OnOk result (AppendsUtf8 out.old out.new (lead.now ++ quoted (action_name action))) }
 {
     push(out, lead)?;
     push_plain(out, action.name())
@@ -93,19 +97,21 @@ fn truth_name(flag: bool) -> &'static str
     if flag { "true" } else { "false" }
 }
 
-pub(crate) fn put_truth(out: &mut Vec<u8>, lead: &str, flag: bool) -> Result<(), AllocError>
-    ensures { OnOk result (AppendsUtf8 out.old.items out.new.items (lead.now ++ quoted (if flag then codes "true" else codes "false"))) }
+#[inline(always)]
+pub(crate) fn put_truth(out: &mut TextBuffer, lead: &str, flag: bool) -> Result<(), AllocError>
+    ensures { OnOk result (AppendsUtf8 out.old out.new (lead.now ++ quoted (if flag then codes "true" else codes "false"))) }
 {
     push(out, lead)?;
     push_plain(out, truth_name(flag))
 }
 
+#[inline(always)]
 pub(crate) fn put_number<I: Integer>(
-    out: &mut Vec<u8>,
+    out: &mut TextBuffer,
     lead: &str,
     number: I,
 ) -> Result<(), AllocError>
-    ensures { OnOk result (AppendsUtf8 out.old.items out.new.items (lead.now ++ I.text number)) }
+    ensures { OnOk result (AppendsUtf8 out.old out.new (lead.now ++ I.text number)) }
 {
     let mut digits = Buffer::new();
     push(out, lead)?;
@@ -113,8 +119,9 @@ pub(crate) fn put_number<I: Integer>(
 }
 
 /// Puts the digits of a number between quotes.
-pub(crate) fn put_digits(out: &mut Vec<u8>, lead: &str, number: u64) -> Result<(), AllocError>
-    ensures { OnOk result (AppendsUtf8 out.old.items out.new.items (lead.now ++ quoted (decimal number))) }
+#[inline(always)]
+pub(crate) fn put_digits(out: &mut TextBuffer, lead: &str, number: u64) -> Result<(), AllocError>
+    ensures { OnOk result (AppendsUtf8 out.old out.new (lead.now ++ quoted (decimal number))) }
 {
     let mut digits = Buffer::new();
     push(out, lead)?;
@@ -128,8 +135,8 @@ fn comma(later: bool) -> &'static str
     if later { "," } else { "" }
 }
 
-fn push_entry(out: &mut Vec<u8>, later: bool, name: &Text, text: &Text) -> Result<(), AllocError>
-    ensures { OnOk result (AppendsUtf8 out.old.items out.new.items (entry_member later name.now text.now)) }
+fn push_entry(out: &mut TextBuffer, later: bool, name: &Text, text: &Text) -> Result<(), AllocError>
+    ensures { OnOk result (AppendsUtf8 out.old out.new (entry_member later name.now text.now)) }
 {
     push(out, comma(later))?;
     push_quoted(out, name.as_str())?;
@@ -137,8 +144,8 @@ fn push_entry(out: &mut Vec<u8>, later: bool, name: &Text, text: &Text) -> Resul
 }
 
 /// Puts the entries of metadata and the brace that ends their object.
-pub(crate) fn push_entries(out: &mut Vec<u8>, entries: &Entries) -> Result<(), AllocError>
-    ensures { OnOk result (AppendsUtf8 out.old.items out.new.items (entries_text false entries.now)) }
+pub(crate) fn push_entries(out: &mut TextBuffer, entries: &Entries) -> Result<(), AllocError>
+    ensures { OnOk result (AppendsUtf8 out.old out.new (entries_text false entries.now)) }
 {
     let mut later = false;
     for (name, text) in entries.as_slice() {

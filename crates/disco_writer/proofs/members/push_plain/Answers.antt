@@ -1,10 +1,8 @@
-use Rattle.std.proofs.Common.{◌++◌, ◌∙◌}
-use Rattle.json.proofs.Printed.Utf8.{IsUtf8-quoted}
-use Rattle.disco_writer.proofs.Escapes.{between_quotes}
+use Rattle.std.proofs.Common.{◌++◌, ◌∷◌, [], sym}
+use Rattle.disco_writer.proofs.Appending.{before, renamed}
 use Rattle.disco_writer.proofs.members.push_plain.Goals as goal
 
 pub returns : goal.returns
-returns c = record {
-  items = between_quotes _ _ c.in_ok-push.ensures.items (c.in_ok-extend_from_slice.ensures.items ∙ (λ i. c.push.new.self.items ++ c.as_bytes.ensures.value i)) c.in_ok-push-2.ensures.items c.requires;
-  utf8 = IsUtf8-quoted _ c.utf8.text;
-}
+returns c =
+    renamed c.push-3.result _ _ (λ i. 34 ∷ (sym c.requires i ++ 34 ∷ []))
+    (before c.push-3.result _ _ c.in_ok-push.ensures (before c.push-3.result _ _ c.in_ok-push-2.ensures c.push-3.ensures))

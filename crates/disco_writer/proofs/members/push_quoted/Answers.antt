@@ -4,4 +4,4 @@ use Rattle.disco_writer.proofs.Appending.{appended}
 use Rattle.disco_writer.proofs.members.push_quoted.Goals as goal
 
 pub returns : goal.returns
-returns c = appended c.extend_from_slice.result _ _ c.extend_from_slice.ensures.items (c.as_slice.ensures.value ∙ c.in_ok-text.ensures) (IsUtf8-quoted _ c.utf8.text)
+returns c = appended c.push-2.result _ _ c.push-2.ensures (c.as_slice.ensures.value ∙ c.in_ok-text.ensures) (IsUtf8-quoted _ c.utf8.text)

@@ -1,0 +1,91 @@
+//! A text that is being written.
+ghost use Rattle.std.specs.Prelude.{◌≡◌, ◌++◌, ◌≤◌, ◌+◌, [], IfOk, OnOk, length, take};
+
+use std::alloc::{AllocError, Global};
+use std::marker::Model;
+
+/// A text as far as it is written. Contracts see its bytes.
+///
+/// A piece is copied into room that is there already. Most pieces are constant texts, whose lengths
+/// the compiler knows: these take a comparison and a few moves, and no call.
+#[derive(Drop)]
+pub(crate) struct TextBuffer {
+    /// The text, and behind it bytes that mean nothing.
+    room: Vec<u8>,
+    /// How many bytes the text has.
+    len: usize,
+}
+
+impl Model for TextBuffer {
+    ghost use Rattle.std.specs.Prelude.{List, ℕ, ◌≤◌, length, take};
+
+    ghost Value = { List ℕ };
+
+    ghost view = { λ b. take b.len b.room.items };
+
+    ghost invariant = { λ b. b.len ≤ length b.room.items };
+}
+
+/// Makes room for so many bytes behind the first `len`, twice as much as there was at least.
+#[cold]
+#[inline(never)]
+fn grow(room: &mut Vec<u8>, len: usize, more: usize) -> Result<(), AllocError>
+    requires { len ≤ length room.old.items }
+    ensures same { take len room.new.items ≡ take len room.old.items }
+    ensures within { len ≤ length room.new.items }
+    ensures room { OnOk result (len + more ≤ length room.new.items) }
+{
+    let needed = len.checked_add(more).ok_or(AllocError)?;
+    room.resize(needed.max(room.len().saturating_mul(2)), 0)
+}
+
+impl TextBuffer {
+    /// An empty text, with room for so many bytes.
+    pub(crate) fn with_capacity(alloc: Global, capacity: usize) -> Result<TextBuffer, AllocError>
+        ensures { IfOk result (λ b. b ≡ []) }
+    {
+        let mut room = Vec::with_capacity(alloc, capacity)?;
+        room.resize(capacity, 0)?;
+        Ok(TextBuffer { room, len: 0 })
+    }
+
+    /// What gave its room.
+    pub(crate) fn allocator(&self) -> Global {
+        *self.room.allocator()
+    }
+
+    pub(crate) fn len(&self) -> usize
+        ensures { result ≡ length self.now }
+    {
+        self.len
+    }
+
+    pub(crate) fn as_slice(&self) -> &[u8]
+        ensures { result.now ≡ self.now }
+    {
+        &self.room[..self.len]
+    }
+
+    /// Puts bytes behind the text.
+    #[inline(always)]
+    pub(crate) fn push(&mut self, piece: &[u8]) -> Result<(), AllocError>
+        ensures { OnOk result (self.new ≡ self.old ++ piece.now) }
+    {
+        if self.room.len() - self.len < piece.len() {
+            grow(&mut self.room, self.len, piece.len())?;
+        }
+        let len = self.len + piece.len();
+        self.room[self.len..len].copy_from_slice(piece);
+        self.len = len;
+        Ok(())
+    }
+
+    /// The text by itself.
+    pub(crate) fn into_vec(self) -> Vec<u8>
+        ensures { result.items ≡ self }
+    {
+        let TextBuffer { mut room, len } = self;
+        room.truncate(len);
+        room
+    }
+}
