@@ -34,7 +34,7 @@ fn read_of(alloc: Global, place: Place<Text>, form: Form) -> Result<Call, Fault>
         Place::Vip { vip } => Query::Vip(vip),
         Place::Svip { svip } => Query::Svip(svip),
         Place::Instance { app, id } => {
-            return Ok(Call::Instance(key_named(alloc, &app, id)?, form));
+            return Ok(Call::Instance(key_named(alloc, app, id)?, form));
         }
         Place::Id { id } => return Ok(Call::ById(id, form)),
         Place::Status { .. } | Place::Metadata { .. } => return Err(Fault::BadMethod),
@@ -67,13 +67,13 @@ fn put_of(alloc: Global, place: Place<Text>, query: &[u8]) -> Result<Op, Fault>
     ensures { Gives op_view result (put_call place query.now) }
 {
     match place {
-        Place::Instance { app, id } => renew(alloc, &app, id),
+        Place::Instance { app, id } => renew(alloc, app, id),
         Place::Status { app, id } => match value_of(alloc, query)? {
-            Some(status) => set_status(alloc, &app, id, status),
+            Some(status) => set_status(alloc, app, id, status),
             None => Err(Fault::BadStatus),
         },
         Place::Metadata { app, id } => {
-            add_metadata(alloc, &app, id, entries_of_query(alloc, query)?)
+            add_metadata(alloc, app, id, entries_of_query(alloc, query)?)
         }
         _ => Err(Fault::BadMethod),
     }
@@ -84,8 +84,8 @@ fn delete_of(alloc: Global, place: Place<Text>, query: &[u8]) -> Result<Op, Faul
     ensures { Gives op_view result (delete_of place query.now) }
 {
     match place {
-        Place::Instance { app, id } => cancel(alloc, &app, id),
-        Place::Status { app, id } => drop_status(alloc, &app, id, value_of(alloc, query)?),
+        Place::Instance { app, id } => cancel(alloc, app, id),
+        Place::Status { app, id } => drop_status(alloc, app, id, value_of(alloc, query)?),
         _ => Err(Fault::BadMethod),
     }
 }

@@ -48,7 +48,7 @@ fn run_and_write<W: Sink>(
     steps: Steps,
     out: &mut W,
 ) -> Result<(), Fault>
-    ensures { OnOk result (AreTold settings.now.entries (rules settings.now) settings.now.run steps.entry.events.now answer_line (W.contents out.old)
+    ensures { OnOk result (AreTold settings.now.entries (rules settings.now) settings.now.run steps.events.items answer_line (W.contents out.old)
         (W.contents out.new)) }
 {
     let mut buffered = LineBuffer(Vec::with_capacity(alloc, ROOM)?);
@@ -68,7 +68,7 @@ pub fn answer_events<W: Sink>(
     steps: Steps,
     out: &mut W,
 ) -> Result<(), Fault>
-    ensures told { OnOk result (AreTold settings.now.entries (rules settings.now) settings.now.run steps.entry.events.now answer_line (W.contents out.old)
+    ensures told { OnOk result (AreTold settings.now.entries (rules settings.now) settings.now.run steps.events.items answer_line (W.contents out.old)
         (W.contents out.new)) }
     ensures fault { IfErr result (λ e. (e ≡ WriteFailed) ⊎ (e ≡ OutOfMemory)) }
     // A failed write has raised the count of failures.

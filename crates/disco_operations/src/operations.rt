@@ -22,8 +22,8 @@ use std::alloc::Global;
 ///
 /// `OutOfMemory` alone.
 #[inline]
-pub fn key_named(alloc: Global, app: &Text, id: Text) -> Result<Key, Fault>
-    ensures key { IfOk result (λ k. k ≡ key_named app.now id) }
+pub fn key_named(alloc: Global, app: Text, id: Text) -> Result<Key, Fault>
+    ensures key { IfOk result (λ k. k ≡ key_named app id) }
     ensures memory { IfErr result (λ e. e ≡ OutOfMemory) }
 {
     let app = upper_name(alloc, app)?;
@@ -38,13 +38,13 @@ fn is_upper(name: &[u8]) -> bool
     name.iter().all(|byte| !byte.is_ascii_lowercase())
 }
 
-/// A name in upper case. Most names are, and those are copied as they stand.
-fn upper_name(alloc: Global, name: &Text) -> Result<Text, Fault>
-    ensures text { IfOk result (λ t. t ≡ in_upper_case name.now) }
+/// A name in upper case. Most names are, and those stay as they are.
+fn upper_name(alloc: Global, name: Text) -> Result<Text, Fault>
+    ensures text { IfOk result (λ t. t ≡ in_upper_case name) }
     ensures memory { IfErr result (λ e. e ≡ OutOfMemory) }
 {
     if is_upper(name.as_str().as_bytes()) {
-        return Ok(name.clone()?);
+        return Ok(name);
     }
     upper(alloc, name.as_str())
 }
@@ -90,8 +90,8 @@ pub fn register(alloc: Global, app: &Text, body: &[u8]) -> Result<Op, Fault>
 /// # Errors
 ///
 /// `OutOfMemory` alone.
-pub fn cancel(alloc: Global, app: &Text, id: Text) -> Result<Op, Fault>
-    ensures { Gives op_view result (Ok (asking.cancel (key_named app.now id))) }
+pub fn cancel(alloc: Global, app: Text, id: Text) -> Result<Op, Fault>
+    ensures { Gives op_view result (Ok (asking.cancel (key_named app id))) }
 {
     Ok(Op::Cancel(key_named(alloc, app, id)?))
 }
@@ -102,8 +102,8 @@ pub fn cancel(alloc: Global, app: &Text, id: Text) -> Result<Op, Fault>
 ///
 /// `OutOfMemory` alone.
 #[inline]
-pub fn renew(alloc: Global, app: &Text, id: Text) -> Result<Op, Fault>
-    ensures { Gives op_view result (Ok (asking.renew (key_named app.now id))) }
+pub fn renew(alloc: Global, app: Text, id: Text) -> Result<Op, Fault>
+    ensures { Gives op_view result (Ok (asking.renew (key_named app id))) }
 {
     Ok(Op::Renew(key_named(alloc, app, id)?))
 }
@@ -114,8 +114,8 @@ pub fn renew(alloc: Global, app: &Text, id: Text) -> Result<Op, Fault>
 ///
 /// `OutOfMemory` alone: the registry refuses a text that is no status.
 #[inline]
-pub fn set_status(alloc: Global, app: &Text, id: Text, status: Text) -> Result<Op, Fault>
-    ensures { Gives op_view result (Ok (asking.set_status (key_named app.now id) status)) }
+pub fn set_status(alloc: Global, app: Text, id: Text, status: Text) -> Result<Op, Fault>
+    ensures { Gives op_view result (Ok (asking.set_status (key_named app id) status)) }
 {
     Ok(Op::SetStatus(key_named(alloc, app, id)?, status))
 }
@@ -125,8 +125,8 @@ pub fn set_status(alloc: Global, app: &Text, id: Text, status: Text) -> Result<O
 /// # Errors
 ///
 /// `OutOfMemory` alone.
-pub fn drop_status(alloc: Global, app: &Text, id: Text, status: Option<Text>) -> Result<Op, Fault>
-    ensures { Gives op_view result (Ok (asking.drop_status (key_named app.now id) status)) }
+pub fn drop_status(alloc: Global, app: Text, id: Text, status: Option<Text>) -> Result<Op, Fault>
+    ensures { Gives op_view result (Ok (asking.drop_status (key_named app id) status)) }
 {
     Ok(Op::DropStatus(key_named(alloc, app, id)?, status))
 }
@@ -136,8 +136,8 @@ pub fn drop_status(alloc: Global, app: &Text, id: Text, status: Option<Text>) ->
 /// # Errors
 ///
 /// `OutOfMemory` alone.
-pub fn add_metadata(alloc: Global, app: &Text, id: Text, entries: Entries) -> Result<Op, Fault>
-    ensures { Gives op_view result (Ok (asking.add_metadata (key_named app.now id) entries)) }
+pub fn add_metadata(alloc: Global, app: Text, id: Text, entries: Entries) -> Result<Op, Fault>
+    ensures { Gives op_view result (Ok (asking.add_metadata (key_named app id) entries)) }
 {
     Ok(Op::Metadata(key_named(alloc, app, id)?, entries))
 }

@@ -1,16 +1,11 @@
 -- The events of an input.
-use Rattle.std.proofs.Common.{◌≡◌, ◌≢◌, inl, inr, ℕ, List, [], ◌∷◌, length, map, Option, Some, Result, Ok, Err, OnOk, refl, ap, ◌∙◌, arith}
+use Rattle.std.proofs.Common.{◌≡◌, ℕ, List, [], ◌∷◌, length, map, Option, Some, refl, ap, ◌∙◌, arith}
 use Rattle.std.specs.List.{position_or_len}
 use Rattle.std.specs.Option.{is_none}
 use Rattle.disco_values.specs.declared.fault.Fault.{Fault}
-use Rattle.disco_values.specs.declared.fault.Fault.TheVariants.{OutOfMemory}
-use Rattle.disco_core.specs.State.{rules}
-use Rattle.disco_settings.specs.declared.settings.Settings.{Settings}
-use Rattle.disco_world.specs.Answers.{IsFirstBadEvent}
 use Rattle.disco_world.specs.declared.event.Event.{Event}
 use Rattle.disco_lines.specs.Input.{AreRead}
 use Rattle.disco_lines.specs.Lines.{IsFirstBadLine, meanings}
-use Rattle.disco_replay.specs.Replay.{IsRunFault}
 
 -- where all lines mean events, none is bad
 no_bad : (events : List Event) → position_or_len is_none (map Some events) ≡ length (map Some events)
@@ -24,12 +19,3 @@ pub none_bad : (known : Option (List ℕ)) (events : List Event) → AreRead kno
 none_bad known events read input bad e line =
     let same : read.0 ≡ input = rw e at read.1 in
     not_bad events input bad (read.2 ∙ ap meanings same) line
-
--- a run of events is refused for want of memory, or for an event that can't be run
-pub run_fault : (settings : Settings) (known : Option (List ℕ)) (reads writes : Type 0) (events : List Event) → AreRead known events → (e : Fault) → (e ≢ OutOfMemory → IsFirstBadEvent (rules settings) settings.run events e) → IsRunFault settings known reads writes e
-run_fault settings known reads writes events read OutOfMemory refused = inl refl
-run_fault settings known reads writes events read other refused = inr (inr (inr (inr (events, read, refused (λ bad. cc)))))
-
-pub then_ok : {A E : Type 0} (r : Result A E) (P Q : Type 0) → (P → Q) → OnOk r P → OnOk r Q
-then_ok (Ok a) P Q f p = f p
-then_ok (Err e) P Q f p = p

@@ -36,11 +36,13 @@ fn answer<R: Source, W: Sink>(
     ensures unwritten { IfErr result (λ e. e ≢ OutOfMemory → e ≢ WriteFailed → out.new ≡ out.old) }
 {
     let events = read_events(alloc, reader)?;
-    if let Some(steps) = Steps::of(events.as_slice()) {
-        return answer_events(alloc, settings, steps, out);
+    match Steps::of(events) {
+        Ok(steps) => answer_events(alloc, settings, steps, out),
+        Err(events) => {
+            let replies = run(alloc, settings, events.as_slice())?;
+            write_answers(alloc, replies.as_slice(), out)
+        }
     }
-    let replies = run(alloc, settings, events.as_slice())?;
-    write_answers(alloc, replies.as_slice(), out)
 }
 
 /// Runs the program on the words behind its name, and gives its exit status.

@@ -1,5 +1,5 @@
 -- Runs whose replies are told as they come.
-use Rattle.std.proofs.Common.{◌≡◌, ℕ, ◌+◌, List, [], ◌∷◌, ◌++◌, length, Option, Some, slice_get, sym, ap, subst, ◌∙◌, append-nil, arith}
+use Rattle.std.proofs.Common.{◌≡◌, ℕ, ◌+◌, List, [], ◌∷◌, ◌++◌, length, Option, Some, true, slice_get, refl, sym, ap, subst, ◌∙◌, append-nil, arith}
 use Rattle.std.proofs.KnownBytes.{Appends-trans}
 use Rattle.std.proofs.lemmas.Grind.{flat_map-append}
 use Rattle.std.specs.Io.KnownBytes.{Appends}
@@ -9,8 +9,10 @@ use Rattle.disco_hub.specs.State.{rules_of}
 use Rattle.disco_world.specs.Events.{World}
 use Rattle.disco_world.specs.Levels.{AreLevelsOf, AnswersEvent}
 use Rattle.disco_world.specs.Steps.{AreHeld, Holders, cache_of}
-use Rattle.disco_world.specs.Telling.{AreTold}
+use Rattle.disco_world.specs.Telling.{AreTold, is_take}
 use Rattle.disco_world.specs.declared.event.Event.{Event}
+use Rattle.disco_world.specs.declared.event.Event.TheVariants as event
+use Rattle.disco_world.specs.declared.event.Step.{Step}
 use Rattle.disco_world.specs.declared.event.Reply.{Reply}
 use Rattle.disco_world.specs.declared.levels.CacheLevels.{CacheLevels}
 use Rattle.disco_world.proofs.AllAlong.{exact, known, rising}
@@ -49,3 +51,9 @@ module _ (most : ℕ) (rules : Rules) (first_run : ℕ) (es : List Event) (text 
         cached = all_cached most rules first_run es rs i (cache_of s.hub) run.count run.course;
         told = is.told;
       }
+
+-- an event that is no take is a step
+pub no_step : (e : Event) → (is_take e ≡ true → ⊥) → ((s : Step) → e ≡ event.Step s → ⊥) → ⊥
+no_step (event.Step s) none not = not s refl
+no_step (event.Take client of) none not = none refl
+no_step (event.Certify client of) none not = none refl

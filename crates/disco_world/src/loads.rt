@@ -22,7 +22,10 @@ pub(crate) fn query_asked(alloc: Global, query: &Query) -> Result<Query, Fault>
 {
     match query {
         Query::App(name) => Ok(Query::App(upper(alloc, name.as_str())?)),
-        Query::Instance(key) => Ok(Query::Instance(key_named(alloc, &key.app, key.id.clone()?)?)),
+        Query::Instance(key) => {
+            let key = key_named(alloc, key.app.clone()?, key.id.clone()?)?;
+            Ok(Query::Instance(key))
+        }
         other => Ok(other.clone()?),
     }
 }

@@ -5,7 +5,7 @@ ghost use Rattle.std.specs.FinMap.{empty};
 ghost use Rattle.disco_instance.specs.Instance.{Gives};
 ghost use Rattle.disco_values.specs.declared.fault.Fault.{Fault};
 ghost use Rattle.disco_values.specs.declared.fault.Fault.TheVariants.{OutOfMemory};
-ghost use Rattle.disco_operations.specs.Operations.{key_named};
+ghost use Rattle.disco_values.specs.declared.key.Key.{Key as SpecKey};
 ghost use Rattle.disco_registry.specs.Op as asking;
 ghost use Rattle.disco_registry.specs.Op.{OpView, op_view};
 ghost use Rattle.disco_core.specs.Past.{nothing};
@@ -18,7 +18,9 @@ ghost use Rattle.disco_world.specs.Levels.{AreLevelsOf, AnswersEvent};
 ghost use Rattle.disco_world.specs.Steps.{AreHeld, AreReadable, Performs, cache_of, holders, reply_to, reply_to_give, reply_to_show, reply_to_take};
 ghost use Rattle.disco_world.specs.declared.event.Event.TheVariants as event;
 
-use crate::asks::{add_metadata, cancel, copied_key, drop_status, set_status};
+use crate::asks::{
+    add_metadata, cancel, copied_key, drop_status, key_given_up, set_status, status_given_up,
+};
 use crate::certified::{Given, give};
 use crate::clients::{Clients, Told, show, show_certified, take};
 use crate::event::{Event, Reply, Step};
@@ -33,7 +35,7 @@ use disco_operations::register;
 use disco_query::Query;
 use disco_registry::{Applied, Op};
 use disco_settings::Settings;
-use disco_values::{Fault, Text};
+use disco_values::{Fault, Key};
 use std::alloc::Global;
 
 /// Runs the events in order from an empty registry, in the run that the settings name, and answers
@@ -145,7 +147,7 @@ pub(crate) fn answer_step(
             register(alloc, app, json.as_slice()),
         ),
         Step::Cancel { now, app, id } => write(&mut levels.hub, *now, cancel(alloc, app, id)),
-        Step::Renew { now, app, id } => renew(alloc, &mut levels.hub, *now, app, id),
+        Step::Renew { now, app, id } => renew(&mut levels.hub, *now, copied_key(alloc, app, id)),
         Step::SetStatus {
             now,
             app,
@@ -179,6 +181,39 @@ pub(crate) fn answer_step(
             showed(show_certified(alloc, &clients.certified, *client))
         }
         Step::Restart { run } => restart(alloc, settings, levels, *run),
+    }
+}
+
+/// Answers one event as [`answer_step`] does, and uses it up: the names of an instance that is renewed,
+/// or whose status changes, are moved into the operation, and not copied.
+pub(crate) fn answer_once(
+    alloc: Global,
+    settings: &Settings,
+    levels: &mut CacheLevels,
+    clients: &Clients,
+    step: &mut Step,
+) -> Reply
+    requires ruled { rules_of levels.old.hub ≡ rules settings.now }
+    requires room { levels.old.hub.docs.max ≡ settings.now.entries }
+    ensures does { (w : World) → AreHeld (holders clients.now) w → AreLevelsOf levels.old w
+        → AnswersEvent (rules_of levels.old.hub) w (event.Step step.old) result levels.old.hub levels.new (holders clients.now) }
+    ensures rules { rules_of levels.new.hub ≡ rules_of levels.old.hub }
+{
+    match step {
+        Step::Renew { now, app, id } => {
+            renew(&mut levels.hub, *now, key_given_up(alloc, app, id))
+        }
+        Step::SetStatus {
+            now,
+            app,
+            id,
+            status,
+        } => write(
+            &mut levels.hub,
+            *now,
+            status_given_up(alloc, app, id, status),
+        ),
+        _ => answer_step(alloc, settings, levels, clients, step),
     }
 }
 
@@ -274,14 +309,14 @@ fn write(hub: &mut Hub, now: u64, op: Result<Op, Fault>) -> Reply
     }
 }
 
-/// Renews a lease. Renewals come most often, and an operation has the size of a record: this one is
-/// made where it is performed, and isn't moved there.
-fn renew(alloc: Global, hub: &mut Hub, now: u64, app: &Text, id: &Text) -> Reply
-    ensures does { Performs hub.old hub.new (λ _. writes now (Ok (asking.renew (key_named app.now id.now)))) result }
+/// Renews the lease of a key. Renewals come most often, and an operation has the size of a record:
+/// this one is made where it is performed, and isn't moved there.
+fn renew(hub: &mut Hub, now: u64, key: Result<Key, Fault>) -> Reply
+    ensures does { (named : SpecKey) → Gives (λ k. k) key (Ok named) → Performs hub.old hub.new (λ _. writes now (Ok (asking.renew named))) result }
     ensures rules { rules_of hub.new ≡ rules_of hub.old }
     ensures rounds { hub.new.rounds ≡ hub.old.rounds }
 {
-    match copied_key(alloc, app, id) {
+    match key {
         Ok(key) => perform(hub, now, Op::Renew(key)),
         Err(fault) => Reply::Refused(fault),
     }

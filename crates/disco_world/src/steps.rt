@@ -1,26 +1,30 @@
 //! Events that look at no earlier reply.
-ghost use Rattle.std.specs.Prelude.{◌≡◌, MatchOption, false, true};
+ghost use Rattle.std.specs.Prelude.{◌≡◌, MatchResult, false, true};
 ghost use Rattle.std.specs.List.{list_any};
 ghost use Rattle.disco_world.specs.Telling.{is_take};
 
 use crate::event::Event;
 
 /// Events of which none is a take.
-#[derive(Clone, Copy, Debug)]
-pub struct Steps<'a> {
-    pub events: &'a [Event],
-    ghost alone: { list_any is_take events.now ≡ false },
+#[derive(Debug, Drop)]
+pub struct Steps {
+    pub events: Vec<Event>,
+    ghost alone: { list_any is_take events.items ≡ false },
 }
 
-impl<'a> Steps<'a> {
-    /// The events as they are, `None` where one of them is a take.
-    pub fn of(events: &'a [Event]) -> Option<Steps<'a>>
-        ensures { MatchOption result (list_any is_take events.now ≡ true) (λ s. s.events.now ≡ events.now) }
+impl Steps {
+    /// The events, where none of them is a take.
+    ///
+    /// # Errors
+    ///
+    /// The events as they are, where one of them is a take.
+    pub fn of(events: Vec<Event>) -> Result<Steps, Vec<Event>>
+        ensures { MatchResult result (λ s. s.events.items ≡ events.items) (λ back. (list_any is_take events.items ≡ true) × (back.items ≡ events.items)) }
     {
-        if has_takes(events) {
-            return None;
+        if has_takes(events.as_slice()) {
+            return Err(events);
         }
-        Some(Steps { events })
+        Ok(Steps { events })
     }
 }
 

@@ -15,7 +15,7 @@ ghost use Rattle.disco_world.specs.declared.event.Reply.{Reply};
 use crate::clients::Clients;
 use crate::event::{Event, Reply};
 use crate::levels::CacheLevels;
-use crate::runs::answer_step;
+use crate::runs::answer_once;
 use crate::steps::Steps;
 use disco_settings::Settings;
 use disco_values::Fault;
@@ -52,7 +52,7 @@ pub fn run_to<W, T: Tell<W>>(
     teller: &mut T,
     out: &mut W,
 ) -> Result<(), Fault>
-    ensures told { OnOk result (AreTold settings.now.entries (rules settings.now) settings.now.run steps.entry.events.now T.text (T.told teller.old out.old)
+    ensures told { OnOk result (AreTold settings.now.entries (rules settings.now) settings.now.run steps.events.items T.text (T.told teller.old out.old)
         (T.told teller.new out.new)) }
     ensures fault { IfErr result (λ e. (e ≡ WriteFailed) ⊎ (e ≡ OutOfMemory)) }
 {
@@ -77,15 +77,16 @@ fn tell_all<W, T: Tell<W>>(
     requires published { levels.old.published ≡ empty }
     requires plain { tree.IsEmpty clients.now.plain }
     requires certified { tree.IsEmpty clients.now.certified }
-    ensures told { OnOk result (AreTold settings.now.entries (rules settings.now) settings.now.run steps.entry.events.now T.text (T.told teller.old out.old)
+    ensures told { OnOk result (AreTold settings.now.entries (rules settings.now) settings.now.run steps.events.items T.text (T.told teller.old out.old)
         (T.told teller.new out.new)) }
     ensures fault { IfErr result (λ e. (e ≡ WriteFailed) ⊎ (e ≡ OutOfMemory)) }
 {
-    for event in steps.events {
+    let mut events = steps.events;
+    for event in events.iter_mut() {
         let Event::Step(step) = event else {
             unreachable!()
         };
-        let reply = answer_step(alloc, settings, levels, clients, step);
+        let reply = answer_once(alloc, settings, levels, clients, step);
         teller.tell(&reply, out)?;
     }
     Ok(())

@@ -7,4 +7,4 @@ use Rattle.disco_operations.proofs.operations.upper_name.Goals as goal
 pub returns-then-is_upper-clause-text : goal.returns-then-is_upper-clause-text
 returns-then-is_upper-clause-text c =
     let as_it_is = sym (c.as_bytes.ensures.value ∙ c.as_str.ensures) in
-    c.in_ok-clone.ensures.cases ∙ is_upper_already c.args.name.now (ap (list_all (λ (b : ℕ). not (is_ascii_lowercase b))) as_it_is ∙ sym c.is_upper.ensures ∙ c.if-is_upper.true)
+    is_upper_already c.args.name (ap (list_all (λ (b : ℕ). not (is_ascii_lowercase b))) as_it_is ∙ sym c.is_upper.ensures ∙ c.if-is_upper.true)

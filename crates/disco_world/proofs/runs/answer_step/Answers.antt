@@ -24,7 +24,7 @@ returns-in-Cancel-clause-does c = λ w held levels.
 
 pub returns-in-Renew-clause-does : goal.returns-in-Renew-clause-does
 returns-in-Renew-clause-does c = λ w held levels.
-    rw c.in-Renew.is (with_hub c.args.levels.now (record c.args.levels.now { hub = c.renew.new.hub }) (holders c.args.clients.now) w (writes c.in-Renew.now (Ok (asking.renew (key_named c.in-Renew.app c.in-Renew.id)))) c.renew.result refl refl held refl refl levels c.renew.ensures.rounds refl refl (c.renew.ensures.does w levels.levels.stands))
+    rw c.in-Renew.is (with_hub c.args.levels.now (record c.args.levels.now { hub = c.renew.new.hub }) (holders c.args.clients.now) w (writes c.in-Renew.now (Ok (asking.renew (key_named c.in-Renew.app c.in-Renew.id)))) c.renew.result refl refl held refl refl levels c.renew.ensures.rounds refl refl (c.renew.ensures.does (key_named c.in-Renew.app c.in-Renew.id) c.copied_key.ensures w levels.levels.stands))
 
 pub returns-in-SetStatus-clause-does : goal.returns-in-SetStatus-clause-does
 returns-in-SetStatus-clause-does c = λ w held levels.
