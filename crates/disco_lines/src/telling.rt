@@ -11,7 +11,7 @@ use crate::answers::{ROOM, gather_answer, write_buffered};
 use disco_settings::Settings;
 use disco_streams::Sink;
 use disco_values::Fault;
-use disco_world::{Reply, Steps, Tell, run_to};
+use disco_world::{Finished, Reply, Steps, Tell, run_to};
 use std::alloc::Global;
 
 /// Answer lines that are gathered, and written where there are enough.
@@ -47,17 +47,18 @@ fn run_and_write<W: Sink>(
     settings: &Settings,
     steps: Steps,
     out: &mut W,
-) -> Result<(), Fault>
+) -> Result<Finished, Fault>
     ensures { OnOk result (AreTold settings.now.entries (rules settings.now) settings.now.run steps.events.items answer_line (W.contents out.old)
         (W.contents out.new)) }
 {
     let mut buffered = LineBuffer(Vec::with_capacity(alloc, ROOM)?);
-    run_to(alloc, settings, steps, &mut buffered, out)?;
-    write_buffered(&mut buffered.0, out)
+    let finished = run_to(alloc, settings, steps, &mut buffered, out)?;
+    write_buffered(&mut buffered.0, out)?;
+    Ok(finished)
 }
 
 /// Runs the events in order from an empty registry, and writes one line for each reply as it comes.
-/// No reply is held, so none of them is a take.
+/// No reply is held, so none of them is a take. What the run held is given back.
 ///
 /// # Errors
 ///
@@ -67,7 +68,7 @@ pub fn answer_events<W: Sink>(
     settings: &Settings,
     steps: Steps,
     out: &mut W,
-) -> Result<(), Fault>
+) -> Result<Finished, Fault>
     ensures told { OnOk result (AreTold settings.now.entries (rules settings.now) settings.now.run steps.events.items answer_line (W.contents out.old)
         (W.contents out.new)) }
     ensures fault { IfErr result (λ e. (e ≡ WriteFailed) ⊎ (e ≡ OutOfMemory)) }
@@ -76,7 +77,7 @@ pub fn answer_events<W: Sink>(
 {
     let before = out.failures();
     match run_and_write(alloc, settings, steps, out) {
-        Ok(()) => Ok(()),
+        Ok(finished) => Ok(finished),
         Err(_) => Err(refusal(before, out.failures())),
     }
 }

@@ -1,13 +1,16 @@
 //! The command `replay`.
-ghost use Rattle.std.specs.Prelude.{◌≡◌, ◌≢◌, ℕ, List, [], IfErr, OnOk, Some, map, string_bytes};
+ghost use Rattle.std.specs.Prelude.{◌≡◌, ◌≢◌, ◌⊎◌, ℕ, List, [], IfErr, OnOk, Some, map, string_bytes};
 ghost use Rattle.std.specs.Io.KnownBytes.{IsAtEnd};
 ghost use Rattle.disco_values.specs.declared.fault.Fault.{Fault};
 ghost use Rattle.disco_values.specs.declared.fault.Fault.TheVariants.{OutOfMemory, WriteFailed};
 ghost use Rattle.disco_options.specs.Ending.{EndsBy};
 ghost use Rattle.disco_options.specs.Faults.{Says};
+ghost use Rattle.disco_core.specs.State.{rules};
+ghost use Rattle.disco_lines.specs.Answers.{answer_line};
 ghost use Rattle.disco_lines.specs.Lines.{IsFirstBadLine};
 ghost use Rattle.disco_options.specs.Options.{faults_of};
-ghost use Rattle.disco_reader.specs.Causes.{Raises};
+ghost use Rattle.disco_reader.specs.Causes.{Cause, Raises};
+ghost use Rattle.disco_world.specs.Telling.{AreTold};
 ghost use Rattle.disco_replay.specs.Replay.{IsInputAnswered, IsFailed, IsReplayed, IsRunFault};
 
 use disco_lines::{answer_events, read_events, write_answers};
@@ -17,6 +20,29 @@ use disco_streams::{Sink, Source};
 use disco_values::Fault;
 use disco_world::{Steps, run};
 use std::alloc::Global;
+use std::mem;
+
+/// Answers events of which none is a take. The program ends behind them, and the host takes back all
+/// memory at once: to free piece by piece what the run held takes a third of its time.
+fn answer_steps<W: Sink>(
+    alloc: Global,
+    settings: &Settings,
+    steps: Steps,
+    out: &mut W,
+) -> Result<(), Fault>
+    ensures told { OnOk result (AreTold settings.now.entries (rules settings.now) settings.now.run steps.events.items answer_line (W.contents out.old)
+        (W.contents out.new)) }
+    ensures fault { IfErr result (λ e. (e ≡ WriteFailed) ⊎ (e ≡ OutOfMemory)) }
+    ensures cause { Cause WriteFailed (W.failed out.old) (W.failed out.new) result }
+{
+    match answer_events(alloc, settings, steps, out) {
+        Ok(finished) => {
+            mem::forget(finished);
+            Ok(())
+        }
+        Err(fault) => Err(fault),
+    }
+}
 
 /// Answers all events of an input. A take of no earlier document is refused before anything is
 /// written, so the replies are held where an event is a take.
@@ -37,7 +63,7 @@ fn answer<R: Source, W: Sink>(
 {
     let events = read_events(alloc, reader)?;
     match Steps::of(events) {
-        Ok(steps) => answer_events(alloc, settings, steps, out),
+        Ok(steps) => answer_steps(alloc, settings, steps, out),
         Err(events) => {
             let replies = run(alloc, settings, events.as_slice())?;
             write_answers(alloc, replies.as_slice(), out)

@@ -23,4 +23,4 @@ pub use event::{Event, Reply, Step};
 pub use instance_summary::{InstanceSummaries, InstanceSummary};
 pub use runs::run;
 pub use steps::Steps;
-pub use telling::{Tell, run_to};
+pub use telling::{Finished, Tell, run_to};

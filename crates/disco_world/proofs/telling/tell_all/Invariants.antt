@@ -8,5 +8,5 @@ use Rattle.disco_world.proofs.telling.tell_all.Given as goal
 -- the events from here on are as they were
 abbrev pub invariant-loop-event : goal.invariant-loop-event
 invariant-loop-event g l =
-    IsTelling l.settings.entries (rules l.settings) l.settings.run l.fn.steps.events.items g.T.Tell.text l.event-index l.levels (holders l.clients) (g.T.Tell.told l.fn.teller l.fn.out) (g.T.Tell.told l.teller l.out)
-    × SameFrom l.fn.steps.events.items l.event-items l.event-index × (length l.event-items ≡ length l.fn.steps.events.items)
+    IsTelling l.settings.entries (rules l.settings) l.settings.run l.fn.events g.T.Tell.text l.event-index l.levels (holders l.clients) (g.T.Tell.told l.fn.teller l.fn.out) (g.T.Tell.told l.teller l.out)
+    × SameFrom l.fn.events l.events l.event-index × (length l.events ≡ length l.fn.events)
