@@ -9,7 +9,9 @@ import sys
 
 from runs import APPS, app_of, registration, write_lines
 
-# Of small events so many are counted.
+# Of small events so many are counted, or as many as there are instances, where these are more. All that
+# is held is freed at the end of a run, and what that costs swings by some instructions an instance: of
+# few events beside many instances that would be told, and not the events.
 MANY = 2000
 
 # Of loads that join a large document anew so many.
@@ -67,12 +69,13 @@ def registration_again(j, size):
     return [registration(scattered(j, size))]
 
 
-# Of each kind of event: its name, its lines, how many of it are counted, and what its lines have before it.
+# Of each kind of event: its name, its lines, how many of it are counted where it isn't small, and what its
+# lines have before it.
 KINDS = (
-    ("registration again", registration_again, MANY, None),
-    ("renewal", renewal, MANY, None),
-    ("status change", status_change, MANY, None),
-    ("one instance", one_instance, MANY, None),
+    ("registration again", registration_again, None, None),
+    ("renewal", renewal, None, None),
+    ("status change", status_change, None, None),
+    ("one instance", one_instance, None, None),
     ("an app after a change", app_anew, FEW, status_change),
     ("all apps after a change", apps_anew, FEW, status_change),
 )
@@ -82,9 +85,11 @@ def each_of(program, path, size):
     """The instructions of one event of each kind over so many instances."""
     start = [registration(i) for i in range(size)]
     alone = counted(program, path, start)
-    more = start + [registration(i) for i in range(size, size + MANY)]
-    each = {"first registration": (counted(program, path, more) - alone) / MANY}
+    many = max(MANY, size)
+    more = start + [registration(i) for i in range(size, size + many)]
+    each = {"first registration": (counted(program, path, more) - alone) / many}
     for name, lines_of, count, before in KINDS:
+        count = many if count is None else count
         lines = [line for j in range(count) for line in lines_of(j, size)]
         less = alone
         if before is not None:
