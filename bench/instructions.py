@@ -14,6 +14,9 @@ from runs import APPS, app_of, registration, write_lines
 # few events beside many instances that would be told, and not the events.
 MANY = 2000
 
+# So many instances `replay` takes.
+MOST = 65536
+
 # Of loads that join a large document anew so many.
 FEW = 20
 
@@ -86,8 +89,9 @@ def each_of(program, path, size):
     start = [registration(i) for i in range(size)]
     alone = counted(program, path, start)
     many = max(MANY, size)
-    more = start + [registration(i) for i in range(size, size + many)]
-    each = {"first registration": (counted(program, path, more) - alone) / many}
+    new = min(many, MOST - size)
+    more = start + [registration(i) for i in range(size, size + new)]
+    each = {"first registration": (counted(program, path, more) - alone) / new}
     for name, lines_of, count, before in KINDS:
         count = many if count is None else count
         lines = [line for j in range(count) for line in lines_of(j, size)]
