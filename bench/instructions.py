@@ -9,9 +9,9 @@ import sys
 
 from runs import APPS, app_of, registration, write_lines
 
-# Of small events so many are counted, or as many as there are instances, where these are more. All that
-# is held is freed at the end of a run, and what that costs swings by some instructions an instance: of
-# few events beside many instances that would be told, and not the events.
+# Of small events so many are counted, or as many as there are instances, where these are more. What memory
+# costs swings by some instructions an instance from run to run, most where a program frees at its end all
+# that it holds: of few events beside many instances that would be told, and not the events.
 MANY = 2000
 
 # So many instances `replay` takes.
