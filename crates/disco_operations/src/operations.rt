@@ -1,7 +1,5 @@
 //! Operations by what names them.
-ghost use Rattle.std.specs.Prelude.{◌≡◌, IfOk, IfErr, Ok, OnOk, false, not, true};
-ghost use Rattle.std.specs.Char.{is_ascii_lowercase};
-ghost use Rattle.std.specs.List.{list_all};
+ghost use Rattle.std.specs.Prelude.{◌≡◌, IfOk, IfErr, Ok, OnOk, false, true};
 ghost use Rattle.std.specs.Str.{bytes_eq};
 ghost use Rattle.disco_instance.specs.Instance.{Gives};
 ghost use Rattle.disco_values.specs.Text.{in_upper_case};
@@ -12,7 +10,7 @@ ghost use Rattle.disco_wire.specs.Registration.{registration_of};
 ghost use Rattle.disco_operations.specs.Operations.{key_named, registers};
 
 use disco_registry::Op;
-use disco_values::{Entries, Fault, Key, Text, upper};
+use disco_values::{Entries, Fault, Key, Text};
 use disco_wire::read_registration;
 use std::alloc::Global;
 
@@ -26,27 +24,10 @@ pub fn key_named(alloc: Global, app: Text, id: Text) -> Result<Key, Fault>
     ensures key { IfOk result (λ k. k ≡ key_named app id) }
     ensures memory { IfErr result (λ e. e ≡ OutOfMemory) }
 {
-    let app = upper_name(alloc, app)?;
-    Ok(Key { app, id })
-}
-
-/// Whether a name has no ASCII letter in lower case.
-#[inline(always)]
-fn is_upper(name: &[u8]) -> bool
-    ensures { result ≡ list_all (λ b. not (is_ascii_lowercase b)) name.now }
-{
-    name.iter().all(|byte| !byte.is_ascii_lowercase())
-}
-
-/// A name in upper case. Most names are, and those stay as they are.
-fn upper_name(alloc: Global, name: Text) -> Result<Text, Fault>
-    ensures text { IfOk result (λ t. t ≡ in_upper_case name) }
-    ensures memory { IfErr result (λ e. e ≡ OutOfMemory) }
-{
-    if is_upper(name.as_str().as_bytes()) {
-        return Ok(name);
-    }
-    upper(alloc, name.as_str())
+    Ok(Key {
+        app: app.into_upper(alloc)?,
+        id,
+    })
 }
 
 /// Whether a name in upper case is an app's own. The own name counts exactly.

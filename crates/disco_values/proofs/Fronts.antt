@@ -8,16 +8,9 @@ use Rattle.std.specs.Ordering.{nat_cmp, ordering_reverse, ordering_then}
 use Rattle.std.specs.Cmp.{nat_cmp_is}
 use Rattle.std.specs.Cmp.Lexicographic.{slice_cmp, nat_list_cmp_total}
 use Rattle.std.proofs.lemmas.Bool.{cases_order}
-use Rattle.disco_values.specs.Front.{front_of}
+use Rattle.disco_values.specs.Front.{AreBytes, front_of}
 
-abbrev AreBytes : List ℕ → Type 0
-AreBytes s = (i : ℕ) → get_or s i 0 < 256
-
--- the same in the words of what a text holds
-abbrev FitBytes : List ℕ → Type 0
-FitBytes s = (i : ℕ) → Fits w8 (get_or s i 0)
-
-are_bytes : (s : List ℕ) → FitBytes s → AreBytes s
+pub are_bytes : (s : List ℕ) → ((i : ℕ) → Fits w8 (get_or s i 0)) → AreBytes s
 are_bytes s fit = λ i. Fits-lt-pow (fit i)
 
 -- a number with so many bytes more, 0 for each that isn't there
@@ -101,23 +94,19 @@ tied (suc n) p (x ∷ s) (y ∷ t) bs bt h few = by (tied n (p * 256 + x) s t (�
     by behind (inr (inr lt)) = absurd (omega (arith, h, rising n (p * 256 + y) (p * 256 + x) t s (λ i. bt (suc i)) (λ i. bs (suc i)) (omega (arith, lt))))
 
 -- where fronts differ, they are in the order of the texts
-pub by_fronts : (s t : List ℕ) (r : Ordering) → FitBytes s → FitBytes t → r ≡ nat_cmp (front_of s) (front_of t) → (r ≡ Equal → ⊥) → r ≡ order s t
+pub by_fronts : (s t : List ℕ) (r : Ordering) → AreBytes s → AreBytes t → r ≡ nat_cmp (front_of s) (front_of t) → (r ≡ Equal → ⊥) → r ≡ order s t
 by_fronts s t r fs ft is differ = by (cases_order (front_of s) (front_of t))
   where
     by : (front_of s ≡ front_of t) ⊎ ((front_of s < front_of t) ⊎ (front_of t < front_of s)) → r ≡ order s t
     by (inl e) = absurd (differ (is ∙ sym (nat_cmp_is (front_of s) (front_of t) Equal e)))
-    by (inr (inl lt)) = is ∙ sym (nat_cmp_is (front_of s) (front_of t) Less lt) ∙ sym (less 8 0 s t (are_bytes s fs) (are_bytes t ft) (omega (arith, lt, front_is s, front_is t)))
+    by (inr (inl lt)) = is ∙ sym (nat_cmp_is (front_of s) (front_of t) Less lt) ∙ sym (less 8 0 s t fs ft (omega (arith, lt, front_is s, front_is t)))
     by (inr (inr lt)) =
         is ∙ sym (nat_cmp_is (front_of s) (front_of t) Greater lt)
-        ∙ sym (nat_list_cmp_total.antisymm s t ∙ ap ordering_reverse (less 8 0 t s (are_bytes t ft) (are_bytes s fs) (omega (arith, lt, front_is s, front_is t))))
+        ∙ sym (nat_list_cmp_total.antisymm s t ∙ ap ordering_reverse (less 8 0 t s ft fs (omega (arith, lt, front_is s, front_is t))))
 
 -- where they are equal and one text has no byte behind its front, the shorter text comes first
-pub by_lengths : (s t : List ℕ) → FitBytes s → FitBytes t → front_of s ≡ front_of t → (length s ≤ 8) ⊎ ((8 < length s) × (length t ≤ 8)) → order s t ≡ nat_cmp (length s) (length t)
-by_lengths s t fs ft e few = tied 8 0 s t (are_bytes s fs) (are_bytes t ft) (sym (front_is s) ∙ e ∙ front_is t) (either few)
-  where
-    either : (length s ≤ 8) ⊎ ((8 < length s) × (length t ≤ 8)) → (length s ≤ 8) ⊎ (length t ≤ 8)
-    either (inl le) = inl le
-    either (inr le) = inr le.1
+pub by_lengths : (s t : List ℕ) → AreBytes s → AreBytes t → front_of s ≡ front_of t → (length s ≤ 8) ⊎ (length t ≤ 8) → order s t ≡ nat_cmp (length s) (length t)
+by_lengths s t fs ft e few = tied 8 0 s t fs ft (sym (front_is s) ∙ e ∙ front_is t) few
 
 -- a text with as many bytes as a front has them all
 pub whole_front : (s : List ℕ) → 8 ≤ length s → from_be_bytes w64 (take 8 s) ≡ front_of s
@@ -131,3 +120,8 @@ whole_front (a ∷ b ∷ c ∷ d ∷ e ∷ []) long = absurd (omega (arith, long
 whole_front (a ∷ b ∷ c ∷ d ∷ e ∷ f ∷ []) long = absurd (omega (arith, long))
 whole_front (a ∷ b ∷ c ∷ d ∷ e ∷ f ∷ g ∷ []) long = absurd (omega (arith, long))
 whole_front (a ∷ b ∷ c ∷ d ∷ e ∷ f ∷ g ∷ h ∷ s) long = refl
+
+-- zeros behind a text are no part of its front
+pub padded_front : (s t : List ℕ) → ((i : ℕ) → get_or t i 0 ≡ get_or s i 0) → front_of t ≡ front_of s
+unfolding front_of
+padded_front s t same = λ j. from_be_bytes w64 (same 0 j ∷ same 1 j ∷ same 2 j ∷ same 3 j ∷ same 4 j ∷ same 5 j ∷ same 6 j ∷ same 7 j ∷ [])

@@ -1,3 +1,4 @@
 mod Fronts
+mod InUpperCase
 mod Merged
 mod Puts

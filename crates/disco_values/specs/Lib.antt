@@ -3,6 +3,8 @@ pub mod Entries
 pub mod Fault
 pub mod Front
 pub mod Key
+pub mod Padded
 pub mod Places
 pub mod Status
+pub mod Storage
 pub mod Text

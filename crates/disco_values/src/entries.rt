@@ -14,6 +14,7 @@ use crate::text::Text;
 use std::alloc::{AllocError, Global};
 use std::cmp::Ordering;
 use std::marker::Model;
+use std::mem;
 
 /// Metadata of an instance: texts by name, each name once, in byte order, and none `@class`.
 #[derive(Debug, Drop)]
@@ -118,7 +119,7 @@ impl Entries {
         ensures { OnOk result (self.new ≡ put (slice_cmp nat_cmp) name text self.old) }
     {
         match place(&self.entries, &name) {
-            Ok(i) => self.entries[i] = (name, text),
+            Ok(i) => drop(mem::replace(&mut self.entries[i], (name, text))),
             Err(i) => self.entries.insert(i, (name, text))?,
         }
         Ok(())

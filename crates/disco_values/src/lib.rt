@@ -9,9 +9,11 @@ mod entries;
 mod fault;
 mod form;
 mod front;
+mod inline_text;
 mod key;
 mod merging;
 mod status;
+mod storage;
 mod text;
 
 pub use action::{Action, action_of};

@@ -1,10 +1,17 @@
 //! A text that contracts see as the list of its bytes.
-ghost use Rattle.std.specs.Prelude.{◌≡◌, ◌↔◌, [], IfOk, IfErr, IsTrue, string_bytes};
+ghost use Rattle.std.specs.Prelude.{◌≡◌, ◌↔◌, ◌≤◌, ◌<◌, [], IfOk, IfErr, IsTrue, length, not, string_bytes};
+ghost use Rattle.std.specs.Char.{is_ascii_lowercase};
+ghost use Rattle.std.specs.Cmp.Lexicographic.{slice_cmp};
+ghost use Rattle.std.specs.List.{list_all};
+ghost use Rattle.std.specs.Ordering.{nat_cmp};
+ghost use Rattle.disco_values.specs.Front.{front_of};
 ghost use Rattle.disco_values.specs.Text.{in_upper_case};
 ghost use Rattle.disco_values.specs.declared.fault.Fault.TheVariants.{OutOfMemory};
 
 use crate::fault::Fault;
-use crate::front::{front_of, order};
+use crate::front::{FRONT, front_of};
+use crate::inline_text::{InlineText, MOST_INLINE};
+use crate::storage::Storage;
 use std::alloc::{AllocError, Global};
 use std::cmp::Ordering;
 use std::marker::Model;
@@ -12,24 +19,85 @@ use std::marker::Model;
 /// A text. Contracts see it as the list of its bytes.
 #[derive(Debug, Drop)]
 pub struct Text {
-    text: String,
-    /// The first bytes as a number, by which most texts are told apart with no look at their bytes.
+    /// The first bytes as a number. By it and the length most texts are told apart with no look at
+    /// their bytes.
     front: u64,
+    len: usize,
+    storage: Storage,
 }
 
 impl Model for Text {
-    ghost use Rattle.std.specs.Prelude.{◌≡◌, List, ℕ, string_bytes};
-    ghost use Rattle.disco_values.specs.Front.{front_of};
+    ghost use Rattle.std.specs.Prelude.{◌≡◌, List, ℕ, length};
+    ghost use Rattle.disco_values.specs.Front.{AreBytes, front_of};
+    ghost use Rattle.disco_values.specs.Storage.{bytes_in};
 
     ghost Value = { List ℕ };
 
-    ghost view = { λ t. string_bytes t.text };
+    ghost view = { λ t. bytes_in t.storage };
 
-    ghost invariant = { λ t. t.front ≡ front_of (string_bytes t.text) };
+    ghost invariant = { λ t. (t.front ≡ front_of (bytes_in t.storage)) × (t.len ≡ length (bytes_in t.storage)) × AreBytes (bytes_in t.storage) };
+}
+
+/// A text that is short enough to need no memory of its own.
+fn inline(text: &str) -> Text
+    requires { length text.now ≤ 30 }
+    ensures { result ≡ text.now }
+{
+    let inline = InlineText::new(text);
+    Text {
+        front: inline.front(),
+        len: text.len(),
+        storage: Storage::Inline(inline),
+    }
+}
+
+/// A text in memory of its own.
+fn in_memory(text: String) -> Text
+    requires { 30 < length (string_bytes text) }
+    ensures { result ≡ string_bytes text }
+{
+    let bytes = text.as_bytes();
+    Text {
+        front: front_of(bytes),
+        len: bytes.len(),
+        storage: Storage::Heap(text),
+    }
+}
+
+/// The order of two texts by all their bytes.
+#[inline(never)]
+fn order_whole(one: &Text, other: &Text) -> Ordering
+    ensures { result ≡ slice_cmp nat_cmp one.now other.now }
+{
+    one.as_str().cmp(other.as_str())
+}
+
+/// The order of two texts with one front.
+#[inline(always)]
+fn order_behind(one: &Text, other: &Text) -> Ordering
+    requires { front_of one.now ≡ front_of other.now }
+    ensures { result ≡ slice_cmp nat_cmp one.now other.now }
+{
+    if one.len <= FRONT || other.len <= FRONT {
+        one.len.cmp(&other.len)
+    } else {
+        order_whole(one, other)
+    }
+}
+
+/// The order of two texts, in byte order.
+#[inline(always)]
+fn order(one: &Text, other: &Text) -> Ordering
+    ensures { result ≡ slice_cmp nat_cmp one.now other.now }
+{
+    match one.front.cmp(&other.front) {
+        Ordering::Equal => order_behind(one, other),
+        decided => decided,
+    }
 }
 
 impl Text {
-    /// The text once more, in memory of its own.
+    /// The text once more. A short one takes no memory.
     ///
     /// # Errors
     ///
@@ -37,43 +105,59 @@ impl Text {
     pub fn new(alloc: Global, text: &str) -> Result<Text, AllocError>
         ensures { IfOk result (λ t. t ≡ text.now) }
     {
-        if text.is_empty() {
-            return Ok(Text::empty(alloc));
+        if text.len() <= MOST_INLINE {
+            return Ok(inline(text));
         }
-        Ok(Text::from_string(String::from_str(alloc, text)?))
+        Ok(in_memory(String::from_str(alloc, text)?))
     }
 
-    /// The text of a `String`. Takes no memory.
+    /// The text of a `String`. Takes no memory, and gives that of a short one back.
     pub fn from_string(text: String) -> Text
         ensures { result ≡ string_bytes text }
     {
-        let front = front_of(text.as_str());
-        Text { text, front }
+        if text.len() <= MOST_INLINE {
+            return inline(text.as_str());
+        }
+        in_memory(text)
     }
 
     /// The empty text. Takes no memory.
-    #[tactic(auto, unfolding(crate::specs::Front::front_of))]
     pub fn empty(alloc: Global) -> Text
         ensures { result ≡ [] }
     {
-        Text {
-            text: String::new(alloc),
-            front: 0,
-        }
+        // No allocator is needed for a text that is in the value itself.
+        let _ = alloc;
+        inline("")
     }
 
     /// The text as a `&str`.
     pub fn as_str(&self) -> &str
         ensures { result.now ≡ self.now }
     {
-        self.text.as_str()
+        self.storage.as_str()
+    }
+
+    /// The same text with its ASCII letters in upper case, and all else as it is. One without any in
+    /// lower case is moved.
+    ///
+    /// # Errors
+    ///
+    /// `OutOfMemory` alone.
+    pub fn into_upper(self, alloc: Global) -> Result<Text, Fault>
+        ensures text { IfOk result (λ t. t ≡ in_upper_case self) }
+        ensures memory { IfErr result (λ e. e ≡ OutOfMemory) }
+    {
+        if is_upper(self.as_str().as_bytes()) {
+            return Ok(self);
+        }
+        upper(alloc, self.as_str())
     }
 
     /// Whether it has no byte.
     pub fn is_empty(&self) -> bool
         ensures { IsTrue result ↔ (self.now ≡ []) }
     {
-        self.as_str().is_empty()
+        self.len == 0
     }
 }
 
@@ -89,6 +173,14 @@ pub fn upper(alloc: Global, text: &str) -> Result<Text, Fault>
     Ok(upper_text(alloc, text)?)
 }
 
+/// Whether it has no ASCII letter in lower case.
+#[inline(always)]
+fn is_upper(text: &[u8]) -> bool
+    ensures { result ≡ list_all (λ b. not (is_ascii_lowercase b)) text.now }
+{
+    text.iter().all(|byte| !byte.is_ascii_lowercase())
+}
+
 /// The text with its ASCII letters in upper case, and all else as it is.
 ///
 /// # Errors
@@ -97,9 +189,12 @@ pub fn upper(alloc: Global, text: &str) -> Result<Text, Fault>
 pub fn upper_text(alloc: Global, text: &str) -> Result<Text, AllocError>
     ensures { IfOk result (λ t. t ≡ in_upper_case text.now) }
 {
-    let mut text = String::from_str(alloc, text)?;
-    text.make_ascii_uppercase();
-    Ok(Text::from_string(text))
+    if is_upper(text.as_bytes()) {
+        return Text::new(alloc, text);
+    }
+    let mut upper = String::from_str(alloc, text)?;
+    upper.make_ascii_uppercase();
+    Ok(Text::from_string(upper))
 }
 
 impl Clone for Text {
@@ -107,8 +202,9 @@ impl Clone for Text {
 
     fn clone(&self) -> Result<Text, AllocError> {
         Ok(Text {
-            text: self.text.clone()?,
             front: self.front,
+            len: self.len,
+            storage: self.storage.clone()?,
         })
     }
 }
@@ -162,6 +258,6 @@ impl Ord for Text {
 
     #[inline(always)]
     fn cmp(&self, other: &Text) -> Ordering {
-        order(self.as_str(), self.front, other.as_str(), other.front)
+        order(self, other)
     }
 }

@@ -1,0 +1,76 @@
+//! A text of few bytes, in the value itself.
+ghost use Rattle.std.specs.Prelude.{◌≡◌, ◌≤◌, ◌++◌, ◌-◌, length, replicate};
+ghost use Rattle.disco_values.specs.Front.{front_of};
+
+use crate::front::front_of;
+use std::marker::Model;
+use std::str;
+
+/// How many bytes it may have.
+pub(crate) const MOST_INLINE: usize = 30;
+
+/// A text of at most [`MOST_INLINE`] bytes. It takes no memory beside itself.
+#[derive(Debug, Drop)]
+pub(crate) struct InlineText {
+    /// The text, and behind it zeros.
+    bytes: [u8; MOST_INLINE],
+    len: u8,
+}
+
+impl Model for InlineText {
+    ghost use Rattle.std.specs.Prelude.{◌≤◌, ◌≡◌, List, ℕ, IsUtf8, length, take};
+    ghost use Rattle.disco_values.specs.Padded.{IsPadded};
+
+    ghost Value = { List ℕ };
+
+    ghost view = { λ t. take t.len t.bytes };
+
+    ghost invariant = { λ t. (t.len ≤ 30) × (length t.bytes ≡ 30) × ∥ IsUtf8 (take t.len t.bytes) ∥₁ × IsPadded t.len t.bytes };
+}
+
+/// The bytes, and zeros behind them.
+fn padded(text: &[u8]) -> [u8; MOST_INLINE]
+    requires { length text.now ≤ 30 }
+    ensures { result ≡ text.now ++ replicate (30 - length text.now) 0 }
+{
+    let mut bytes = [0; MOST_INLINE];
+    bytes[..text.len()].copy_from_slice(text);
+    bytes
+}
+
+impl InlineText {
+    /// A text that is short enough.
+    pub(crate) fn new(text: &str) -> InlineText
+        requires { length text.now ≤ 30 }
+        ensures { result ≡ text.now }
+    {
+        InlineText {
+            bytes: padded(text.as_bytes()),
+            len: text.len() as u8,
+        }
+    }
+
+    /// The text once more.
+    pub(crate) fn copy(&self) -> InlineText
+        ensures { result ≡ self.now }
+    {
+        InlineText {
+            bytes: self.bytes,
+            len: self.len,
+        }
+    }
+
+    pub(crate) fn as_str(&self) -> &str
+        ensures { result.now ≡ self.now }
+    {
+        // The bytes are UTF-8: that is proved, as what the call asks for.
+        unsafe { str::from_utf8_unchecked(&self.bytes[..self.len as usize]) }
+    }
+
+    /// Its front, with the zeros that stand behind it.
+    pub(crate) fn front(&self) -> u64
+        ensures { result ≡ front_of self.now }
+    {
+        front_of(&self.bytes)
+    }
+}
