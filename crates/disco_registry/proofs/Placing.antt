@@ -355,3 +355,11 @@ next_absent p (Some n) last k placed is = by (same_key (key_of_held n) k) refl i
 pub copied_there : (o : Option (Bor Held)) → is_some (option_copied o) ≡ is_some o
 copied_there None = refl
 copied_there (Some h) = refl
+
+some_mention : (o : Option Held) → is_some o ≡ is_some (option_map entry_of o)
+some_mention None = refl
+some_mention (Some h) = refl
+
+-- a record is found just where one is held
+pub held_there : (p : Placed) (k : Key) (o : Option (Bor Held)) → option_copied o ≡ option_flatten (get p k) → is_some o ≡ is_some (get (mentions_held p) k)
+held_there p k o is = sym (copied_there o) ∙ ap is_some is ∙ some_mention (option_flatten (get p k)) ∙ ap is_some (sym (at p k))

@@ -1,7 +1,7 @@
 //! The held records by key.
 ghost use Rattle.disco_values.specs.Key.{same_key};
 ghost use Rattle.disco_registry.specs.Records.{next_left, of_key, shows_id};
-ghost use Rattle.std.specs.Prelude.{◌≡◌, ◌++◌, ◌∷◌, [], IfOk, IfSome, None, OnOk, Some, filter, map, option_map};
+ghost use Rattle.std.specs.Prelude.{◌≡◌, ◌++◌, ◌∷◌, [], IfOk, IfSome, None, OnOk, Some, filter, is_some, map, option_map};
 ghost use Rattle.std.specs.FinMap as finmap;
 ghost use Rattle.std.specs.FinMap.{values};
 ghost use Rattle.std.specs.List.{filter_map, find};
@@ -136,11 +136,15 @@ impl Records {
     }
 
     /// Seeks the record of a key, so that calls about this key need no search of their own. No
-    /// answer shows it.
-    pub(crate) fn seek(&mut self, key: &Key)
-        ensures { self.new ≡ self.old }
+    /// answer shows it. Answers whether there is one.
+    pub(crate) fn seek(&mut self, key: &Key) -> bool
+        ensures same { self.new ≡ self.old }
+        ensures held { result ≡ is_some (finmap.get self.old.held key.now) }
     {
-        self.sought = shared(self.places.get(key));
+        let held = self.places.get(key);
+        let is_held = held.is_some();
+        self.sought = shared(held);
+        is_held
     }
 
     /// The record of a key, with what its last change did.

@@ -1,5 +1,5 @@
 //! The registry.
-ghost use Rattle.std.specs.Prelude.{◌≡◌, ◌<◌, ◌^◌, ◌&&◌, ℕ, not, nat_lt, List, [], map, Err, IfOk, IfErr, IfSome, IsTrue, None, Some, Ok, OnOk, false, is_none};
+ghost use Rattle.std.specs.Prelude.{◌≡◌, ◌<◌, ◌^◌, ◌&&◌, ℕ, not, nat_lt, List, [], map, Err, IfOk, IfErr, IfSome, IsTrue, None, Some, Ok, OnOk, false, is_none, is_some};
 ghost use Rattle.std.specs.Prelude.{filter, option_map, true};
 ghost use Rattle.std.specs.FinMap.{get, len, values};
 ghost use Rattle.std.specs.List.{filter_map, find};
@@ -256,9 +256,9 @@ impl Registry {
         ensures ready { IfOk result (λ r. accepts self.old (op_view op) now ≡ Ok r × IsReady self.new r) }
         ensures refused { IfErr result (MayRefuse self.old (op_view op) now) }
     {
-        self.seek(op.key());
+        let is_held = self.seek(op.key());
         match op {
-            Op::Register(posted) => self.ready_register(posted, now),
+            Op::Register(posted) => self.ready_register(posted, is_held, now),
             Op::Cancel(key) => self.ready_cancel(&key, now),
             Op::Renew(key) => self.ready_renew(&key, now),
             Op::SetStatus(key, text) => self.ready_set_status(&key, &text, now),
@@ -278,9 +278,9 @@ impl Registry {
         ensures ready { IfOk result (λ r. accepts self.old (op_view op.now) now ≡ Ok r × IsReady self.new r) }
         ensures refused { IfErr result (MayRefuse self.old (op_view op.now) now) }
     {
-        self.seek(op.key());
+        let is_held = self.seek(op.key());
         match op {
-            Op::Register(posted) => self.ready_register(posted.copy()?, now),
+            Op::Register(posted) => self.ready_register(posted.copy()?, is_held, now),
             Op::Cancel(key) => self.ready_cancel(key, now),
             Op::Renew(key) => self.ready_renew(key, now),
             Op::SetStatus(key, text) => self.ready_set_status(key, text, now),
@@ -290,12 +290,24 @@ impl Registry {
     }
 
     /// Takes out the place that was made for another operation, and seeks the record of a key once,
-    /// for all that is asked of the key until its change is made. No answer shows it.
-    fn seek(&mut self, key: &Key)
-        ensures { self.new ≡ record self.old { next = None } }
+    /// for all that is asked of the key until its change is made. No answer shows it. Answers whether
+    /// there is one.
+    fn seek(&mut self, key: &Key) -> bool
+        ensures same { self.new ≡ record self.old { next = None } }
+        ensures held { result ≡ is_some (get self.old.held key.now) }
     {
         self.records.forget();
-        self.records.seek(key);
+        self.records.seek(key)
+    }
+
+    /// The record under a key, where it is known whether there is one. One that isn't there isn't
+    /// sought again.
+    fn known(&self, key: &Key, is_held: bool) -> Option<&Record>
+        requires { is_held ≡ is_some (get self.now.held key.now) }
+        ensures found { seen_record result ≡ record_at self.now.held key.now }
+        ensures same_key { IfSome result (λ r. r.now.key ≡ key.now) }
+    {
+        if is_held { self.records.get(key) } else { None }
     }
 
     fn has_no_place(&self, held: Option<&Record>) -> bool
@@ -335,12 +347,13 @@ impl Registry {
         Ok(())
     }
 
-    fn ready_register(&mut self, posted: Record, now: u64) -> Result<Ready, Fault>
+    fn ready_register(&mut self, posted: Record, is_held: bool, now: u64) -> Result<Ready, Fault>
+        requires { is_held ≡ is_some (get self.old.held posted.key) }
         ensures same { IsSameRegistry self.old self.new }
         ensures ready { IfOk result (λ r. accepts self.old (register (row posted)) now ≡ Ok r × IsReady self.new r) }
         ensures refused { IfErr result (MayRefuse self.old (register (row posted)) now) }
     {
-        let held = self.records.get(&posted.key);
+        let held = self.known(&posted.key, is_held);
         self.admit(held, &posted, now)?;
         let is_new = held.is_none();
         let new = settled(held, posted, now)?;
