@@ -1,7 +1,8 @@
--- What one more member changes of what was found, by the index of its name.
-use Rattle.std.proofs.Common.{◌≡◌, ◌≢◌, ℕ, zero, suc, ◌<◌, ◌≤◌, Bool, true, false, not, ◌&&◌, ◌||◌, List, [], ◌∷◌, length, get_or, set}
-use Rattle.std.proofs.Common.{Some, option_map, refl, sym, ap, ◌∙◌, arith, true≢false, ⊎_elim}
+-- Where the names stand, and what one more member changes of what was found, by the index of its name.
+use Rattle.std.proofs.Common.{◌≡◌, ◌≢◌, ℕ, zero, suc, ◌+◌, ◌<◌, ◌≤◌, Bool, true, false, not, ◌&&◌, ◌||◌, List, [], ◌∷◌, length, get_or, set}
+use Rattle.std.proofs.Common.{nat_le, nat_lt, Some, option_map, refl, rules, sym, ap, subst, ◌∙◌, arith, true≢false, ⊎_elim}
 use Rattle.std.proofs.lemmas.Bool.{cases_eq, cases_lt}
+use Rattle.std.proofs.lemmas.Bool.Decides.{nat_tests}
 use Rattle.std.proofs.lemmas.List.{get_or_default, get_or-set_same, get_or-set_other}
 use Rattle.std.proofs.lemmas.Option.{slice_get_past}
 use Rattle.std.proofs.lemmas.Slice.Eq.{bytes_eq-Decides}
@@ -12,7 +13,7 @@ use Rattle.serde_json.specs.Find.{get}
 use Rattle.serde_json.specs.Data.{Data, Members, no_members, put}
 use Rattle.disco_json.proofs.Trees.{named_here, named_otherwise}
 use Rattle.disco_json.specs.View.{view}
-use Rattle.disco_instance.specs.Found.{AreOf, HoldMembers, Named, member_names, standing}
+use Rattle.disco_instance.specs.Found.{AreOf, HoldMembers, Named, member_names, span_of, standing}
 
 -- ---- no name stands twice
 
@@ -48,6 +49,25 @@ names_apart i k h below ne e = ⊎_elim
     (λ (lt : k < i). later_apart member_names refl k i lt h e)
     (λ (le : i ≤ k). later_apart member_names refl i k (omega arith) below (sym e))
     (cases_lt k i)
+
+-- ---- names stand among those of their length
+
+abbrev are_within : (ℕ → ℕ × ℕ) → ℕ → List (List ℕ) → Bool
+are_within span from [] = true
+are_within span from (x ∷ xs) = (nat_le (span (length x)).0 from && nat_lt from (span (length x)).1) && are_within span (from + 1) xs
+
+abbrev pub IsWithin : ℕ × ℕ → ℕ → Type 0
+IsWithin span k = (span.0 ≤ k) × (k < span.1)
+
+each_within : (span : ℕ → ℕ × ℕ) (from : ℕ) (xs : List (List ℕ)) → are_within span from xs ≡ true → (i k : ℕ) → from + i ≡ k → i < length xs
+    → IsWithin (span (length (get_or xs i []))) k
+each_within span from [] t i k is h = absurd (omega arith)
+each_within span from (x ∷ xs) t zero k is h = (grind (arith, nat_tests), grind (arith, nat_tests))
+each_within span from (x ∷ xs) t (suc i) k is h = each_within span (from + 1) xs (search rules) i k (omega arith) (omega arith)
+
+-- the name at an index has the index within the span of its length
+pub name_within : (k : ℕ) (name : List ℕ) → k < 21 → get_or member_names k [] ≡ name → IsWithin (span_of (length name)) k
+name_within k name below is = subst (λ n. IsWithin (span_of (length n)) k) is (each_within span_of 0 member_names refl k k (omega arith) below)
 
 -- ---- one more member
 

@@ -5,7 +5,7 @@ ghost use Rattle.serde_json.specs.Find.{get, get_member};
 ghost use Rattle.disco_json.specs.View.{members_view, view};
 ghost use Rattle.disco_instance.specs.Members.{non_empty_at};
 ghost use Rattle.disco_instance.specs.Names.{member_name};
-ghost use Rattle.disco_instance.specs.Found.{AreOf, HoldMembers, member_names, standing};
+ghost use Rattle.disco_instance.specs.Found.{AreOf, HoldMembers, member_names, span_of, standing};
 
 use crate::members::non_empty_in;
 use disco_json::Tree;
@@ -15,52 +15,53 @@ use std::marker::Model;
 #[derive(Clone, Copy)]
 pub enum Member {
     App,
+    Port,
+    IpAddr,
+    Status,
+    HostName,
+    Metadata,
     CountryId,
+    LeaseInfo,
+    InstanceId,
+    SecurePort,
+    VipAddress,
+    HomePageUrl,
+    StatusPageUrl,
     DataCenterInfo,
     HealthCheckUrl,
-    HomePageUrl,
-    HostName,
-    InstanceId,
-    IpAddr,
-    IsCoordinatingDiscoveryServer,
-    LastDirtyTimestamp,
-    LastUpdatedTimestamp,
-    LeaseInfo,
-    Metadata,
     OverriddenStatus,
     /// The member `overriddenstatus`, the other spelling.
     OverriddenStatusInLowerCase,
-    Port,
-    SecurePort,
     SecureVipAddress,
-    Status,
-    StatusPageUrl,
-    VipAddress,
+    LastDirtyTimestamp,
+    LastUpdatedTimestamp,
+    IsCoordinatingDiscoveryServer,
 }
 
-/// The names of the members in byte order, which is the order of [`Member`].
+/// The names of the members by their lengths, those of one length in byte order. This is the order
+/// of [`Member`].
 const NAMES: [&str; 21] = [
     "app",
+    "port",
+    "ipAddr",
+    "status",
+    "hostName",
+    "metadata",
     "countryId",
+    "leaseInfo",
+    "instanceId",
+    "securePort",
+    "vipAddress",
+    "homePageUrl",
+    "statusPageUrl",
     "dataCenterInfo",
     "healthCheckUrl",
-    "homePageUrl",
-    "hostName",
-    "instanceId",
-    "ipAddr",
-    "isCoordinatingDiscoveryServer",
-    "lastDirtyTimestamp",
-    "lastUpdatedTimestamp",
-    "leaseInfo",
-    "metadata",
     "overriddenStatus",
     "overriddenstatus",
-    "port",
-    "securePort",
     "secureVipAddress",
-    "status",
-    "statusPageUrl",
-    "vipAddress",
+    "lastDirtyTimestamp",
+    "lastUpdatedTimestamp",
+    "isCoordinatingDiscoveryServer",
 ];
 
 /// Where the members stand that are found, each at the index of its name in `NAMES`. One that isn't
@@ -74,13 +75,12 @@ fn name_at(index: usize) -> &'static str
     NAMES[index]
 }
 
-/// Whether this is the name at an index. Most names are told apart by their lengths.
+/// Whether this is the name at an index.
 fn is_named(index: usize, name: &str) -> bool
     requires { index < 21 }
     ensures { result ≡ bytes_eq (slice_index_or member_names index []) name.now }
 {
-    let own = name_at(index);
-    own.len() == name.len() && own == name
+    name_at(index) == name
 }
 
 /// The index of a member's name in `NAMES`.
@@ -106,17 +106,38 @@ fn index_within(name: &str, low: usize, high: usize) -> Option<usize>
     None
 }
 
-/// The index of a name in `NAMES`, which is looked for from `next` on first.
-fn index_of(name: &str, next: usize) -> Option<usize>
-    requires { next ≤ 21 }
+/// The indices in `NAMES` from which and below which the names of a length stand: `(0, 0)` where no
+/// name has it.
+fn span_of(len: usize) -> (usize, usize)
+    ensures span { result ≡ span_of len }
+    ensures within { result.1 ≤ 21 }
+{
+    match len {
+        3 => (0, 1),
+        4 => (1, 2),
+        6 => (2, 4),
+        8 => (4, 6),
+        9 => (6, 8),
+        10 => (8, 11),
+        11 => (11, 12),
+        13 => (12, 13),
+        14 => (13, 15),
+        16 => (15, 18),
+        18 => (18, 19),
+        20 => (19, 20),
+        29 => (20, 21),
+        _ => (0, 0),
+    }
+}
+
+/// The index of a name in `NAMES`. It is looked for among the names of its length.
+fn index_of(name: &str) -> Option<usize>
     ensures within { IfSome result (λ i. i < 21) }
     ensures name { IfSome result (λ i. slice_index_or member_names i [] ≡ name.now) }
     ensures none { result ≡ None → (k : ℕ) → k < 21 → slice_index_or member_names k [] ≡ name.now → ⊥ }
 {
-    match index_within(name, next, NAMES.len()) {
-        Some(index) => Some(index),
-        None => index_within(name, 0, next),
-    }
+    let (low, high) = span_of(name.len());
+    index_within(name, low, high)
 }
 
 /// Where members stand among some, found in one pass over them. Of equal names the last counts.
@@ -124,12 +145,10 @@ fn places_in<'a>(members: &[(&'a str, Tree<'a>)]) -> Places
     ensures { HoldMembers (members_view members.now) members.now result }
 {
     let mut places = [members.len(); 21];
-    let mut next = 0;
     let mut place = 0;
     for (name, _) in members {
-        if let Some(index) = index_of(name, next) {
+        if let Some(index) = index_of(name) {
             places[index] = place;
-            next = index + 1;
         }
         place += 1;
     }

@@ -1,9 +1,9 @@
-use Rattle.std.proofs.Common.{arith, ◌<◌, ◌≤◌, ⊎_elim, refl}
-use Rattle.std.proofs.lemmas.Bool.{cases_lt}
+use Rattle.std.proofs.Common.{subst, sym}
+use Rattle.disco_instance.proofs.Finding.{IsWithin, name_within}
 use Rattle.disco_instance.proofs.found.index_of.Goals as goal
 
-pub returns-in-None-clause-none : goal.returns-in-None-clause-none
-returns-in-None-clause-none c = λ none k below is. ⊎_elim
-    (λ (before : k < c.args.next). c.index_within-in-None.ensures.none none k before (omega arith) is)
-    (λ (behind : c.args.next ≤ k). c.in-None.ensures.none refl k below behind is)
-    (cases_lt k c.args.next)
+pub returns-clause-none : goal.returns-clause-none
+returns-clause-none c = λ none k below is.
+    let own = name_within k c.args.name.now below is in
+    let within : IsWithin c.span_of-low.result k = subst (λ span. IsWithin span k) (sym c.span_of-low.ensures.span) own in
+    c.index_within.ensures.none none k within.1 within.0 is

@@ -11,7 +11,7 @@ use Rattle.disco_instance.proofs.found.places_in.Goals as goal
 use Rattle.disco_instance.proofs.found.places_in.Goals.{in-Some, in_default}
 
 pub loop-name-init : goal.loop-name-init
-loop-name-init c = (no_members, refl, (none_yet c.args.members.now, omega arith, refl, refl))
+loop-name-init c = (no_members, refl, (none_yet c.args.members.now, refl, refl))
 
 pub loop-name-preserved : goal.loop-name-preserved
 loop-name-preserved c =
@@ -20,27 +20,25 @@ loop-name-preserved c =
     let m = c.loop-name-item.result in
     let ms = c.loop-name.invariant.0 in
     let before = c.loop-name.invariant.2 in
-    let at : c.loop-name.place ≡ i = before.2 in
+    let at : c.loop-name.place ≡ i = before.1 in
     let next : drop i all ≡ m ∷ drop (i + 1) all = drop_more all i m c.loop-name-test.true ∙ ap (λ x. x ∷ drop (i + 1) all) (sym c.loop-name-item.is) in (
       put m.0.now (view m.1) ms,
       ap (λ xs. with_members (map seen xs) ms) (sym next) ∙ c.loop-name.invariant.1,
       elim c.match-index_of.branch [
         | in-Some w ↦
             let found = w.in-Some in
-            let within : found.index < length c.loop-name.places = omega (arith, before.3, found.ensures.within) in
+            let within : found.index < length c.loop-name.places = omega (arith, before.2, found.ensures.within) in
             let there = ap (slice_get all) at ∙ slice_get_read all (length all) i m refl c.loop-name-test.true c.loop-name-item.is in (
               subst (λ places. HoldMembers (put m.0.now (view m.1) ms) all places) (sym w.places-is)
                   (one_found ms all m c.loop-name.places found.index c.loop-name.place found.ensures.within within found.ensures.name there before.0),
-              omega (arith, w.next-is, found.ensures.within),
               omega (arith, at),
-              ap length w.places-is ∙ length-set c.loop-name.places found.index c.loop-name.place ∙ before.3,
+              ap length w.places-is ∙ length-set c.loop-name.places found.index c.loop-name.place ∙ before.2,
             )
         | in_default w ↦ (
           subst (λ places. HoldMembers (put m.0.now (view m.1) ms) all places) (sym w.places-is)
               (none_found ms all m c.loop-name.places (w.in_default.ensures.none refl) before.0),
-          omega (arith, w.next-is, before.1),
           omega (arith, at),
-          ap length w.places-is ∙ before.3,
+          ap length w.places-is ∙ before.2,
         )
       ],
     )
