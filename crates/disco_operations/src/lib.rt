@@ -8,5 +8,7 @@ mod operations;
 mod query;
 
 pub use decoding::{decoded, decoded_text};
-pub use operations::{add_metadata, cancel, drop_status, key_named, register, renew, set_status};
+pub use operations::{
+    add_metadata, cancel, drop_status, key_named, register, register_with, renew, set_status,
+};
 pub use query::{entries_of_query, value_of};

@@ -26,7 +26,23 @@ pub fn read_registration(alloc: Global, bytes: &[u8]) -> Result<Record, Fault>
     ensures { Gives row result (registration_of bytes.now) }
 {
     let mut scratch = Scratch::new(alloc);
-    let tree = tree_of(alloc, bytes, &mut scratch)?;
+    read_registration_with(alloc, bytes, &mut scratch)
+}
+
+/// The record of a registration, as [`read_registration`] gives it. The room that reading needs is
+/// lent, so that who reads many makes it once.
+///
+/// # Errors
+///
+/// As of [`read_registration`].
+pub fn read_registration_with(
+    alloc: Global,
+    bytes: &[u8],
+    scratch: &mut Scratch,
+) -> Result<Record, Fault>
+    ensures { Gives row result (registration_of bytes.now) }
+{
+    let tree = tree_of(alloc, bytes, scratch)?;
     registration_from_tree(alloc, &tree)
 }
 
