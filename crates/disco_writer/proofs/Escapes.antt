@@ -1,7 +1,5 @@
 -- Texts that need no escape.
-use Rattle.std.proofs.Common.{◌≡◌, ℕ, ◌+◌, ◌%◌, ◌^◌, ◌<◌, ◌≤◌, Bool, true, false, not, ◌==◌, List, [], ◌∷◌, ◌++◌, codes, decimal, if◌then◌else◌, refl, ap, ◌∙◌, arith}
-use Rattle.std.specs.Bool.{OnTrue}
-use Rattle.std.proofs.lemmas.Bool.{OnTrue_from, eqb-false, not-true}
+use Rattle.std.proofs.Common.{◌≡◌, ℕ, ◌+◌, ◌%◌, ◌^◌, ◌<◌, Bool, true, false, List, [], ◌∷◌, ◌++◌, codes, decimal, if◌then◌else◌, refl, ap, ◌∙◌, arith}
 use Rattle.std.proofs.lemmas.Fmt.{decimal_by_steps}
 use Rattle.std.proofs.lemmas.List.Concat.{flat_map-append}
 use Rattle.json.specs.Print.{escape, escape_byte}
@@ -31,9 +29,6 @@ pub truth_plain : (b : Bool) → escape (if b then codes "true" else codes "fals
 unfolding escape_byte
 truth_plain true = refl
 truth_plain false = refl
-
-pub plain_unless : (x : ℕ) → 32 ≤ x → (x ≡ 34 → ⊥) → OnTrue (not (x == 92)) (escape_byte x ≡ x ∷ [])
-plain_unless x visible quote = OnTrue_from (not (x == 92)) (escape_byte x ≡ x ∷ []) (λ e. escape_byte_plain x quote (eqb-false x 92 (not-true (x == 92) e)) visible)
 
 digit_plain : (d : ℕ) → d < 10 → escape_byte (48 + d) ≡ (48 + d) ∷ []
 digit_plain d below = escape_byte_plain (48 + d) (λ e. omega arith) (λ e. omega arith) (omega arith)

@@ -15,6 +15,7 @@ mod members;
 mod named;
 mod piece;
 mod places;
+mod plain_text;
 mod selected;
 mod text_buffer;
 mod texts;

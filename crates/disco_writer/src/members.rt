@@ -1,13 +1,13 @@
 //! The members of an instance's text. The punctuation and the names are constant texts, and the values
 //! are put behind them.
-ghost use Rattle.std.specs.Prelude.{◌≡◌, ◌∷◌, ◌++◌, [], OnOk, codes, decimal, false, if◌then◌else◌};
-ghost use Rattle.std.specs.Bool.{OnTrue};
-ghost use Rattle.json.specs.Print.{escape, escape_byte, quoted};
+ghost use Rattle.std.specs.Prelude.{◌≡◌, ◌++◌, [], OnOk, codes, decimal, false, if◌then◌else◌};
+ghost use Rattle.json.specs.Print.{escape, quoted};
 ghost use Rattle.disco_values.specs.Action.{action_name};
 ghost use Rattle.disco_values.specs.Status.{status_name};
 ghost use Rattle.disco_writer.specs.Groups.{AppendsUtf8, entries_text, entry_member};
 
 use crate::join::quoted;
+use crate::plain_text::is_plain;
 use crate::text_buffer::TextBuffer;
 use disco_values::{Action, Entries, Status, Text};
 use itoa::{Buffer, Integer};
@@ -21,33 +21,12 @@ pub(crate) fn push(out: &mut TextBuffer, text: &str) -> Result<(), AllocError>
     out.push(text.as_bytes())
 }
 
-/// Whether the byte is not escaped in JSON.
-fn is_plain_byte(byte: u8) -> bool
-    ensures { OnTrue result (escape_byte byte ≡ byte ∷ []) }
-{
-    byte >= 0x20 && byte != b'"' && byte != b'\\'
-}
-
-/// Whether no byte of a text is escaped in JSON. Each is looked at, even behind one that is: a loop
-/// with no early exit is compiled to vector instructions.
-fn is_plain(text: &[u8]) -> bool
-    ensures { OnTrue result (escape text.now ≡ text.now) }
-{
-    let mut plain = true;
-    for &byte in text {
-        plain &= is_plain_byte(byte);
-    }
-    plain
-}
-
 /// Puts a text that needs no escape between quotes.
 fn push_plain(out: &mut TextBuffer, text: &str) -> Result<(), AllocError>
     requires { escape text.now ≡ text.now }
     ensures { OnOk result (AppendsUtf8 out.old out.new (quoted text.now)) }
 {
-    push(out, "\"")?;
-    push(out, text)?;
-    push(out, "\"")
+    out.push_between_quotes(text.as_bytes())
 }
 
 /// Puts a text between quotes. Many texts are empty. Few need an escape, so those may take memory of

@@ -1,5 +1,5 @@
 //! A text that is being written.
-ghost use Rattle.std.specs.Prelude.{◌≡◌, ◌++◌, ◌≤◌, ◌+◌, [], IfOk, OnOk, length, take};
+ghost use Rattle.std.specs.Prelude.{◌≡◌, ◌∷◌, ◌++◌, ◌≤◌, ◌+◌, [], IfOk, OnOk, length, take};
 
 use std::alloc::{AllocError, Global};
 use std::marker::Model;
@@ -39,6 +39,33 @@ fn grow(room: &mut Vec<u8>, len: usize, more: usize) -> Result<(), AllocError>
     room.resize(needed.max(room.len().saturating_mul(2)), 0)
 }
 
+/// Sees that there is room for so many bytes behind the first `len`.
+#[inline(always)]
+fn make_room(room: &mut Vec<u8>, len: usize, more: usize) -> Result<(), AllocError>
+    requires { len ≤ length room.old.items }
+    ensures same { take len room.new.items ≡ take len room.old.items }
+    ensures within { len ≤ length room.new.items }
+    ensures room { OnOk result (len + more ≤ length room.new.items) }
+{
+    if room.len() - len < more {
+        grow(room, len, more)?;
+    }
+    Ok(())
+}
+
+/// Puts a piece behind the first `at` bytes, and says where it ends.
+#[inline(always)]
+fn put(room: &mut [u8], at: usize, piece: &[u8]) -> usize
+    requires { at + length piece.now ≤ length room.old }
+    ensures text { take result room.new ≡ take at room.old ++ piece.now }
+    ensures end { result ≡ at + length piece.now }
+    ensures size { length room.new ≡ length room.old }
+{
+    let end = at + piece.len();
+    room[at..end].copy_from_slice(piece);
+    end
+}
+
 impl TextBuffer {
     /// An empty text, with room for so many bytes.
     pub(crate) fn with_capacity(alloc: Global, capacity: usize) -> Result<TextBuffer, AllocError>
@@ -71,12 +98,20 @@ impl TextBuffer {
     pub(crate) fn push(&mut self, piece: &[u8]) -> Result<(), AllocError>
         ensures { OnOk result (self.new ≡ self.old ++ piece.now) }
     {
-        if self.room.len() - self.len < piece.len() {
-            grow(&mut self.room, self.len, piece.len())?;
-        }
-        let len = self.len + piece.len();
-        self.room[self.len..len].copy_from_slice(piece);
-        self.len = len;
+        make_room(&mut self.room, self.len, piece.len())?;
+        self.len = put(&mut self.room, self.len, piece);
+        Ok(())
+    }
+
+    /// Puts bytes between quotes behind the text. One check of room serves all three pieces.
+    #[inline(always)]
+    pub(crate) fn push_between_quotes(&mut self, piece: &[u8]) -> Result<(), AllocError>
+        ensures { OnOk result (self.new ≡ self.old ++ 34 ∷ (piece.now ++ 34 ∷ [])) }
+    {
+        make_room(&mut self.room, self.len, piece.len() + 2)?;
+        let opened = put(&mut self.room, self.len, b"\"");
+        let closed = put(&mut self.room, opened, piece);
+        self.len = put(&mut self.room, closed, b"\"");
         Ok(())
     }
 

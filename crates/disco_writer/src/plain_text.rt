@@ -1,0 +1,104 @@
+//! Whether a text stands in JSON as it is. Most texts have 4 to 32 bytes, and two loads that overlap
+//! see all of one.
+ghost use Rattle.std.specs.Prelude.{◌≡◌, ◌+◌, ◌<◌, ◌≤◌, length};
+ghost use Rattle.std.specs.Bool.{OnTrue};
+ghost use Rattle.json.specs.Print.{escape};
+ghost use Rattle.json.specs.Written.{PlainBetween};
+
+use std::simd::prelude::*;
+
+/// Whether none of the 4 bytes from a place on is escaped in JSON.
+#[inline(always)]
+fn plain_4(text: &[u8], at: usize) -> bool
+    requires { at + 4 ≤ length text.now }
+    ensures { OnTrue result (PlainBetween text.now at (at + 4)) }
+{
+    let bytes = u8x4::from_slice(&text[at..]);
+    let quotes = bytes.simd_eq(u8x4::splat(b'"'));
+    let backslashes = bytes.simd_eq(u8x4::splat(b'\\'));
+    let controls = bytes.simd_lt(u8x4::splat(0x20));
+    (quotes | backslashes | controls).to_bitmask() == 0
+}
+
+/// The same of 8 bytes.
+#[inline(always)]
+fn plain_8(text: &[u8], at: usize) -> bool
+    requires { at + 8 ≤ length text.now }
+    ensures { OnTrue result (PlainBetween text.now at (at + 8)) }
+{
+    let bytes = u8x8::from_slice(&text[at..]);
+    let quotes = bytes.simd_eq(u8x8::splat(b'"'));
+    let backslashes = bytes.simd_eq(u8x8::splat(b'\\'));
+    let controls = bytes.simd_lt(u8x8::splat(0x20));
+    (quotes | backslashes | controls).to_bitmask() == 0
+}
+
+/// The same of 16 bytes.
+#[inline(always)]
+fn plain_16(text: &[u8], at: usize) -> bool
+    requires { at + 16 ≤ length text.now }
+    ensures { OnTrue result (PlainBetween text.now at (at + 16)) }
+{
+    let bytes = u8x16::from_slice(&text[at..]);
+    let quotes = bytes.simd_eq(u8x16::splat(b'"'));
+    let backslashes = bytes.simd_eq(u8x16::splat(b'\\'));
+    let controls = bytes.simd_lt(u8x16::splat(0x20));
+    (quotes | backslashes | controls).to_bitmask() == 0
+}
+
+/// Whether no byte of a text is escaped in JSON, byte by byte.
+#[inline(always)]
+fn plain_few(text: &[u8]) -> bool
+    ensures { OnTrue result (PlainBetween text.now 0 (length text.now)) }
+{
+    for &byte in text {
+        if byte == b'"' || byte == b'\\' || byte < 0x20 {
+            return false;
+        }
+    }
+    true
+}
+
+/// The same of a text of less than 16 bytes.
+#[inline(always)]
+fn plain_short(text: &[u8]) -> bool
+    requires { length text.now < 16 }
+    ensures { OnTrue result (PlainBetween text.now 0 (length text.now)) }
+{
+    let len = text.len();
+    if len >= 8 {
+        plain_8(text, 0) && plain_8(text, len - 8)
+    } else if len >= 4 {
+        plain_4(text, 0) && plain_4(text, len - 4)
+    } else {
+        plain_few(text)
+    }
+}
+
+/// The same of a text of 16 bytes or more.
+#[inline(always)]
+fn plain_long(text: &[u8]) -> bool
+    requires { 16 ≤ length text.now }
+    ensures { OnTrue result (PlainBetween text.now 0 (length text.now)) }
+{
+    let mut at = 0;
+    while text.len() - at > 16 {
+        if !plain_16(text, at) {
+            return false;
+        }
+        at += 16;
+    }
+    plain_16(text, text.len() - 16)
+}
+
+/// Whether no byte of a text is escaped in JSON.
+#[inline(always)]
+pub(crate) fn is_plain(text: &[u8]) -> bool
+    ensures { OnTrue result (escape text.now ≡ text.now) }
+{
+    if text.len() < 16 {
+        plain_short(text)
+    } else {
+        plain_long(text)
+    }
+}
