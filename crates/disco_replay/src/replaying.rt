@@ -78,6 +78,9 @@ fn answer<R: Source, W: Sink>(
 /// words that are refused, with a message on `errors`. Else it is 1, with the one line
 /// `discovery: fault N` on `errors`; no answer is then written, but for those that went out before
 /// a write failed.
+///
+/// Where all answers were written, and no client took a document, the memory of the instances isn't
+/// given back: a program ends behind this call, and the host takes all at once.
 pub fn replay<R: Source, W: Sink, E: Sink>(
     alloc: Global,
     reader: &mut R,
