@@ -31,7 +31,7 @@ use crate::restarts::restart;
 use crate::rounds::{begin, copy, look, publish};
 use disco_cache::Payload;
 use disco_hub::Hub;
-use disco_operations::register;
+use disco_operations::register_with;
 use disco_query::Query;
 use disco_registry::{Applied, Op};
 use disco_settings::Settings;
@@ -144,7 +144,7 @@ pub(crate) fn answer_step(
         Step::Register { now, app, json } => write(
             &mut levels.hub,
             *now,
-            register(alloc, app, json.as_slice()),
+            register_with(alloc, app, json.as_slice(), &mut levels.scratch),
         ),
         Step::Cancel { now, app, id } => write(&mut levels.hub, *now, cancel(alloc, app, id)),
         Step::Renew { now, app, id } => renew(&mut levels.hub, *now, copied_key(alloc, app, id)),
