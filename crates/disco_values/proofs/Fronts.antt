@@ -1,5 +1,5 @@
 -- The order of texts by their fronts.
-use Rattle.std.proofs.Common.{◌≡◌, ◌⊎◌, inl, inr, ℕ, zero, suc, ◌+◌, ◌*◌, ◌<◌, ◌≤◌, List, [], ◌∷◌, length, get_or, refl, sym, ap, subst, ◌∙◌, arith, take, Fits, w8, w64}
+use Rattle.std.proofs.Common.{◌≡◌, ◌⊎◌, inl, inr, ℕ, zero, suc, ◌+◌, ◌*◌, ◌/◌, ◌%◌, min, ◌<◌, ◌≤◌, List, [], ◌∷◌, length, get_or, refl, sym, ap, subst, ◌∙◌, arith, take, drop, Fits, w8, w64}
 use Rattle.std.specs.Int.{from_be_bytes}
 use Rattle.std.proofs.Math.Facts.{Fits-lt-pow}
 use Rattle.std.specs.declared.cmp.Ordering.{Ordering}
@@ -7,8 +7,11 @@ use Rattle.std.specs.declared.cmp.Ordering.TheVariants.{Less, Equal, Greater}
 use Rattle.std.specs.Ordering.{nat_cmp, ordering_reverse, ordering_then}
 use Rattle.std.specs.Cmp.{nat_cmp_is}
 use Rattle.std.specs.Cmp.Lexicographic.{slice_cmp, nat_list_cmp_total}
+use Rattle.std.proofs.Math.Seq.{drop-nil}
+use Rattle.std.proofs.lemmas.List.{get_or-drop}
 use Rattle.std.proofs.lemmas.Bool.{cases_order}
-use Rattle.disco_values.specs.Front.{AreBytes, front_of}
+use Rattle.std.proofs.lemmas.Nat.{div-mul-add, mod-mul-add}
+use Rattle.disco_values.specs.Front.{AreBytes, first_eight, front_of, with_len}
 
 pub are_bytes : (s : List ℕ) → ((i : ℕ) → Fits w8 (get_or s i 0)) → AreBytes s
 are_bytes s fit = λ i. Fits-lt-pow (fit i)
@@ -19,17 +22,24 @@ with_bytes zero p s = p
 with_bytes (suc n) p [] = with_bytes n (p * 256) []
 with_bytes (suc n) p (x ∷ s) = with_bytes n (p * 256 + x) s
 
-front_is : (s : List ℕ) → front_of s ≡ with_bytes 8 0 s
+eight_is : (s : List ℕ) → first_eight s ≡ with_bytes 7 0 s * 256 + get_or s 7 0
+unfolding first_eight
+eight_is [] = omega arith
+eight_is (a ∷ []) = omega arith
+eight_is (a ∷ b ∷ []) = omega arith
+eight_is (a ∷ b ∷ c ∷ []) = omega arith
+eight_is (a ∷ b ∷ c ∷ d ∷ []) = omega arith
+eight_is (a ∷ b ∷ c ∷ d ∷ e ∷ []) = omega arith
+eight_is (a ∷ b ∷ c ∷ d ∷ e ∷ f ∷ []) = omega arith
+eight_is (a ∷ b ∷ c ∷ d ∷ e ∷ f ∷ g ∷ []) = omega arith
+eight_is (a ∷ b ∷ c ∷ d ∷ e ∷ f ∷ g ∷ h ∷ s) = omega arith
+
+seven_is : (s : List ℕ) → AreBytes s → first_eight s / 256 ≡ with_bytes 7 0 s
+seven_is s bs = ap (λ n. n / 256) (eight_is s) ∙ div-mul-add (with_bytes 7 0 s) 256 (get_or s 7 0) (bs 7)
+
+front_is : (s : List ℕ) → AreBytes s → front_of s ≡ with_bytes 7 0 s * 256 + min (length s) 8
 unfolding front_of
-front_is [] = omega arith
-front_is (a ∷ []) = omega arith
-front_is (a ∷ b ∷ []) = omega arith
-front_is (a ∷ b ∷ c ∷ []) = omega arith
-front_is (a ∷ b ∷ c ∷ d ∷ []) = omega arith
-front_is (a ∷ b ∷ c ∷ d ∷ e ∷ []) = omega arith
-front_is (a ∷ b ∷ c ∷ d ∷ e ∷ f ∷ []) = omega arith
-front_is (a ∷ b ∷ c ∷ d ∷ e ∷ f ∷ g ∷ []) = omega arith
-front_is (a ∷ b ∷ c ∷ d ∷ e ∷ f ∷ g ∷ h ∷ s) = omega arith
+front_is s bs = ap (λ n. n * 256 + min (length s) 8) (seven_is s bs)
 
 -- the lesser number stays so, whatever bytes come behind both
 rising : (n p q : ℕ) (s t : List ℕ) → AreBytes s → AreBytes t → p < q → with_bytes n p s < with_bytes n q t
@@ -93,35 +103,146 @@ tied (suc n) p (x ∷ s) (y ∷ t) bs bt h few = by (tied n (p * 256 + x) s t (�
     by behind (inr (inl lt)) = absurd (omega (arith, h, rising n (p * 256 + x) (p * 256 + y) s t (λ i. bs (suc i)) (λ i. bt (suc i)) (omega (arith, lt))))
     by behind (inr (inr lt)) = absurd (omega (arith, h, rising n (p * 256 + y) (p * 256 + x) t s (λ i. bt (suc i)) (λ i. bs (suc i)) (omega (arith, lt))))
 
--- where fronts differ, they are in the order of the texts
-pub by_fronts : (s t : List ℕ) (r : Ordering) → AreBytes s → AreBytes t → r ≡ nat_cmp (front_of s) (front_of t) → (r ≡ Equal → ⊥) → r ≡ order s t
-by_fronts s t r fs ft is differ = by (cases_order (front_of s) (front_of t))
-  where
-    by : (front_of s ≡ front_of t) ⊎ ((front_of s < front_of t) ⊎ (front_of t < front_of s)) → r ≡ order s t
-    by (inl e) = absurd (differ (is ∙ sym (nat_cmp_is (front_of s) (front_of t) Equal e)))
-    by (inr (inl lt)) = is ∙ sym (nat_cmp_is (front_of s) (front_of t) Less lt) ∙ sym (less 8 0 s t fs ft (omega (arith, lt, front_is s, front_is t)))
-    by (inr (inr lt)) =
-        is ∙ sym (nat_cmp_is (front_of s) (front_of t) Greater lt)
-        ∙ sym (nat_list_cmp_total.antisymm s t ∙ ap ordering_reverse (less 8 0 t s ft fs (omega (arith, lt, front_is s, front_is t))))
+shorter : (m n : ℕ) → min m 8 < min n 8 → (m < n) × (m ≤ 7)
+shorter m n lt = (omega (arith, lt), omega (arith, lt))
 
--- where they are equal and one text has no byte behind its front, the shorter text comes first
-pub by_lengths : (s t : List ℕ) → AreBytes s → AreBytes t → front_of s ≡ front_of t → (length s ≤ 8) ⊎ (length t ≤ 8) → order s t ≡ nat_cmp (length s) (length t)
-by_lengths s t fs ft e few = tied 8 0 s t fs ft (sym (front_is s) ∙ e ∙ front_is t) few
+-- the lesser front is that of the lesser text
+pub by_fronts : (s t : List ℕ) → AreBytes s → AreBytes t → front_of s < front_of t → order s t ≡ Less
+by_fronts s t bs bt lt = by (cases_order (with_bytes 7 0 s) (with_bytes 7 0 t))
+  where
+    fronts : with_bytes 7 0 s * 256 + min (length s) 8 < with_bytes 7 0 t * 256 + min (length t) 8
+    fronts = omega (arith, lt, front_is s bs, front_is t bt)
+
+    by : (with_bytes 7 0 s ≡ with_bytes 7 0 t) ⊎ ((with_bytes 7 0 s < with_bytes 7 0 t) ⊎ (with_bytes 7 0 t < with_bytes 7 0 s)) → order s t ≡ Less
+    by (inl e) =
+        let lens = shorter (length s) (length t) (omega (arith, e, fronts)) in
+        tied 7 0 s t bs bt e (inl lens.1) ∙ sym (nat_cmp_is (length s) (length t) Less lens.0)
+    by (inr (inl less_bytes)) = less 7 0 s t bs bt less_bytes
+    by (inr (inr more)) = absurd (omega (arith, more, fronts))
+
+pub by_fronts_above : (s t : List ℕ) → AreBytes s → AreBytes t → front_of t < front_of s → order s t ≡ Greater
+by_fronts_above s t bs bt lt = nat_list_cmp_total.antisymm s t ∙ ap ordering_reverse (by_fronts t s bt bs lt)
+
+-- a front that ends in less than eight is that of one text alone
+pub by_whole_front : (s t : List ℕ) → AreBytes s → AreBytes t → front_of s ≡ front_of t → front_of s % 256 < 8 → order s t ≡ Equal
+by_whole_front s t bs bt e whole = tied 7 0 s t bs bt sevens (inl few_bytes) ∙ sym (nat_cmp_is (length s) (length t) Equal lens)
+  where
+    same : with_bytes 7 0 s * 256 + min (length s) 8 ≡ with_bytes 7 0 t * 256 + min (length t) 8
+    same = sym (front_is s bs) ∙ e ∙ front_is t bt
+
+    end_is : front_of s % 256 ≡ min (length s) 8
+    end_is = ap (λ n. n % 256) (front_is s bs) ∙ mod-mul-add (with_bytes 7 0 s) 256 (min (length s) 8) (omega arith)
+
+    few_bytes : length s ≤ 7
+    few_bytes = omega (arith, whole, end_is)
+
+    sevens : with_bytes 7 0 s ≡ with_bytes 7 0 t
+    sevens = omega (arith, same)
+
+    lens : length s ≡ length t
+    lens = omega (arith, same, few_bytes)
 
 -- a text with as many bytes as a front has them all
-pub whole_front : (s : List ℕ) → 8 ≤ length s → from_be_bytes w64 (take 8 s) ≡ front_of s
-unfolding front_of
-whole_front [] long = absurd (omega (arith, long))
-whole_front (a ∷ []) long = absurd (omega (arith, long))
-whole_front (a ∷ b ∷ []) long = absurd (omega (arith, long))
-whole_front (a ∷ b ∷ c ∷ []) long = absurd (omega (arith, long))
-whole_front (a ∷ b ∷ c ∷ d ∷ []) long = absurd (omega (arith, long))
-whole_front (a ∷ b ∷ c ∷ d ∷ e ∷ []) long = absurd (omega (arith, long))
-whole_front (a ∷ b ∷ c ∷ d ∷ e ∷ f ∷ []) long = absurd (omega (arith, long))
-whole_front (a ∷ b ∷ c ∷ d ∷ e ∷ f ∷ g ∷ []) long = absurd (omega (arith, long))
-whole_front (a ∷ b ∷ c ∷ d ∷ e ∷ f ∷ g ∷ h ∷ s) long = refl
+pub whole_eight : (s : List ℕ) → 8 ≤ length s → from_be_bytes w64 (take 8 s) ≡ first_eight s
+unfolding first_eight
+whole_eight [] long = absurd (omega (arith, long))
+whole_eight (a ∷ []) long = absurd (omega (arith, long))
+whole_eight (a ∷ b ∷ []) long = absurd (omega (arith, long))
+whole_eight (a ∷ b ∷ c ∷ []) long = absurd (omega (arith, long))
+whole_eight (a ∷ b ∷ c ∷ d ∷ []) long = absurd (omega (arith, long))
+whole_eight (a ∷ b ∷ c ∷ d ∷ e ∷ []) long = absurd (omega (arith, long))
+whole_eight (a ∷ b ∷ c ∷ d ∷ e ∷ f ∷ []) long = absurd (omega (arith, long))
+whole_eight (a ∷ b ∷ c ∷ d ∷ e ∷ f ∷ g ∷ []) long = absurd (omega (arith, long))
+whole_eight (a ∷ b ∷ c ∷ d ∷ e ∷ f ∷ g ∷ h ∷ s) long = refl
 
--- zeros behind a text are no part of its front
-pub padded_front : (s t : List ℕ) → ((i : ℕ) → get_or t i 0 ≡ get_or s i 0) → front_of t ≡ front_of s
+-- zeros behind a text are no part of its beginning
+pub padded_eight : (s t : List ℕ) → ((i : ℕ) → get_or t i 0 ≡ get_or s i 0) → first_eight t ≡ first_eight s
+unfolding first_eight
+padded_eight s t same = λ j. from_be_bytes w64 (same 0 j ∷ same 1 j ∷ same 2 j ∷ same 3 j ∷ same 4 j ∷ same 5 j ∷ same 6 j ∷ same 7 j ∷ [])
+
+pub padded_eight_behind : (n : ℕ) (s t : List ℕ) → ((i : ℕ) → get_or t i 0 ≡ get_or s i 0) → first_eight (drop n t) ≡ first_eight (drop n s)
+padded_eight_behind n s t same = padded_eight (drop n s) (drop n t) (λ i. get_or-drop n t i 0 ∙ same (n + i) ∙ sym (get_or-drop n s i 0))
+
+-- the front of a text
+pub front_made : (s : List ℕ) (eight len : ℕ) → eight ≡ first_eight s → len ≡ length s → with_len eight len ≡ front_of s
 unfolding front_of
-padded_front s t same = λ j. from_be_bytes w64 (same 0 j ∷ same 1 j ∷ same 2 j ∷ same 3 j ∷ same 4 j ∷ same 5 j ∷ same 6 j ∷ same 7 j ∷ [])
+front_made s eight len eights lens = λ i. with_len (eights i) (lens i)
+
+-- eight more
+abbrev past : ℕ → ℕ
+past n = suc (suc (suc (suc (suc (suc (suc (suc n)))))))
+
+split : (n p : ℕ) (s : List ℕ) → with_bytes (past n) p s ≡ with_bytes 8 (with_bytes n p s) (drop n s)
+split zero p s = refl
+split (suc n) p [] = split n (p * 256) [] ∙ ap (with_bytes 8 (with_bytes n (p * 256) [])) (drop-nil n)
+split (suc n) p (x ∷ s) = split n (p * 256 + x) s
+
+eight_behind : (p : ℕ) (s : List ℕ) → with_bytes 8 p s ≡ p * 18446744073709551616 + first_eight s
+unfolding first_eight
+eight_behind p [] = omega arith
+eight_behind p (a ∷ []) = omega arith
+eight_behind p (a ∷ b ∷ []) = omega arith
+eight_behind p (a ∷ b ∷ c ∷ []) = omega arith
+eight_behind p (a ∷ b ∷ c ∷ d ∷ []) = omega arith
+eight_behind p (a ∷ b ∷ c ∷ d ∷ e ∷ []) = omega arith
+eight_behind p (a ∷ b ∷ c ∷ d ∷ e ∷ f ∷ []) = omega arith
+eight_behind p (a ∷ b ∷ c ∷ d ∷ e ∷ f ∷ g ∷ []) = omega arith
+eight_behind p (a ∷ b ∷ c ∷ d ∷ e ∷ f ∷ g ∷ h ∷ s) = omega arith
+
+past_is : (n : ℕ) (s : List ℕ) → with_bytes (past n) 0 s ≡ with_bytes n 0 s * 18446744073709551616 + first_eight (drop n s)
+past_is n s = split n 0 s ∙ eight_behind (with_bytes n 0 s) (drop n s)
+
+-- where so many bytes are the same, the next eight decide, or what comes behind them
+by_eight : (n : ℕ) (s t : List ℕ) (rest : Ordering) → AreBytes s → AreBytes t → with_bytes n 0 s ≡ with_bytes n 0 t
+    → (with_bytes (past n) 0 s ≡ with_bytes (past n) 0 t → rest ≡ order s t)
+    → ordering_then (nat_cmp (first_eight (drop n s)) (first_eight (drop n t))) rest ≡ order s t
+by_eight n s t rest bs bt same behind = by (cases_order one other)
+  where
+    one : ℕ
+    one = first_eight (drop n s)
+
+    other : ℕ
+    other = first_eight (drop n t)
+
+    by : (one ≡ other) ⊎ ((one < other) ⊎ (other < one)) → ordering_then (nat_cmp one other) rest ≡ order s t
+    by (inl e) = ap (λ o. ordering_then o rest) (sym (nat_cmp_is one other Equal e)) ∙ behind (omega (arith, past_is n s, past_is n t, same, e))
+    by (inr (inl lt)) =
+        ap (λ o. ordering_then o rest) (sym (nat_cmp_is one other Less lt)) ∙ sym (less (past n) 0 s t bs bt (omega (arith, past_is n s, past_is n t, same, lt)))
+    by (inr (inr lt)) =
+        ap (λ o. ordering_then o rest) (sym (nat_cmp_is one other Greater lt))
+        ∙ sym (nat_list_cmp_total.antisymm s t ∙ ap ordering_reverse (less (past n) 0 t s bt bs (omega (arith, past_is n s, past_is n t, same, lt))))
+
+six_of : (s : List ℕ) → with_bytes 7 0 s ≡ with_bytes 6 0 s * 256 + get_or s 6 0
+six_of [] = omega arith
+six_of (a ∷ []) = omega arith
+six_of (a ∷ b ∷ []) = omega arith
+six_of (a ∷ b ∷ c ∷ []) = omega arith
+six_of (a ∷ b ∷ c ∷ d ∷ []) = omega arith
+six_of (a ∷ b ∷ c ∷ d ∷ e ∷ []) = omega arith
+six_of (a ∷ b ∷ c ∷ d ∷ e ∷ f ∷ []) = omega arith
+six_of (a ∷ b ∷ c ∷ d ∷ e ∷ f ∷ g ∷ s) = omega arith
+
+seven_same : (s t : List ℕ) → AreBytes s → AreBytes t → front_of s ≡ front_of t → with_bytes 7 0 s ≡ with_bytes 7 0 t
+seven_same s t bs bt e = omega (arith, e, front_is s bs, front_is t bt)
+
+then_assoc : (a b c : Ordering) → ordering_then (ordering_then a b) c ≡ ordering_then a (ordering_then b c)
+then_assoc Less b c = refl
+then_assoc Equal b c = refl
+then_assoc Greater b c = refl
+
+abbrev at : ℕ → List ℕ → List ℕ → Ordering
+at n s t = nat_cmp (first_eight (drop n s)) (first_eight (drop n t))
+
+-- texts of at most thirty bytes by what stands behind the first six, eight bytes at once, and where it is the same, by length
+pub by_eights : (s t : List ℕ) → AreBytes s → AreBytes t → length s ≤ 30 → length t ≤ 30 → front_of s ≡ front_of t
+    → ordering_then (ordering_then (ordering_then (at 6 s t) (at 14 s t)) (at 22 s t)) (nat_cmp (length s) (length t)) ≡ order s t
+by_eights s t bs bt ss st e =
+    then_assoc (ordering_then (at 6 s t) (at 14 s t)) (at 22 s t) lens
+    ∙ then_assoc (at 6 s t) (at 14 s t) (ordering_then (at 22 s t) lens)
+    ∙ by_eight 6 s t _ bs bt six (λ e14. by_eight 14 s t _ bs bt e14 (λ e22. by_eight 22 s t _ bs bt e22 (λ e30. sym (tied 30 0 s t bs bt e30 (inl ss)))))
+  where
+    lens : Ordering
+    lens = nat_cmp (length s) (length t)
+
+    six : with_bytes 6 0 s ≡ with_bytes 6 0 t
+    six = omega (arith, seven_same s t bs bt e, six_of s, six_of t, bs 6, bt 6)

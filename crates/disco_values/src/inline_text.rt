@@ -1,8 +1,11 @@
 //! A text of few bytes, in the value itself.
-ghost use Rattle.std.specs.Prelude.{◌≡◌, ◌≤◌, ◌++◌, ◌-◌, length, replicate};
-ghost use Rattle.disco_values.specs.Front.{front_of};
+ghost use Rattle.std.specs.Prelude.{◌≡◌, ◌≤◌, ◌+◌, ◌++◌, ◌-◌, drop, length, replicate};
+ghost use Rattle.std.specs.Cmp.Lexicographic.{slice_cmp};
+ghost use Rattle.std.specs.Ordering.{nat_cmp};
+ghost use Rattle.disco_values.specs.Front.{AreBytes, first_eight, front_of};
 
-use crate::front::front_of;
+use crate::front::{eight_of, front_of};
+use std::cmp::Ordering;
 use std::marker::Model;
 use std::str;
 
@@ -67,10 +70,41 @@ impl InlineText {
         unsafe { str::from_utf8_unchecked(&self.bytes[..self.len as usize]) }
     }
 
+    /// Eight bytes from there on as one number, with the zeros that stand behind the text.
+    #[inline(always)]
+    fn eight_at(&self, at: usize) -> u64
+        requires { at + 8 ≤ 30 }
+        ensures { result ≡ first_eight (drop at self.now) }
+    {
+        eight_of(&self.bytes[at..])
+    }
+
+    /// The order of two texts with one front, by what stands behind their first six bytes, eight bytes
+    /// at once. Where that is the same, zeros behind them and all, the shorter one comes first.
+    pub(crate) fn order(&self, other: &InlineText) -> Ordering
+        requires fronts { front_of self.now ≡ front_of other.now }
+        requires one { AreBytes self.now }
+        requires other { AreBytes other.now }
+        ensures { result ≡ slice_cmp nat_cmp self.now other.now }
+    {
+        let one = (
+            self.eight_at(6),
+            self.eight_at(14),
+            self.eight_at(22),
+            self.len,
+        );
+        one.cmp(&(
+            other.eight_at(6),
+            other.eight_at(14),
+            other.eight_at(22),
+            other.len,
+        ))
+    }
+
     /// Its front, with the zeros that stand behind it.
     pub(crate) fn front(&self) -> u64
         ensures { result ≡ front_of self.now }
     {
-        front_of(&self.bytes)
+        front_of(&self.bytes, self.len as usize)
     }
 }

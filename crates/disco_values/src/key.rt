@@ -50,7 +50,7 @@ impl PartialOrd for Key {
     }
 }
 
-/// By hand, so that a search compares keys with no call but for the last bytes of long texts.
+/// By hand, so that a search compares keys with no call but where longer texts begin alike.
 impl Ord for Key {
     ghost use Rattle.std.proofs.Common.{rules};
     ghost use Rattle.std.specs.Cmp.Rules.{comparing};

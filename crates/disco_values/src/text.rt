@@ -9,7 +9,7 @@ ghost use Rattle.disco_values.specs.Text.{in_upper_case};
 ghost use Rattle.disco_values.specs.declared.fault.Fault.TheVariants.{OutOfMemory};
 
 use crate::fault::Fault;
-use crate::front::{FRONT, front_of};
+use crate::front::{front_of, is_whole};
 use crate::inline_text::{InlineText, MOST_INLINE};
 use crate::storage::Storage;
 use std::alloc::{AllocError, Global};
@@ -19,10 +19,8 @@ use std::marker::Model;
 /// A text. Contracts see it as the list of its bytes.
 #[derive(Debug, Drop)]
 pub struct Text {
-    /// The first bytes as a number. By it and the length most texts are told apart with no look at
-    /// their bytes.
+    /// How the text begins, as a number. By it most texts are told apart with no look at their bytes.
     front: u64,
-    len: usize,
     storage: Storage,
 }
 
@@ -35,7 +33,7 @@ impl Model for Text {
 
     ghost view = { λ t. bytes_in t.storage };
 
-    ghost invariant = { λ t. (t.front ≡ front_of (bytes_in t.storage)) × (t.len ≡ length (bytes_in t.storage)) × AreBytes (bytes_in t.storage) };
+    ghost invariant = { λ t. (t.front ≡ front_of (bytes_in t.storage)) × AreBytes (bytes_in t.storage) };
 }
 
 /// A text that is short enough to need no memory of its own.
@@ -46,7 +44,6 @@ fn inline(text: &str) -> Text
     let inline = InlineText::new(text);
     Text {
         front: inline.front(),
-        len: text.len(),
         storage: Storage::Inline(inline),
     }
 }
@@ -58,30 +55,20 @@ fn in_memory(text: String) -> Text
 {
     let bytes = text.as_bytes();
     Text {
-        front: front_of(bytes),
-        len: bytes.len(),
+        front: front_of(bytes, bytes.len()),
         storage: Storage::Heap(text),
     }
 }
 
-/// The order of two texts by all their bytes.
-#[inline(never)]
-fn order_whole(one: &Text, other: &Text) -> Ordering
-    ensures { result ≡ slice_cmp nat_cmp one.now other.now }
-{
-    one.as_str().cmp(other.as_str())
-}
-
 /// The order of two texts with one front.
-#[inline(always)]
+#[inline(never)]
 fn order_behind(one: &Text, other: &Text) -> Ordering
     requires { front_of one.now ≡ front_of other.now }
     ensures { result ≡ slice_cmp nat_cmp one.now other.now }
 {
-    if one.len <= FRONT || other.len <= FRONT {
-        one.len.cmp(&other.len)
-    } else {
-        order_whole(one, other)
+    match (&one.storage, &other.storage) {
+        (Storage::Inline(one), Storage::Inline(other)) => one.order(other),
+        _ => one.as_str().cmp(other.as_str()),
     }
 }
 
@@ -90,9 +77,14 @@ fn order_behind(one: &Text, other: &Text) -> Ordering
 fn order(one: &Text, other: &Text) -> Ordering
     ensures { result ≡ slice_cmp nat_cmp one.now other.now }
 {
-    match one.front.cmp(&other.front) {
-        Ordering::Equal => order_behind(one, other),
-        decided => decided,
+    if one.front > other.front {
+        Ordering::Greater
+    } else if one.front < other.front {
+        Ordering::Less
+    } else if is_whole(one.front) {
+        Ordering::Equal
+    } else {
+        order_behind(one, other)
     }
 }
 
@@ -157,7 +149,7 @@ impl Text {
     pub fn is_empty(&self) -> bool
         ensures { IsTrue result ↔ (self.now ≡ []) }
     {
-        self.len == 0
+        self.as_str().is_empty()
     }
 }
 
@@ -203,7 +195,6 @@ impl Clone for Text {
     fn clone(&self) -> Result<Text, AllocError> {
         Ok(Text {
             front: self.front,
-            len: self.len,
             storage: self.storage.clone()?,
         })
     }
@@ -219,7 +210,7 @@ impl PartialEq for Text {
     ghost laws = { Cmp.partial_equiv_from_equiv nat_list_eq_equiv };
 
     fn eq(&self, other: &Text) -> bool {
-        self.as_str() == other.as_str()
+        order(self, other).is_eq()
     }
 }
 
