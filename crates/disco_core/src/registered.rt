@@ -139,6 +139,7 @@ impl Ready {
 }
 
 /// What is ready of an operation, with its change once more.
+#[inline(always)]
 fn with_kept(
     ready: disco_registry::Ready,
     key: Key,
@@ -160,6 +161,7 @@ fn with_kept(
 
 /// Makes the registry ready for an operation. Refused as the operation is, and as `OutOfMemory`. The
 /// record of a registration is moved on, and so is the key of any other operation.
+#[inline(always)]
 fn accept(held: &mut Registry, op: Op, now: u64) -> Result<Ready, Fault>
     ensures same { registry.IsSameRegistry held.old held.new }
     ensures ready { IfOk result (λ r. accepts held.old (op_view op) now ≡ Ok r.change × commit.IsReady held.new r.change) }
@@ -173,6 +175,7 @@ fn accept(held: &mut Registry, op: Op, now: u64) -> Result<Ready, Fault>
     }
 }
 
+#[inline(always)]
 fn accept_registration(held: &mut Registry, posted: Record, now: u64) -> Result<Ready, Fault>
     ensures same { registry.IsSameRegistry held.old held.new }
     ensures ready { IfOk result (λ r. accepts held.old (register (row posted)) now ≡ Ok r.change × commit.IsReady held.new r.change) }
@@ -185,6 +188,7 @@ fn accept_registration(held: &mut Registry, posted: Record, now: u64) -> Result<
     with_kept(ready, key, false, now)
 }
 
+#[inline(always)]
 fn accept_other(held: &mut Registry, op: Op, now: u64) -> Result<Ready, Fault>
     ensures same { registry.IsSameRegistry held.old held.new }
     ensures ready { IfOk result (λ r. accepts held.old (op_view op) now ≡ Ok r.change × commit.IsReady held.new r.change) }
@@ -198,6 +202,7 @@ fn accept_other(held: &mut Registry, op: Op, now: u64) -> Result<Ready, Fault>
 }
 
 /// The key that an operation is about.
+#[inline(always)]
 fn into_key(op: Op) -> Key
     ensures { result ≡ op_key (op_view op) }
 {

@@ -96,6 +96,7 @@ fn same_ready() -> Ready
 }
 
 /// A record with what its last change did.
+#[inline(always)]
 fn kept_as(alloc: Global, rec: Record, action: Action) -> Result<Held, AllocError>
     ensures { IfOk result (λ h. entry_of h ≡ (row rec, action)) }
 {
@@ -106,6 +107,7 @@ fn kept_as(alloc: Global, rec: Record, action: Action) -> Result<Held, AllocErro
 }
 
 /// What is ready for a record that is put.
+#[inline(always)]
 fn put_ready(kept: Held) -> Result<Ready, Fault>
     requires { put_of (entry_of kept) ≡ Some (entry_of kept) }
     ensures memory { IfErr result (λ e. e ≡ OutOfMemory) }
@@ -134,6 +136,7 @@ fn gone_ready(alloc: Global, record_out: Record) -> Result<Ready, Fault>
 }
 
 /// What is ready for a record that a change of its status or its override puts at a moment.
+#[inline(always)]
 fn modified_ready(
     alloc: Global,
     held: &Record,
