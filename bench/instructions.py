@@ -1,6 +1,7 @@
 """Counts the instructions of an event of `replay`: instructions.py PROGRAM FOLDER SIZE..
 
-Another program that reads the same lines, and whose path is in the variable PEER, is counted beside it."""
+Another program that reads the same lines, and whose path is in the variable PEER, is counted beside it.
+Where the variable NAMES is `long`, apps and instances have names of 17 to 33 bytes, which begin alike."""
 
 import os
 import re
@@ -24,9 +25,17 @@ FEW = 20
 TUNABLES = "glibc.cpu.x86_rep_stosb_threshold=1000000000:glibc.cpu.x86_rep_movsb_threshold=1000000000"
 
 
+def named(line):
+    """The line with the names that are asked for."""
+    if os.environ.get("NAMES") != "long":
+        return line
+    line = re.sub(r"APP(\d+)", r"PAYMENT-SERVICE-\1", line)
+    return re.sub(r'(?<=[ "])i(\d+)', r"ip-10-0-0-\1.internal:app:7001", line)
+
+
 def counted(program, path, lines):
     """The instructions of a run on these lines."""
-    write_lines(path, lines)
+    write_lines(path, map(named, lines))
     command = ["valgrind", "--tool=callgrind", "--callgrind-out-file=/dev/null", program, "replay"]
     environment = dict(os.environ, GLIBC_TUNABLES=TUNABLES)
     with open(path, encoding="ascii") as events:
