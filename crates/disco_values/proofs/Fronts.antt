@@ -22,6 +22,10 @@ with_bytes zero p s = p
 with_bytes (suc n) p [] = with_bytes n (p * 256) []
 with_bytes (suc n) p (x ∷ s) = with_bytes n (p * 256 + x) s
 
+-- the same bytes up to there, zeros behind them and all
+abbrev pub AreSame : ℕ → List ℕ → List ℕ → Type 0
+AreSame n s t = with_bytes n 0 s ≡ with_bytes n 0 t
+
 eight_is : (s : List ℕ) → first_eight s ≡ with_bytes 7 0 s * 256 + get_or s 7 0
 unfolding first_eight
 eight_is [] = omega arith
@@ -192,11 +196,10 @@ eight_behind p (a ∷ b ∷ c ∷ d ∷ e ∷ f ∷ g ∷ h ∷ s) = omega arith
 past_is : (n : ℕ) (s : List ℕ) → with_bytes (past n) 0 s ≡ with_bytes n 0 s * 18446744073709551616 + first_eight (drop n s)
 past_is n s = split n 0 s ∙ eight_behind (with_bytes n 0 s) (drop n s)
 
--- where so many bytes are the same, the next eight decide, or what comes behind them
-by_eight : (n : ℕ) (s t : List ℕ) (rest : Ordering) → AreBytes s → AreBytes t → with_bytes n 0 s ≡ with_bytes n 0 t
-    → (with_bytes (past n) 0 s ≡ with_bytes (past n) 0 t → rest ≡ order s t)
-    → ordering_then (nat_cmp (first_eight (drop n s)) (first_eight (drop n t))) rest ≡ order s t
-by_eight n s t rest bs bt same behind = by (cases_order one other)
+-- where so many bytes are the same, the next eight decide if they differ
+pub eight_decide : (n : ℕ) (s t : List ℕ) → AreBytes s → AreBytes t → AreSame n s t → (first_eight (drop n s) ≡ first_eight (drop n t) → ⊥)
+    → nat_cmp (first_eight (drop n s)) (first_eight (drop n t)) ≡ order s t
+eight_decide n s t bs bt same differ = by (cases_order one other)
   where
     one : ℕ
     one = first_eight (drop n s)
@@ -204,13 +207,16 @@ by_eight n s t rest bs bt same behind = by (cases_order one other)
     other : ℕ
     other = first_eight (drop n t)
 
-    by : (one ≡ other) ⊎ ((one < other) ⊎ (other < one)) → ordering_then (nat_cmp one other) rest ≡ order s t
-    by (inl e) = ap (λ o. ordering_then o rest) (sym (nat_cmp_is one other Equal e)) ∙ behind (omega (arith, past_is n s, past_is n t, same, e))
-    by (inr (inl lt)) =
-        ap (λ o. ordering_then o rest) (sym (nat_cmp_is one other Less lt)) ∙ sym (less (past n) 0 s t bs bt (omega (arith, past_is n s, past_is n t, same, lt)))
+    by : (one ≡ other) ⊎ ((one < other) ⊎ (other < one)) → nat_cmp one other ≡ order s t
+    by (inl e) = absurd (differ e)
+    by (inr (inl lt)) = sym (nat_cmp_is one other Less lt) ∙ sym (less (past n) 0 s t bs bt (omega (arith, past_is n s, past_is n t, same, lt)))
     by (inr (inr lt)) =
-        ap (λ o. ordering_then o rest) (sym (nat_cmp_is one other Greater lt))
+        sym (nat_cmp_is one other Greater lt)
         ∙ sym (nat_list_cmp_total.antisymm s t ∙ ap ordering_reverse (less (past n) 0 t s bt bs (omega (arith, past_is n s, past_is n t, same, lt))))
+
+-- and else they are the same with them
+pub eight_same : (n : ℕ) (s t : List ℕ) → AreSame n s t → first_eight (drop n s) ≡ first_eight (drop n t) → AreSame (past n) s t
+eight_same n s t same e = omega (arith, past_is n s, past_is n t, same, e)
 
 six_of : (s : List ℕ) → with_bytes 7 0 s ≡ with_bytes 6 0 s * 256 + get_or s 6 0
 six_of [] = omega arith
@@ -225,24 +231,10 @@ six_of (a ∷ b ∷ c ∷ d ∷ e ∷ f ∷ g ∷ s) = omega arith
 seven_same : (s t : List ℕ) → AreBytes s → AreBytes t → front_of s ≡ front_of t → with_bytes 7 0 s ≡ with_bytes 7 0 t
 seven_same s t bs bt e = omega (arith, e, front_is s bs, front_is t bt)
 
-then_assoc : (a b c : Ordering) → ordering_then (ordering_then a b) c ≡ ordering_then a (ordering_then b c)
-then_assoc Less b c = refl
-then_assoc Equal b c = refl
-then_assoc Greater b c = refl
+-- texts with one front have the same first six bytes
+pub six_same : (s t : List ℕ) → AreBytes s → AreBytes t → front_of s ≡ front_of t → AreSame 6 s t
+six_same s t bs bt e = omega (arith, seven_same s t bs bt e, six_of s, six_of t, bs 6, bt 6)
 
-abbrev at : ℕ → List ℕ → List ℕ → Ordering
-at n s t = nat_cmp (first_eight (drop n s)) (first_eight (drop n t))
-
--- texts of at most thirty bytes by what stands behind the first six, eight bytes at once, and where it is the same, by length
-pub by_eights : (s t : List ℕ) → AreBytes s → AreBytes t → length s ≤ 30 → length t ≤ 30 → front_of s ≡ front_of t
-    → ordering_then (ordering_then (ordering_then (at 6 s t) (at 14 s t)) (at 22 s t)) (nat_cmp (length s) (length t)) ≡ order s t
-by_eights s t bs bt ss st e =
-    then_assoc (ordering_then (at 6 s t) (at 14 s t)) (at 22 s t) lens
-    ∙ then_assoc (at 6 s t) (at 14 s t) (ordering_then (at 22 s t) lens)
-    ∙ by_eight 6 s t _ bs bt six (λ e14. by_eight 14 s t _ bs bt e14 (λ e22. by_eight 22 s t _ bs bt e22 (λ e30. sym (tied 30 0 s t bs bt e30 (inl ss)))))
-  where
-    lens : Ordering
-    lens = nat_cmp (length s) (length t)
-
-    six : with_bytes 6 0 s ≡ with_bytes 6 0 t
-    six = omega (arith, seven_same s t bs bt e, six_of s, six_of t, bs 6, bt 6)
+-- texts whose bytes are all the same, but for zeros behind them, are in the order of their lengths
+pub all_same : (s t : List ℕ) → AreBytes s → AreBytes t → length s ≤ 30 → AreSame 30 s t → nat_cmp (length s) (length t) ≡ order s t
+all_same s t bs bt ss same = sym (tied 30 0 s t bs bt same (inl ss))

@@ -87,18 +87,17 @@ impl InlineText {
         requires other { AreBytes other.now }
         ensures { result ≡ slice_cmp nat_cmp self.now other.now }
     {
-        let one = (
-            self.eight_at(6),
-            self.eight_at(14),
-            self.eight_at(22),
-            self.len,
-        );
-        one.cmp(&(
-            other.eight_at(6),
-            other.eight_at(14),
-            other.eight_at(22),
-            other.len,
-        ))
+        // Whether eight bytes differ is seen before they are made a number to compare.
+        if self.eight_at(6) != other.eight_at(6) {
+            return self.eight_at(6).cmp(&other.eight_at(6));
+        }
+        if self.eight_at(14) != other.eight_at(14) {
+            return self.eight_at(14).cmp(&other.eight_at(14));
+        }
+        if self.eight_at(22) != other.eight_at(22) {
+            return self.eight_at(22).cmp(&other.eight_at(22));
+        }
+        self.len.cmp(&other.len)
     }
 
     /// Its front, with the zeros that stand behind it.
