@@ -1,17 +1,21 @@
 //! How the leases follow a change, and an operation without one.
-ghost use Rattle.std.specs.Prelude.{◌≡◌, IfErr, None, OnOk, Some, true};
+ghost use Rattle.std.specs.Prelude.{◌≡◌, Err, IfErr, None, Ok, OnErr, OnOk, Some, true};
 ghost use Rattle.disco_values.specs.declared.fault.Fault.TheVariants.{OutOfMemory};
 ghost use Rattle.disco_history.specs.Change.{key_of, change_view};
+ghost use Rattle.disco_index.specs.Tally.{tally_in};
 ghost use Rattle.disco_lease.specs.Leases.{HasPlace, IsFilled, IsSameLeases, KeepsOthers, Sets, extended, lease_at, marked};
-ghost use Rattle.disco_registry.specs.Op.{op_view};
+ghost use Rattle.disco_registry.specs.Accept.{accepts};
+ghost use Rattle.disco_registry.specs.Op.{op_view, renew};
 ghost use Rattle.disco_core.specs.Moves.{FollowsChange, GoesOn};
 ghost use Rattle.disco_core.specs.State.{is_renewal};
+ghost use Rattle.disco_core.specs.Tied.{AreLeased};
 
 use disco_history::Change;
+use disco_index::Counts;
 use disco_instance::Record;
 use disco_lease::LeaseBook;
-use disco_registry::Op;
-use disco_values::{Action, Fault, Key};
+use disco_registry::{Op, Registry};
+use disco_values::{Action, Fault, Key, Status};
 
 /// Whether an operation is a renewal.
 pub(crate) fn is_renewal(op: &Op) -> bool
@@ -95,4 +99,28 @@ pub(crate) fn keep(leases: &mut LeaseBook, key: &Key, renewal: bool, now: u64)
     } else {
         leases.touch(key, now)
     };
+}
+
+/// Renews the lease of a key, where the registry accepts that. Each instance has a lease, and only one of
+/// unknown status may not renew it: so the record is sought only where some instance is of that status.
+pub(crate) fn renew(
+    leases: &mut LeaseBook,
+    registry: &Registry,
+    counts: &Counts,
+    key: &Key,
+    now: u64,
+) -> Result<(), Fault>
+    requires leased { AreLeased registry.now.held leases.old }
+    requires tally { counts.now ≡ tally_in registry.now.held }
+    ensures accepted { OnOk result (accepts registry.now (renew key.now) now ≡ Ok None) }
+    ensures goes_on { OnOk result (GoesOn key.now true now leases.old leases.new) }
+    ensures refused { IfErr result (λ e. accepts registry.now (renew key.now) now ≡ Err e) }
+    ensures as_before { OnErr result (leases.new ≡ leases.old) }
+    ensures leased { AreLeased registry.now.held leases.new }
+{
+    if counts.of(Status::Unknown) > 0 {
+        registry.admit_renewal(key)?;
+    }
+    leases.renew(key, now)?;
+    Ok(())
 }

@@ -449,13 +449,7 @@ impl Core {
         ensures as_before { OnErr result (self.new ≡ self.old) }
         ensures rest { self.new ≡ record self.old { leases = self.new.leases } }
     {
-        match self.registry.admit_renewal(key) {
-            Ok(()) => {
-                keep(&mut self.leases, key, true, now);
-                Ok(())
-            }
-            Err(fault) => Err(fault),
-        }
+        leases::renew(&mut self.leases, &self.registry, &self.counts, key, now)
     }
 
     /// Forgets the recent changes that are older than the retention at a moment in milliseconds, up

@@ -51,6 +51,19 @@ impl Counts {
         }
     }
 
+    /// How many instances have the status. Takes no memory.
+    pub fn of(&self, status: Status) -> u64
+        ensures { result ≡ count_in self.now status }
+    {
+        match status {
+            Status::Down => self.down,
+            Status::OutOfService => self.out_of_service,
+            Status::Starting => self.starting,
+            Status::Unknown => self.unknown,
+            Status::Up => self.up,
+        }
+    }
+
     /// The same numbers once more. Takes no memory.
     pub fn again(&self) -> Counts
         ensures { result ≡ self.now }
