@@ -3,4 +3,5 @@ mod Histories
 mod LastChanges
 mod Numbering
 mod Places
+mod Superseding
 mod Walks

@@ -10,8 +10,9 @@ use Rattle.disco_values.specs.Key.{key_cmp, same_key}
 use Rattle.disco_values.specs.declared.key.Key.{Key}
 use Rattle.disco_history.specs.Change.{Entry, key_of, last}
 use Rattle.disco_history.proofs.Keys.{same_is}
+use Rattle.disco_history.proofs.Restrictions.{last_key}
 use Rattle.disco_history.specs.Slots.{AltersAt, opened, written}
-use Rattle.disco_queue.specs.Numbers.{AreNumbered, LeavesNone, last_number, later_or, number_kept, numbered}
+use Rattle.disco_queue.specs.Numbers.{AreNumbered, LeavesNone, last_number, later_or, number_in, number_kept, numbered}
 
 abbrev Places : Type 0
 Places = FinMap key_cmp ℕ
@@ -102,6 +103,38 @@ number_left old new before e es alters are k =
     one : (b : Bool) → unwrap_or (get old k) 0 ≡ later_or (last_number (before + 1) es k) (cond b (before + 1) 0) → unwrap_or (cond b (number_kept (before + 1) (get old k)) (get old k)) 0 ≡ last_number (before + 1) es k
     one true is = own_key before es (get old k) (last_number (before + 1) es k) (last es k) (placed (before + 1) es k) is
     one false is = other_key (get old k) (last_number (before + 1) es k) is
+
+-- a change leaves that isn't its key's last
+stays : (before : ℕ) (es : List Entry) (o : Option ℕ) (n here : ℕ) (x : Option Entry) → Placed (before + 1) n es x → IsSome x → unwrap_or o 0 ≡ later_or n here → o ≡ number_kept (before + 1) o
+stays before es o n here x (nowhere z none) some is = absurd (let bad = subst (λ (y : Option Entry). IsSome y) none some in cc)
+stays before es None n here x (there i e at found found_at) some is = refl
+stays before es (Some m) n here x (there i e at found found_at) some is =
+    let later : m ≡ n = is ∙ some_later n here (omega (arith, at)) in
+    sym (ap (λ b. cond b None (Some m)) (not_same m (before + 1) (omega (arith, later, at))))
+
+pub followed_left : (places : Places) (before : ℕ) (e : Entry) (es : List Entry) → IsSome (last es (key_of e)) → AreNumbered places before (e ∷ es) → AreNumbered places (before + 1) es
+followed_left places before e es later are = number_left places places before e es (λ q. one q (same_key q (key_of e)) refl) are
+  where
+    own : get places (key_of e) ≡ number_kept (before + 1) (get places (key_of e))
+    own =
+        let k = key_of e in
+        stays before es (get places k) (last_number (before + 1) es k) (cond (same_key k k) (before + 1) 0) (last es k) (placed (before + 1) es k) later (are k)
+
+    one : (q : Key) (b : Bool) → same_key q (key_of e) ≡ b → get places q ≡ cond b (number_kept (before + 1) (get places q)) (get places q)
+    one q false same = refl
+    one q true same = subst (λ (p : Key). get places p ≡ number_kept (before + 1) (get places p)) (sym (same_is q (key_of e) same)) own
+
+-- where the number of a key's last change is found
+pub last_placed : (places : Places) (before number : ℕ) (es : List Entry) (k : Key) → AreNumbered places before es → number ≡ number_in places k → before < number
+    → (i : ℕ) × (e : Entry) × (number ≡ before + i + 1) × (slice_get es i ≡ Some e) × (same_key k (key_of e) ≡ true)
+last_placed places before number es k are is after = by (last es k) refl (placed before es k)
+  where
+    last_is : number ≡ last_number before es k
+    last_is = is ∙ are k
+
+    by : (o : Option Entry) → last es k ≡ o → Placed before (last_number before es k) es o → (i : ℕ) × (e : Entry) × (number ≡ before + i + 1) × (slice_get es i ≡ Some e) × (same_key k (key_of e) ≡ true)
+    by o found (nowhere z none) = absurd (omega (arith, after, last_is, z))
+    by o found (there i e at some found_at) = (i, e, last_is ∙ at, found_at, last_key es k e (found ∙ some))
 
 -- ---- an empty place
 

@@ -2,5 +2,6 @@ pub mod Base
 pub mod Numbers
 pub mod Queue
 pub mod Seen
+pub mod Superseded
 pub mod Timed
 pub mod Worked

@@ -9,5 +9,7 @@ use disco_history::Change;
 pub(crate) struct Kept {
     pub(crate) change: Change,
     pub(crate) moment: u64,
+    /// A later change of the same key is kept too, so this one isn't its last.
+    pub(crate) superseded: bool,
     ghost proper: { is_proper change ≡ true },
 }

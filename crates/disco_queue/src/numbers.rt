@@ -5,7 +5,7 @@ ghost use Rattle.std.specs.List.{All};
 ghost use Rattle.disco_history.specs.Change.{is_proper, change_view};
 ghost use Rattle.disco_history.specs.Mentions.{delta};
 ghost use Rattle.disco_history.specs.Slots.{AltersAt, opened, written};
-ghost use Rattle.disco_queue.specs.Numbers.{AreNumbered, number_kept};
+ghost use Rattle.disco_queue.specs.Numbers.{AreNumbered, number_in, number_kept};
 ghost use Rattle.disco_queue.specs.Seen.{change_of};
 
 use crate::kept::Kept;
@@ -57,12 +57,19 @@ impl Numbers {
         Ok(())
     }
 
-    /// Puts a number into the place of a key, where it has one.
-    pub(crate) fn put(&mut self, key: &Key, number: u64)
-        ensures { AltersAt (written number) key.now self.old self.new }
+    /// Puts a number into the place of a key, where it has one. Answers the number that stood there, 0
+    /// where there was none.
+    pub(crate) fn put(&mut self, key: &Key, number: u64) -> u64
+        ensures put { AltersAt (written number) key.now self.old self.new }
+        ensures before { result ≡ number_in self.old key.now }
     {
-        if let Some(place) = self.places.get_mut(key) {
-            *place = number;
+        match self.places.get_mut(key) {
+            Some(place) => {
+                let before = *place;
+                *place = number;
+                before
+            }
+            None => 0,
         }
     }
 

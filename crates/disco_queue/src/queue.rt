@@ -7,7 +7,8 @@ ghost use Rattle.disco_values.specs.declared.fault.Fault.TheVariants.{OutOfMemor
 ghost use Rattle.disco_history.specs.Change.{Entry, is_proper, key_of, change_view};
 ghost use Rattle.disco_history.specs.Mentions.{delta};
 ghost use Rattle.disco_queue.specs.Numbers.{AreNumbered, LeavesNone};
-ghost use Rattle.disco_queue.specs.Seen.{change_of};
+ghost use Rattle.disco_queue.specs.Seen.{change_of, timed};
+ghost use Rattle.disco_queue.specs.Superseded.{AreSuperseded, IsFollowedAt};
 ghost use Rattle.disco_queue.specs.Base.{base_after_change, base_after_cleaning, leaving};
 ghost use Rattle.disco_queue.specs.Queue.{AddsNoneEmpty, AreFilled, HasNumberPlace, HasRoom, IsSameQueue, KeepsHistory, OpensPlace, newest, version};
 ghost use Rattle.disco_queue.specs.Timed.{Timed, changes};
@@ -39,6 +40,7 @@ impl Model for ChangedQueue {
     ghost use Rattle.disco_queue.specs.Numbers.{AreNumbered};
     ghost use Rattle.disco_queue.specs.Queue.{IsWithin, Queue};
     ghost use Rattle.disco_queue.specs.Seen.{change_of, timed};
+    ghost use Rattle.disco_queue.specs.Superseded.{AreSuperseded};
 
     ghost Value = { Queue };
 
@@ -52,24 +54,50 @@ impl Model for ChangedQueue {
       places = q.numbers;
     } };
 
-    ghost invariant = { λ q. IsWithin q.max q.base (deque_len q.kept) × AreNumbered q.numbers q.base (map change_of q.kept.items) };
+    ghost invariant = { λ q. IsWithin q.max q.base (deque_len q.kept) × AreNumbered q.numbers q.base (map change_of q.kept.items)
+        × AreSuperseded q.kept.items };
 }
 
 /// The oldest change leaves, and the place of its key where it is the key's last.
 fn drop_front(kept: &mut VecDeque<Kept>, base: &mut u64, numbers: &mut Numbers)
     requires some { 0 < deque_len kept.old }
     requires fits { base.old + 1 < 2 ^ 64 }
+    requires superseded { AreSuperseded kept.old.items }
     ensures kept { kept.new.items ≡ drop 1 kept.old.items }
     ensures len { deque_len kept.new + 1 ≡ deque_len kept.old }
     ensures capacity { deque_capacity kept.new ≡ deque_capacity kept.old }
     ensures base { base.new ≡ base.old + 1 }
     ensures empty { LeavesNone numbers.old numbers.new }
+    ensures superseded { AreSuperseded kept.new.items }
     ensures numbers { (es : List Entry) → AreNumbered numbers.old base.old (map change_of kept.old.items ++ es)
         → AreNumbered numbers.new base.new (map change_of kept.new.items ++ es) }
 {
     if let Some(oldest) = kept.pop_front() {
         *base += 1;
+        if oldest.superseded {
+            return;
+        }
         numbers.close(oldest.change.key(), *base);
+    }
+}
+
+/// Notes of the change of a number, where it is kept, of which so many others come before, that a later
+/// one of its key is kept.
+fn supersede(kept: &mut VecDeque<Kept>, base: u64, number: u64)
+    requires superseded { AreSuperseded kept.old.items }
+    requires followed { base < number → IsFollowedAt kept.old.items (number - base - 1) }
+    ensures changes { map timed kept.new.items ≡ map timed kept.old.items }
+    ensures entries { map change_of kept.new.items ≡ map change_of kept.old.items }
+    ensures len { deque_len kept.new ≡ deque_len kept.old }
+    ensures capacity { deque_capacity kept.new ≡ deque_capacity kept.old }
+    ensures superseded { AreSuperseded kept.new.items }
+{
+    if number <= base {
+        return;
+    }
+    let place = number - base - 1;
+    if let Some(earlier) = kept.get_mut(place as usize) {
+        earlier.superseded = true;
     }
 }
 
@@ -162,14 +190,16 @@ impl ChangedQueue {
     {
         let number = self.version() + 1;
         let is_full = self.is_full();
-        self.numbers.put(change.key(), number);
+        let earlier = self.numbers.put(change.key(), number);
         if is_full {
             drop_front(&mut self.kept, &mut self.base, &mut self.numbers);
         }
         self.kept.push_back_reserved(Kept {
             change,
             moment: now,
+            superseded: false,
         });
+        supersede(&mut self.kept, self.base, earlier);
     }
 
     /// Drops changes at the front: those before the first whose moment is not below `now` less

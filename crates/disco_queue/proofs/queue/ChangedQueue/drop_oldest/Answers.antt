@@ -12,4 +12,5 @@ invariant_of-self c =
     let numbered_after = λ (es : List Entry). AreNumbered c.drop_front.new.numbers c.drop_front.new.base es in (
       record { some = within.some; few = omega (arith, within.few, step.len); fits = omega (arith, within.fits, step.base, step.len) },
       subst numbered_after (append-nil (map change_of c.drop_front.new.kept.items)) (step.numbers [] (subst numbered (sym (append-nil (map change_of c.self.inside.kept.items))) c.self.invariant.1)),
+      step.superseded,
     )
