@@ -11,5 +11,5 @@ mod shared;
 
 pub use desk::answer_on;
 pub use hub::answer_hub;
-pub use locked::answer;
+pub use locked::{answer, answer_with};
 pub use shared::Shared;

@@ -11,12 +11,13 @@ ghost use Rattle.disco_answers.specs.Replies.{shared_text};
 use crate::desk::answer_read;
 use crate::replies::showing;
 use crate::shared::Shared;
-use disco_calls::{Call, call_of};
+use disco_calls::{Call, call_of_with};
 use disco_editions::{Looked, Naming};
 use disco_message::{Reply, Request};
 use disco_press::{Desk, Seat};
 use disco_routes::Routes;
 use disco_values::Fault;
+use json::Scratch;
 use std::alloc::Global;
 use std::sync::{Mutex, MutexGuard, Wait};
 
@@ -55,6 +56,25 @@ fn answer_locked<J: Naming, R: Wait>(
     reply
 }
 
+/// The reply to what is called for: where that is a document which readers share, the seat looks for
+/// it first.
+fn answer_called<J: Naming, R: Wait>(
+    rt: &R,
+    desk: &Mutex<Desk<J>>,
+    seat: &mut Seat<J>,
+    called: Result<Call, Fault>,
+    now: u64,
+) -> Reply<Shared>
+    ensures told { (asked : Result CallView Fault) → Gives call_view called asked
+        → IsLookOrCall seat.old seat.new asked now (reply_view shared_text result) }
+    ensures known { IsPrefix seat.old.known seat.new.known }
+{
+    match looked(seat, &called) {
+        Some(reply) => reply,
+        None => answer_locked(rt, desk, seat, called, now),
+    }
+}
+
 /// The reply to a request at a moment in milliseconds. Where it asks for a document that readers
 /// share, the seat looks for it first, without the lock and waiting for nobody. What no look finds,
 /// and every other request, the desk answers under its lock, as [`crate::answer_on`] does.
@@ -70,9 +90,25 @@ pub fn answer<J: Naming, R: Wait>(
     ensures told { IsLookOrCall seat.old seat.new (call request.now) now (reply_view shared_text result) }
     ensures known { IsPrefix seat.old.known seat.new.known }
 {
-    let called = call_of(alloc, routes, request);
-    match looked(seat, &called) {
-        Some(reply) => reply,
-        None => answer_locked(rt, desk, seat, called, now),
-    }
+    let mut scratch = Scratch::new(alloc);
+    answer_with(rt, alloc, routes, desk, seat, request, now, &mut scratch)
+}
+
+/// The reply to a request, as [`answer`] gives it. The room that reading a registration needs is
+/// lent, so that who answers many makes it once.
+pub fn answer_with<J: Naming, R: Wait>(
+    rt: &R,
+    alloc: Global,
+    routes: &Routes,
+    desk: &Mutex<Desk<J>>,
+    seat: &mut Seat<J>,
+    request: &Request,
+    now: u64,
+    scratch: &mut Scratch,
+) -> Reply<Shared>
+    ensures told { IsLookOrCall seat.old seat.new (call request.now) now (reply_view shared_text result) }
+    ensures known { IsPrefix seat.old.known seat.new.known }
+{
+    let called = call_of_with(alloc, routes, request, scratch);
+    answer_called(rt, desk, seat, called, now)
 }

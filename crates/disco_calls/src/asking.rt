@@ -13,13 +13,14 @@ use crate::method::{Method, allow_of, lists, method_of};
 use crate::query::split_target;
 use disco_message::Request;
 use disco_operations::{
-    add_metadata, cancel, drop_status, entries_of_query, key_named, register, renew, set_status,
-    value_of,
+    add_metadata, cancel, drop_status, entries_of_query, key_named, register_with, renew,
+    set_status, value_of,
 };
 use disco_query::{DocKey, Query};
 use disco_registry::Op;
 use disco_routes::{Place, Routes};
 use disco_values::{Fault, Form, Text, upper};
+use json::Scratch;
 use std::alloc::Global;
 use std::str;
 
@@ -53,11 +54,16 @@ fn call_of_get(alloc: Global, place: Place<Text>, request: &Request) -> Result<C
 }
 
 /// What a POST with a body asks for.
-fn post_of(alloc: Global, place: Place<Text>, body: &[u8]) -> Result<Op, Fault>
+fn post_of(
+    alloc: Global,
+    place: Place<Text>,
+    body: &[u8],
+    scratch: &mut Scratch,
+) -> Result<Op, Fault>
     ensures { Gives op_view result (post_of place body.now) }
 {
     match place {
-        Place::App { app } => register(alloc, &app, body),
+        Place::App { app } => register_with(alloc, &app, body, scratch),
         _ => Err(Fault::BadMethod),
     }
 }
@@ -97,12 +103,13 @@ fn call_by(
     place: Place<Text>,
     request: &Request,
     query: &[u8],
+    scratch: &mut Scratch,
 ) -> Result<Call, Fault>
     ensures { Gives call_view result (call_by method place request.now query.now) }
 {
     match method {
         Method::Get => call_of_get(alloc, place, request),
-        Method::Post => Ok(Call::Write(post_of(alloc, place, request.body())?)),
+        Method::Post => Ok(Call::Write(post_of(alloc, place, request.body(), scratch)?)),
         Method::Put => Ok(Call::Write(put_of(alloc, place, query)?)),
         Method::Delete => Ok(Call::Write(delete_of(alloc, place, query)?)),
         Method::Other => Err(Fault::BadMethod),
@@ -116,6 +123,7 @@ fn call_at(
     place: Place<&[u8]>,
     request: &Request,
     query: &[u8],
+    scratch: &mut Scratch,
 ) -> Result<Call, Fault>
     ensures { Gives call_view result (called method (place_view place.entry) request.now query.now) }
 {
@@ -124,7 +132,7 @@ fn call_at(
         return Ok(Call::Lacks(allow));
     }
     match decoded(alloc, place)? {
-        Some(place) => call_by(alloc, method, place, request, query),
+        Some(place) => call_by(alloc, method, place, request, query, scratch),
         None => Err(Fault::BadRequest),
     }
 }
@@ -141,6 +149,24 @@ fn call_at(
 pub fn call_of(alloc: Global, routes: &Routes, request: &Request) -> Result<Call, Fault>
     ensures { Gives call_view result (call request.now) }
 {
+    let mut scratch = Scratch::new(alloc);
+    call_of_with(alloc, routes, request, &mut scratch)
+}
+
+/// What a request asks for, as [`call_of`] tells it. The room that reading a registration needs is
+/// lent, so that who reads many makes it once.
+///
+/// # Errors
+///
+/// As of [`call_of`].
+pub fn call_of_with(
+    alloc: Global,
+    routes: &Routes,
+    request: &Request,
+    scratch: &mut Scratch,
+) -> Result<Call, Fault>
+    ensures { Gives call_view result (call request.now) }
+{
     let (path, query) = split_target(request.target());
     let Ok(path) = str::from_utf8(path) else {
         return Err(Fault::BadRequest);
@@ -148,7 +174,7 @@ pub fn call_of(alloc: Global, routes: &Routes, request: &Request) -> Result<Call
     match routes.find(path) {
         Some(place) => {
             let method = method_of(request.method());
-            call_at(alloc, method, place, request, query)
+            call_at(alloc, method, place, request, query, scratch)
         }
         None => Err(Fault::NotFound),
     }

@@ -10,5 +10,5 @@ pub mod laws;
 mod method;
 mod query;
 
-pub use asking::call_of;
+pub use asking::{call_of, call_of_with};
 pub use call::Call;

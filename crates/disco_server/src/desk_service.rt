@@ -2,13 +2,14 @@
 ghost use Rattle.std.specs.Prelude.{◌≡◌};
 
 use crate::gate::{Gate, Point};
-use disco_answers::{Shared, answer};
+use disco_answers::{Shared, answer_with};
 use disco_editions::Naming;
 use disco_http::Service;
 use disco_message::{Reply, Request};
 use disco_press::{Desk, Seat};
 use disco_routes::Routes;
 use disco_timers::Clock;
+use json::Scratch;
 use std::alloc::Global;
 use std::sync::{Mutex, Wait};
 
@@ -34,6 +35,8 @@ pub struct DeskService<'a, J: Naming, R, C, G> {
     pub clock: C,
     /// The number of the connection, from 1.
     pub connection: u64,
+    /// Room that the reading of a registration needs, kept for the next.
+    scratch: Scratch,
 }
 
 impl<'a, J: Naming, R, C, G> DeskService<'a, J, R, C, G> {
@@ -53,6 +56,7 @@ impl<'a, J: Naming, R, C, G> DeskService<'a, J, R, C, G> {
             seat,
             clock,
             connection: 0,
+            scratch: Scratch::new(context.alloc),
         }
     }
 
@@ -74,7 +78,7 @@ impl<'a, J: Naming, R: Wait, C: Clock, G: Gate> Service for DeskService<'a, J, R
     fn call(&mut self, request: &Request) -> Reply<Shared> {
         self.context.gate.pass(Point::Received(self.connection));
         let now = self.clock.now();
-        let reply = answer(
+        let reply = answer_with(
             self.context.rt,
             self.context.alloc,
             &self.routes,
@@ -82,6 +86,7 @@ impl<'a, J: Naming, R: Wait, C: Clock, G: Gate> Service for DeskService<'a, J, R
             &mut self.seat,
             request,
             now,
+            &mut self.scratch,
         );
         self.context.gate.pass(Point::Answered(self.connection));
         reply

@@ -3,7 +3,7 @@ use Rattle.disco_routes.specs.Places.{place_view}
 use Rattle.disco_calls.specs.Methods.{method_of}
 use Rattle.disco_calls.specs.Query.{path_in, query_in}
 use Rattle.disco_calls.proofs.Finding.{no_text, text}
-use Rattle.disco_calls.proofs.asking.call_of.Goals as goal
+use Rattle.disco_calls.proofs.asking.call_of_with.Goals as goal
 
 pub returns-in_default : goal.returns-in_default
 returns-in_default c = λ some. no_text c.args.request.now c.split_target.result.0.now (c.split_target.ensures.path ∙ ap path_in c.target.ensures) c.in_default.ensures.cases.0
