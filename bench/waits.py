@@ -1,5 +1,6 @@
-"""How long writes wait for the publisher of `discovery serve`, on loopback."""
+"""How long writes wait for the publisher of `discovery serve`, on loopback, beside looks, which wait for nobody."""
 
+import gc
 import socket
 import subprocess
 import sys
@@ -13,6 +14,8 @@ WRITES_A_SECOND = 1_000
 # A request more would meet the end of the connection.
 REQUESTS_A_CONNECTION = 999
 LONGEST = 8
+# A publisher begins a round each so many seconds behind the server's start, and is done a second later.
+ROUND_SECONDS = 30
 
 BODY = (
     '{"instance":{"instanceId":"i%d","hostName":"h%d","app":"APP%d","ipAddr":"10.0.0.1",'
@@ -68,28 +71,69 @@ class Connection:
         return came
 
 
-def change(connection, number):
+def change(number):
+    """The path of a change of status."""
     status = "OUT_OF_SERVICE" if number // INSTANCES % 2 == 0 else "UP"
     instance = number % INSTANCES
-    return connection.ask("PUT", "/apps/APP%d/i%d/status?value=%s" % (instance % APPS, instance, status))
+    return "/apps/APP%d/i%d/status?value=%s" % (instance % APPS, instance, status)
+
+
+def stolen():
+    """Milliseconds for which the host has held up the machine's processors, all together."""
+    with open("/proc/stat") as stat:
+        return int(stat.readline().split()[8]) * 10
+
+
+class Waits:
+    """Waits for one kind of request."""
+
+    def __init__(self, name):
+        self.name = name
+        self.connection = Connection()
+        self.list = []
+
+    def ask(self, at, method, path):
+        before = stolen()
+        wait = self.connection.ask(method, path)
+        self.list.append((wait, at, stolen() - before))
+
+    def show(self):
+        waits = sorted(self.list)
+        middle, late = waits[len(waits) // 2][0], waits[int(len(waits) * 0.999)][0]
+        print(
+            "%d %s: median %.2f ms, 99.9th percentile %.2f ms, longest %.2f ms"
+            % (len(waits), self.name, middle * 1000, late * 1000, waits[-1][0] * 1000)
+        )
+        for wait, at, held_up in reversed(waits[-LONGEST:]):
+            print("    %.2f ms, %.1f s behind the start, the host held up %d ms" % (wait * 1000, at, held_up))
+
+    def longest_in_rounds(self):
+        return 1000 * max(wait for wait, at, _ in self.list if is_in_round(at))
+
+
+def is_in_round(at):
+    return (at + 0.5) % ROUND_SECONDS < 1.5 and at > 1
 
 
 def measure(seconds):
-    """Each wait, with the moment since the server's start at which it began."""
-    start, connection, waits = time.perf_counter(), Connection(), []
+    """The waits for changes, and for looks at a published document."""
+    start, first = time.perf_counter(), Connection()
     for number in range(INSTANCES):
-        connection.ask("POST", "/apps/APP%d" % (number % APPS), BODY % (number, number, number % APPS))
+        first.ask("POST", "/apps/APP%d" % (number % APPS), BODY % (number, number, number % APPS))
     for path in ("/apps", "/apps/APP7", "/apps/delta"):
-        connection.ask("GET", path)
+        first.ask("GET", path)
+    changes, looks = Waits("changes"), Waits("looks")
+    gc.disable()
     begun, done = time.perf_counter(), 0
     while time.perf_counter() - begun < seconds:
         if done > (time.perf_counter() - begun) * WRITES_A_SECOND:
             time.sleep(0.0002)
             continue
         at = time.perf_counter() - start
-        waits.append((change(connection, done), at))
+        changes.ask(at, "PUT", change(done))
+        looks.ask(at, "GET", "/apps/APP7")
         done += 1
-    return waits
+    return changes, looks
 
 
 def main():
@@ -99,16 +143,15 @@ def main():
     try:
         if not server.stdout.readline().startswith(b"listening"):
             sys.exit("the server doesn't listen")
-        waits = sorted(measure(seconds))
+        changes, looks = measure(seconds)
     finally:
         server.kill()
-    middle, late = waits[len(waits) // 2][0], waits[int(len(waits) * 0.999)][0]
+    for waits in (changes, looks):
+        waits.show()
     print(
-        "%d changes, %.0f a second: median %.2f ms, 99.9th percentile %.2f ms, longest %.2f ms"
-        % (len(waits), len(waits) / seconds, middle * 1000, late * 1000, waits[-1][0] * 1000)
+        "near a round: longest change %.2f ms, longest look %.2f ms"
+        % (changes.longest_in_rounds(), looks.longest_in_rounds())
     )
-    for wait, at in reversed(waits[-LONGEST:]):
-        print("    %.2f ms, %.1f s behind the start" % (wait * 1000, at))
 
 
 main()
