@@ -100,9 +100,10 @@ class Waits:
     def show(self):
         waits = sorted(self.list)
         middle, late = waits[len(waits) // 2][0], waits[int(len(waits) * 0.999)][0]
+        own = max(wait for wait, _, held_up in waits if held_up == 0)
         print(
-            "%d %s: median %.2f ms, 99.9th percentile %.2f ms, longest %.2f ms"
-            % (len(waits), self.name, middle * 1000, late * 1000, waits[-1][0] * 1000)
+            "%d %s: median %.2f ms, 99.9th percentile %.2f ms, longest %.2f ms, and %.2f ms where the host held up nothing"
+            % (len(waits), self.name, middle * 1000, late * 1000, waits[-1][0] * 1000, own * 1000)
         )
         for wait, at, held_up in reversed(waits[-LONGEST:]):
             print("    %.2f ms, %.1f s behind the start, the host held up %d ms" % (wait * 1000, at, held_up))
