@@ -4,7 +4,8 @@
 # time anew. In turns with them 1,000 looks a second at a published document, over another connection, which
 # wait for nobody: what they wait is the machine's. It prints of both the median, the 99.9th percentile and the
 # longest in milliseconds, when the longest ones were and for how long the host held up the machine meanwhile,
-# and the longest near a round. Seconds of the measurement may be given as a word; 70 see two rounds. Wants two
+# and the longest near a round. It waits for the first round before it begins: until then nothing is published,
+# and looks take the lock. Seconds of the measurement may be given as a word; 70 see two rounds. Wants two
 # free cores.
 set -eu
 root=$(CDPATH='' cd -- "$(dirname -- "$0")/.." && pwd)
