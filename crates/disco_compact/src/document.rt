@@ -45,7 +45,7 @@ pub fn write_compact(
     ensures memory { IfErr result (λ e. e ≡ OutOfMemory) }
 {
     write_document(
-        alloc,
+        Vec::new(alloc),
         Form::Compact,
         query,
         registry,

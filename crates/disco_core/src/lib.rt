@@ -8,4 +8,5 @@ mod registered;
 mod texts;
 mod vips;
 
+pub use disco_writer::Room;
 pub use registered::{Core, Ready};

@@ -43,7 +43,7 @@ use disco_queue::ChangedQueue;
 use disco_registry::{Applied, Op, Registry};
 use disco_settings::Settings;
 use disco_values::{Bytes, Fault, Form, Key};
-use disco_writer::write_document;
+use disco_writer::{Room, room_for, write_document};
 use std::alloc::Global;
 use std::marker::Model;
 use std::sync::Arc;
@@ -531,7 +531,7 @@ impl Core {
         Ok(Arc::new(self.alloc, payload)?)
     }
 
-    fn text_of(&self, key: &DocKey) -> Result<Option<Vec<u8>>, Fault>
+    fn text_of(&self, key: &DocKey, room: Vec<u8>) -> Result<Option<Vec<u8>>, Fault>
         ensures written { IfOk result (λ o. is_delta key.now.query ≡ false
             → (h : List Entry) → registry.StandsFor self.now.registry h → IsWritten key.now.form key.now.query h (length h) (option_map (λ v. v.items) o)) }
         ensures delta { IfOk result (λ o. is_delta key.now.query ≡ true
@@ -539,7 +539,7 @@ impl Core {
         ensures memory { IfErr result (λ e. e ≡ OutOfMemory) }
     {
         write_document(
-            self.alloc,
+            room,
             key.form,
             &key.query,
             &self.registry,
@@ -552,12 +552,17 @@ impl Core {
 
     /// The document that is asked for, joined from the texts that are kept: none exactly where an
     /// app, a vip, a secure vip or an instance is asked for and there is none. An app's name has to
-    /// be in upper case. A delta is written also where deltas are off.
+    /// be in upper case. A delta is written also where deltas are off. It takes the room that is lent, and
+    /// more where that isn't enough.
     ///
     /// # Errors
     ///
     /// `OutOfMemory` alone.
-    pub fn document(&self, key: &DocKey) -> Result<Option<Arc<Payload, Global>>, Fault>
+    pub fn document(
+        &self,
+        key: &DocKey,
+        room: Vec<u8>,
+    ) -> Result<Option<Arc<Payload, Global>>, Fault>
         ensures key { IfOk result (λ o. IfSome o (λ d. d.value.key ≡ key.now)) }
         ensures version { IfOk result (λ o. IfSome o (λ d. d.value.version ≡ self.now.registry.version)) }
         ensures base { IfOk result (λ o. IfSome o (λ d. is_delta key.now.query ≡ true → d.value.base ≡ self.now.queue.base)) }
@@ -567,13 +572,30 @@ impl Core {
         ensures memory { IfErr result (λ e. e ≡ OutOfMemory) }
     {
         if key.query.is_delta() {
-            self.delta_document(key)
+            self.delta_document(key, room)
         } else {
-            self.held_document(key)
+            self.held_document(key, room)
         }
     }
 
-    fn delta_document(&self, key: &DocKey) -> Result<Option<Arc<Payload, Global>>, Fault>
+    /// How much room the document of a key takes, where it names many instances. Nothing rests on it.
+    pub fn room_for(&self, key: &DocKey) -> Option<Room> {
+        room_for(
+            self.alloc,
+            key.form,
+            &key.query,
+            &self.registry,
+            &self.vips,
+            &self.queue,
+            self.texts.in_form(key.form),
+        )
+    }
+
+    fn delta_document(
+        &self,
+        key: &DocKey,
+        room: Vec<u8>,
+    ) -> Result<Option<Arc<Payload, Global>>, Fault>
         requires { is_delta key.now.query ≡ true }
         ensures key { IfOk result (λ o. IfSome o (λ d. d.value.key ≡ key.now)) }
         ensures version { IfOk result (λ o. IfSome o (λ d. d.value.version ≡ self.now.registry.version)) }
@@ -583,13 +605,17 @@ impl Core {
             → is_absent (registry_of (history p)) (asked_by key.now.query) ≡ true)) }
         ensures memory { IfErr result (λ e. e ≡ OutOfMemory) }
     {
-        match self.text_of(key)? {
+        match self.text_of(key, room)? {
             Some(text) => Ok(Some(self.payload(key, self.queue.base(), text)?)),
             None => Ok(None),
         }
     }
 
-    fn held_document(&self, key: &DocKey) -> Result<Option<Arc<Payload, Global>>, Fault>
+    fn held_document(
+        &self,
+        key: &DocKey,
+        room: Vec<u8>,
+    ) -> Result<Option<Arc<Payload, Global>>, Fault>
         requires { is_delta key.now.query ≡ false }
         ensures key { IfOk result (λ o. IfSome o (λ d. d.value.key ≡ key.now)) }
         ensures version { IfOk result (λ o. IfSome o (λ d. d.value.version ≡ self.now.registry.version)) }
@@ -598,7 +624,7 @@ impl Core {
             → is_absent (registry_of h) (asked_by key.now.query) ≡ true)) }
         ensures memory { IfErr result (λ e. e ≡ OutOfMemory) }
     {
-        match self.text_of(key)? {
+        match self.text_of(key, room)? {
             Some(text) => Ok(Some(self.payload(key, self.registry.version(), text)?)),
             None => Ok(None),
         }
@@ -622,7 +648,7 @@ impl Core {
             query: Query::Instance(key.clone()?),
             form,
         };
-        match self.held_document(&key)? {
+        match self.held_document(&key, Vec::new(self.alloc))? {
             Some(doc) => Ok(doc),
             None => Err(Fault::NotFound),
         }

@@ -25,7 +25,7 @@ ghost use Rattle.disco_rounds.specs.Press.{is_doc};
 use crate::expiry::{Expired, expire, taken};
 use crate::keeping::{forget, keep};
 use disco_cache::{DocCache, Edition, Payload};
-use disco_core::{Core, Ready};
+use disco_core::{Core, Ready, Room};
 use disco_lease::Minute;
 use disco_query::DocKey;
 use disco_registry::{Applied, Op};
@@ -242,7 +242,7 @@ impl Hub {
         if let Some(doc) = self.cache.get(key) {
             return Ok(Arc::try_clone(doc)?);
         }
-        let Some(doc) = self.core.document(key)? else {
+        let Some(doc) = self.core.document(key, Vec::new(self.alloc))? else {
             return Err(Fault::NotFound);
         };
         keep(&mut self.cache, &doc);
@@ -302,14 +302,34 @@ impl Hub {
         ensures open { OnOk result (open_round self.now ≢ None) }
         ensures refused { IfErr result (RefusesCopy self.now) }
     {
+        self.next_copy_in(Vec::new(self.alloc))
+    }
+
+    /// What a copy of the first key that is left gives, as [`Hub::next_copy`], in room that is lent.
+    fn next_copy_in(&self, room: Vec<u8>) -> Result<Option<Copied>, Fault>
+        ensures copied { IfOk result (λ o. IfSome o (IsNextCopy self.now)) }
+        ensures next { IfOk result (λ o. IfSome (open_round self.now) (λ r. is_some (slice_get r.left 0) ≡ is_some o)) }
+        ensures open { OnOk result (open_round self.now ≢ None) }
+        ensures refused { IfErr result (RefusesCopy self.now) }
+    {
         match self.rounds.first()? {
-            Some(key) => Ok(Some(self.copied(key)?)),
+            Some(key) => Ok(Some(self.copied(key, room)?)),
             None => Ok(None),
         }
     }
 
+    /// How much room the document of the first key takes that is left of the open round, where it
+    /// is to be written and names many instances. Nothing rests on it.
+    pub fn next_room(&self) -> Option<Room> {
+        let key = self.rounds.first().ok()??;
+        if self.cache.get(key).is_some() {
+            return None;
+        }
+        self.core.room_for(key)
+    }
+
     /// What a copy of a key gives.
-    fn copied(&self, key: &DocKey) -> Result<Copied, Fault>
+    fn copied(&self, key: &DocKey, room: Vec<u8>) -> Result<Copied, Fault>
         ensures copied { IfOk result (λ c. (p : Past) → HubStandsFor self.now p → IsCopied key.now c p) }
         ensures as_kept { IfOk result (IsCopiedAsKept self.now.docs key.now) }
         ensures memory { IfErr result (λ e. e ≡ OutOfMemory) }
@@ -317,7 +337,7 @@ impl Hub {
         if let Some(doc) = self.cache.get(key) {
             return Ok(Copied::Doc(Arc::try_clone(doc)?));
         }
-        match self.core.document(key)? {
+        match self.core.document(key, room)? {
             Some(doc) => Ok(Copied::Doc(doc)),
             None => Ok(Copied::Drop(key.clone()?)),
         }
@@ -359,20 +379,21 @@ impl Hub {
         Ok(Some(copied))
     }
 
-    /// Copies as [`Hub::copy_one`] does, and puts what was copied into an edition too.
+    /// Copies as [`Hub::copy_one`] does, and puts what was copied into an edition too. A document that
+    /// is written takes the room that is lent, and more where that isn't enough.
     ///
     /// # Errors
     ///
     /// As of [`Hub::copy_one`]: `NoRound` where no round is open, and `OutOfMemory`. Then hub and
     /// edition are as before.
-    pub fn copy_into(&mut self, next: &mut Edition) -> Result<Option<Copied>, Fault>
+    pub fn copy_into(&mut self, next: &mut Edition, room: Vec<u8>) -> Result<Option<Copied>, Fault>
         ensures copied { IfOk result (λ o. IfSome o (CopiesOne self.old self.new)) }
         ensures put { IfOk result (λ o. IfSome o (λ c. next.new ≡ put_copy next.old c)) }
         ensures none { IfOk result (λ o. IfNone o (HasNoneLeft self.old × (self.new ≡ self.old) × (next.new ≡ next.old))) }
         ensures refused { IfErr result (RefusesCopy self.old) }
         ensures as_before { OnErr result ((self.new ≡ self.old) × (next.new ≡ next.old)) }
     {
-        let Some(copied) = self.next_copy()? else {
+        let Some(copied) = self.next_copy_in(room)? else {
             return Ok(None);
         };
         copied.put_into(next)?;

@@ -7,7 +7,7 @@ mod hub;
 mod keeping;
 
 pub use cancelling::{Cancel, cancel_all};
-pub use disco_core::Ready;
+pub use disco_core::{Ready, Room};
 pub use disco_rounds::Copied;
 pub use disco_settings::Settings;
 pub use expiry::Expired;

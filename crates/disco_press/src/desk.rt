@@ -30,6 +30,8 @@ pub struct Desk<J: Naming> {
     pub(crate) log: PublicationLog<J>,
     /// What the open round has copied.
     pub(crate) next: Edition,
+    /// Room for the document of the next copy.
+    pub(crate) room: Vec<u8>,
     /// The changes that seats made.
     pub(crate) book: Book<J>,
     /// How many changes were made without a seat.
@@ -72,6 +74,7 @@ impl<J: Naming> Desk<J> {
             snapshots,
             log,
             next: Edition::new(alloc),
+            room: Vec::new(alloc),
             book,
             by_none: 0,
         }
@@ -159,6 +162,7 @@ impl<J: Naming> Desk<J> {
             snapshots,
             log: _log,
             next: _next,
+            room: _room,
             book: _book,
             by_none: _,
         } = self;

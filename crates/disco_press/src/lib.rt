@@ -11,6 +11,7 @@ mod writing;
 pub use desk::Desk;
 pub use disco_cache::Edition;
 pub use disco_editions::Looked;
+pub use disco_hub::Room;
 pub use opening::Opening;
 pub use seat::Seat;
 pub use seating::open;

@@ -12,11 +12,25 @@ use crate::desk::Desk;
 use core::mem::replace;
 use disco_cache::Edition;
 use disco_editions::{Naming, Snapshot};
+use disco_hub::Room;
 use disco_rounds::Copied;
 use disco_values::Fault;
 use std::sync::Wait;
 
 impl<J: Naming> Desk<J> {
+    /// How much room the next copy takes, where its document is to be written and names many
+    /// instances.
+    pub fn next_room(&self) -> Option<Room> {
+        self.hub.next_room()
+    }
+
+    /// Lends room, which the next copy writes into.
+    pub fn lend(&mut self, room: Vec<u8>)
+        ensures { self.new ≡ self.old }
+    {
+        self.room = room;
+    }
+
     /// Begins a round, as [`disco_hub::Hub::begin`] does, and notes it. Answers how many keys it
     /// has.
     ///
@@ -52,7 +66,8 @@ impl<J: Naming> Desk<J> {
         ensures refused { IfErr result (RefusesCopy self.old.hub) }
         ensures as_before { OnErr result (self.new ≡ self.old) }
     {
-        let Some(copied) = self.hub.copy_into(&mut self.next)? else {
+        let room = replace(&mut self.room, Vec::new(self.alloc));
+        let Some(copied) = self.hub.copy_into(&mut self.next, room)? else {
             return Ok(None);
         };
         Ok(Some(self.log.copy(copied)))

@@ -1,4 +1,5 @@
 pub mod Base
+pub mod Latest
 pub mod Numbers
 pub mod Queue
 pub mod Seen

@@ -1,11 +1,12 @@
 -- The number of each key's last change, and what becomes of places. Nothing here is to be believed: it is the invariant of a type.
-use Rattle.std.specs.Prelude.{◌≡◌, ℕ, ◌+◌, ◌-◌, nat_lt, ◌==◌, List, [], ◌∷◌, if◌then◌else◌, Option, Some, None}
+use Rattle.std.specs.Prelude.{◌≡◌, ℕ, ◌+◌, ◌-◌, nat_lt, ◌==◌, List, [], ◌∷◌, if◌then◌else◌, Option, Some, None, option_map}
 use Rattle.std.specs.FinMap.{FinMap, get}
-use Rattle.std.specs.List.{slice_get}
+use Rattle.std.specs.List.{filter_map, slice_get}
 use Rattle.std.specs.Option.{unwrap_or}
 use Rattle.disco_values.specs.Key.{key_cmp, same_key}
 use Rattle.disco_values.specs.declared.key.Key.{Key}
-use Rattle.disco_history.specs.Change.{Entry, key_of}
+use Rattle.disco_history.specs.Change.{Entry, change_view, key_of}
+use Rattle.disco_queue.specs.Latest.{Latest}
 
 -- the later one, if there is one
 abbrev pub later_or : ℕ → ℕ → ℕ
@@ -36,3 +37,10 @@ numbered before es number = if nat_lt before number then slice_get es (number - 
 abbrev pub number_kept : ℕ → Option ℕ → Option ℕ
 number_kept number None = None
 number_kept number (Some n) = if n == number then None else Some n
+
+-- each key with what f makes of its number, if anything
+abbrev pub numbered_keys : (ℕ → Option Entry) → List (Key × ℕ) → List (Key × Entry)
+numbered_keys f es = filter_map (λ e. option_map (λ x. (e.0, x)) (f e.1)) es
+
+abbrev pub keyed_change : Latest → Key × Entry
+keyed_change p = (p.0.now, change_view p.1.now)

@@ -1,10 +1,10 @@
 //! The last change of each key.
 ghost use Rattle.std.specs.Prelude.{◌≡◌, IfOk, IfSome, map, option_map, true};
 ghost use Rattle.std.specs.BTreeMap.{IsOrdered};
-ghost use Rattle.std.specs.List.{All, filter_map};
+ghost use Rattle.std.specs.List.{All};
 ghost use Rattle.disco_values.specs.Key.{key_cmp};
 ghost use Rattle.disco_history.specs.Change.{is_proper, change_view};
-ghost use Rattle.disco_queue.specs.Numbers.{numbered};
+ghost use Rattle.disco_queue.specs.Numbers.{keyed_change, numbered, numbered_keys};
 ghost use Rattle.disco_queue.specs.Seen.{change_of};
 
 use crate::kept::Kept;
@@ -27,22 +27,21 @@ fn numbered(kept: &VecDeque<Kept>, before: u64, number: u64) -> Option<&Change>
     }
 }
 
-/// The kept changes of the numbers that stand in places, in the order of their keys.
+/// The kept changes of the numbers that stand in places, with their keys and in the order of these.
 pub(crate) fn numbered_in<'a>(
-    places: &BTreeMap<Key, u64>,
+    places: &'a BTreeMap<Key, u64>,
     kept: &'a VecDeque<Kept>,
     before: u64,
     alloc: Global,
-) -> Result<Vec<&'a Change>, AllocError>
-    ensures changes { IfOk result (λ found. map (λ c. change_view c.now) found.items ≡
-        filter_map (λ e. numbered before (map change_of kept.now.items) e.1) places.now.entries) }
-    ensures proper { IfOk result (λ found. All (λ c. is_proper c.now ≡ true) found.items) }
+) -> Result<Vec<(&'a Key, &'a Change)>, AllocError>
+    ensures changes { IfOk result (λ found. map keyed_change found.items ≡ numbered_keys (numbered before (map change_of kept.now.items)) places.now.entries) }
+    ensures proper { IfOk result (λ found. All (λ p. is_proper p.1.now ≡ true) found.items) }
     ensures ordered { IsOrdered key_cmp places.now }
 {
     let mut found = Vec::new(alloc);
-    for (_, number) in places {
+    for (key, number) in places {
         if let Some(change) = numbered(kept, before, *number) {
-            found.push(change)?;
+            found.push((key, change))?;
         }
     }
     Ok(found)

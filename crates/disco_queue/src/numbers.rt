@@ -5,6 +5,7 @@ ghost use Rattle.std.specs.List.{All};
 ghost use Rattle.disco_history.specs.Change.{is_proper, change_view};
 ghost use Rattle.disco_history.specs.Mentions.{delta};
 ghost use Rattle.disco_history.specs.Slots.{AltersAt, opened, written};
+ghost use Rattle.disco_queue.specs.Latest.{AreOfKeys};
 ghost use Rattle.disco_queue.specs.Numbers.{AreNumbered, number_in, number_kept};
 ghost use Rattle.disco_queue.specs.Seen.{change_of};
 
@@ -82,17 +83,18 @@ impl Numbers {
         }
     }
 
-    /// Where they number the kept changes, of which so many others come before: the last change of
-    /// each key, in the order of the keys.
+    /// Where they number the kept changes, of which so many others come before: each key with its
+    /// last change, in the order of the keys.
     pub(crate) fn last_changes<'a>(
-        &self,
+        &'a self,
         kept: &'a VecDeque<Kept>,
         before: u64,
         alloc: Global,
-    ) -> Result<Vec<&'a Change>, AllocError>
+    ) -> Result<Vec<(&'a Key, &'a Change)>, AllocError>
         ensures last { AreNumbered self.now before (map change_of kept.now.items)
-            → IfOk result (λ found. map (λ c. change_view c.now) found.items ≡ values (delta (map change_of kept.now.items) 0)) }
-        ensures proper { IfOk result (λ found. All (λ c. is_proper c.now ≡ true) found.items) }
+            → IfOk result (λ found. map (λ p. change_view p.1.now) found.items ≡ values (delta (map change_of kept.now.items) 0)) }
+        ensures keys { AreNumbered self.now before (map change_of kept.now.items) → IfOk result (λ found. AreOfKeys found.items) }
+        ensures proper { IfOk result (λ found. All (λ p. is_proper p.1.now ≡ true) found.items) }
     {
         numbered_in(&self.places, kept, before, alloc)
     }

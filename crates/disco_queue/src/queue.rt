@@ -6,6 +6,7 @@ ghost use Rattle.std.specs.VecDeque.{deque_capacity, deque_len};
 ghost use Rattle.disco_values.specs.declared.fault.Fault.TheVariants.{OutOfMemory};
 ghost use Rattle.disco_history.specs.Change.{Entry, is_proper, key_of, change_view};
 ghost use Rattle.disco_history.specs.Mentions.{delta};
+ghost use Rattle.disco_queue.specs.Latest.{AreOfKeys};
 ghost use Rattle.disco_queue.specs.Numbers.{AreNumbered, LeavesNone};
 ghost use Rattle.disco_queue.specs.Seen.{change_of, timed};
 ghost use Rattle.disco_queue.specs.Superseded.{AreSuperseded, IsFollowedAt};
@@ -223,16 +224,17 @@ impl ChangedQueue {
         }
     }
 
-    /// The last kept change of each key, in the order of the keys. Takes memory for them alone.
+    /// Each kept key with its last change, in the order of the keys. Takes memory for them alone.
     ///
     /// # Errors
     ///
     /// `OutOfMemory` alone.
-    pub fn last_changes(&self, alloc: Global) -> Result<Vec<&Change>, Fault>
-        ensures kept { IfOk result (λ found. map (λ c. change_view c.now) found.items ≡ values (delta (changes self.now.kept) 0)) }
+    pub fn last_changes(&self, alloc: Global) -> Result<Vec<(&Key, &Change)>, Fault>
+        ensures kept { IfOk result (λ found. map (λ p. change_view p.1.now) found.items ≡ values (delta (changes self.now.kept) 0)) }
         ensures history { (h : List Timed) → KeepsHistory self.now h
-            → IfOk result (λ found. map (λ c. change_view c.now) found.items ≡ values (delta (changes h) self.now.base)) }
-        ensures proper { IfOk result (λ found. All (λ c. is_proper c.now ≡ true) found.items) }
+            → IfOk result (λ found. map (λ p. change_view p.1.now) found.items ≡ values (delta (changes h) self.now.base)) }
+        ensures keys { IfOk result (λ found. AreOfKeys found.items) }
+        ensures proper { IfOk result (λ found. All (λ p. is_proper p.1.now ≡ true) found.items) }
         ensures memory { IfErr result (λ e. e ≡ OutOfMemory) }
     {
         Ok(self.numbers.last_changes(&self.kept, self.base, alloc)?)

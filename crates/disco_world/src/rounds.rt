@@ -30,11 +30,11 @@ pub(crate) fn begin(alloc: Global, levels: &mut CacheLevels) -> Reply
 }
 
 /// Copies the next key of the round.
-pub(crate) fn copy(levels: &mut CacheLevels) -> Reply
+pub(crate) fn copy(alloc: Global, levels: &mut CacheLevels) -> Reply
     ensures turns { Turns levels.old levels.new (λ _. copies) result }
     ensures rules { rules_of levels.new.hub ≡ rules_of levels.old.hub }
 {
-    match levels.hub.copy_into(&mut levels.next) {
+    match levels.hub.copy_into(&mut levels.next, Vec::new(alloc)) {
         Ok(Some(copied)) => Reply::Copied(copied),
         Ok(None) => Reply::Done,
         Err(fault) => Reply::Refused(fault),

@@ -172,7 +172,7 @@ pub(crate) fn answer_step(
         Step::Minute => close(&mut levels.hub),
         Step::Expire { now } => expire(&mut levels.hub, *now),
         Step::Begin => begin(alloc, levels),
-        Step::Copy => copy(levels),
+        Step::Copy => copy(alloc, levels),
         Step::Publish => publish(alloc, levels),
         Step::Look { key } => look(alloc, &levels.published, key),
         Step::LookById { .. } => Reply::Missed,

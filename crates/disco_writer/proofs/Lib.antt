@@ -4,6 +4,7 @@ mod Escapes
 mod Grouping
 mod Joins
 pub mod KeptLaws
+mod Keyed
 pub mod Metadata
 mod Plain
 mod Pushes

@@ -25,7 +25,7 @@ Text = List ℕ
 
 -- ---- the places that don't stand empty
 
-abbrev present : List (Key × Option Text) → List (Key × Text)
+abbrev pub present : List (Key × Option Text) → List (Key × Text)
 present es = filled (λ t. t) es
 
 abbrev with_app : Key × Text → Shown
@@ -70,7 +70,7 @@ tied_is : (f : Form) (o : Option Text) (e : Entry) → AreTied f o (Some e) → 
 tied_is f None e tied = absurd tied
 tied_is f (Some t) e tied = subst (λ (s : Text). IsTextOf f s (mention_of e)) tied.all tied
 
-same_text : (o : Option Text) → option_map (λ t. t) o ≡ o
+pub same_text : (o : Option Text) → option_map (λ t. t) o ≡ o
 same_text None = refl
 same_text (Some t) = refl
 

@@ -50,9 +50,17 @@ AreTextsOf f (p ∷ ps) (e ∷ es) = (p.0 ≡ e.0.key.app) × IsTextOf f p.1 (me
 abbrev pub walked : List (Key × Option (List ℕ)) → List Shown
 walked es = filter_map (λ e. option_map (λ t. (e.0.app, t)) e.1) es
 
+-- of an instance, of which that text is kept, or none: the kept one or, where none is, the one that is made
+abbrev pub told_text : Form → Option (List ℕ) → Entry → List ℕ
+told_text f kept e = unwrap_or kept (text_of_entry f e)
+
+-- its app and that text
+abbrev pub told_by : Form → Option (List ℕ) → Entry → Shown
+told_by f kept e = (e.0.key.app, told_text f kept e)
+
 -- an instance's app, and its kept text or, where none is, the one that is made
 abbrev pub told_one : Form → Kept → Entry → Shown
-told_one f v e = (e.0.key.app, unwrap_or (kept_text_at v (key_of e)) (text_of_entry f e))
+told_one f v e = told_by f (kept_text_at v (key_of e)) e
 
 abbrev pub texts_by : Form → Kept → List Entry → List Shown
 texts_by f v es = map (told_one f v) es
@@ -65,8 +73,11 @@ abbrev pub AllAgree : Form → Kept → List Entry → Type 0
 AllAgree f v es = AllByRecursion (Agrees f v) es
 
 -- where the kept one is its text, what is told is
+abbrev pub IsToldText : Form → Option (List ℕ) → Entry → Type 0
+IsToldText f kept e = IfSome kept (λ t. IsTextOf f t (mention_of e)) → IsTextOf f (told_text f kept e) (mention_of e)
+
 abbrev pub IsJoinedText : Form → Kept → Entry → Type 0
-IsJoinedText f v e = Agrees f v e → IsTextOf f (told_one f v e).1 (mention_of e)
+IsJoinedText f v e = IsToldText f (kept_text_at v (key_of e)) e
 
 abbrev pub AreJoinedTexts : Form → Kept → List Entry → Type 0
 AreJoinedTexts f v es = AllByRecursion (IsJoinedText f v) es

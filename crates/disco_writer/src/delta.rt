@@ -1,32 +1,88 @@
 //! The document of recent changes.
-ghost use Rattle.std.specs.Prelude.{◌≡◌, List, IfOk, IfErr, Some, map};
+ghost use Rattle.std.specs.Prelude.{◌≡◌, List, IfOk, IfErr, Some, map, option_map};
 ghost use Rattle.disco_values.specs.declared.fault.Fault.TheVariants.{OutOfMemory};
-ghost use Rattle.disco_history.specs.Change.{change_view};
+ghost use Rattle.disco_history.specs.Change.{change_view, key_of};
 ghost use Rattle.disco_index.specs.Tally.{tally_in};
+ghost use Rattle.disco_queue.specs.Latest.{AreOfKeys};
 ghost use Rattle.disco_queue.specs.Queue.{KeepsHistory};
 ghost use Rattle.disco_queue.specs.Timed.{Timed, changes};
 ghost use Rattle.disco_registry.specs.State.{StandsFor};
 ghost use Rattle.disco_documents.specs.Documents.{IsWritten};
-ghost use Rattle.disco_documents.specs.Rows.{held_entries};
+ghost use Rattle.disco_writer.specs.InOrder.{AreTheirs};
+ghost use Rattle.disco_writer.specs.Joined.{AreJoinedTexts, IsJoinedText, IsToldText, shown_by, shown_one, texts_by, told_by, told_one};
 ghost use Rattle.disco_writer.specs.Kept.{AreKept};
 ghost use Rattle.disco_query.specs.declared.query.Query.TheVariants as query;
 
-use crate::many::many_text;
+use crate::in_order::{text_from, texts_beside};
+use crate::join::join_many;
+use crate::piece::{Piece, kept_piece, make_piece};
 use crate::texts::Texts;
-use disco_history::{Change, Held};
+use disco_history::Change;
 use disco_index::Counts;
 use disco_queue::ChangedQueue;
 use disco_registry::Registry;
-use disco_values::{Fault, Form};
-use std::alloc::{AllocError, Global};
+use disco_values::{Action, Fault, Form, Key};
+use std::alloc::Global;
 
-/// What each of these changes did, and to which record. The records are shared.
-fn held_by(alloc: Global, changes: &[&Change]) -> Result<Vec<Held>, AllocError>
-    ensures { IfOk result (λ v. held_entries v.items ≡ map (λ c. change_view c.now) changes.now) }
+/// The piece of a change of a key, of whose instance that text is kept, or none.
+fn piece_by<'t>(
+    alloc: Global,
+    form: Form,
+    kept: Option<&'t [u8]>,
+    key: &'t Key,
+    change: &'t Change,
+) -> Result<Piece<'t>, Fault>
+    requires { key.now ≡ key_of (change_view change.now) }
+    ensures piece { IfOk result (λ p. shown_one p ≡ told_by form (option_map (λ t. t.now) kept.entry) (change_view change.now)) }
+    ensures told { IfOk result (λ p. IsToldText form (option_map (λ t. t.now) kept.entry) (change_view change.now)) }
+    ensures memory { IfErr result (λ e. e ≡ OutOfMemory) }
 {
-    let mut list = Vec::new(alloc);
-    for change in changes {
-        list.push(Held::of(*change)?)?;
+    match kept {
+        Some(text) => Ok(kept_piece(key, text)),
+        None => match change {
+            Change::Put { action, rec } => make_piece(alloc, form, rec, *action),
+            Change::Gone { rec } => make_piece(alloc, form, rec, Action::Deleted),
+        },
+    }
+}
+
+/// The piece of a change of a key, whose text is sought.
+fn piece_sought<'t>(
+    alloc: Global,
+    form: Form,
+    texts: &'t Texts,
+    entries: &[(&'t Key, &'t [u8])],
+    at: &mut usize,
+    pair: &(&'t Key, &'t Change),
+) -> Result<Piece<'t>, Fault>
+    requires theirs { AreTheirs texts.now entries.now }
+    requires key { pair.now.0.now ≡ key_of (change_view pair.now.1.now) }
+    ensures piece { IfOk result (λ p. shown_one p ≡ told_one form texts.now (change_view pair.now.1.now)) }
+    ensures told { IfOk result (λ p. IsJoinedText form texts.now (change_view pair.now.1.now)) }
+    ensures memory { IfErr result (λ e. e ≡ OutOfMemory) }
+{
+    let (key, change) = *pair;
+    let kept = text_from(texts, entries, at, key);
+    piece_by(alloc, form, kept, key, change)
+}
+
+/// The pieces of these changes of keys.
+pub(crate) fn pieces_by<'t>(
+    alloc: Global,
+    form: Form,
+    texts: &'t Texts,
+    changes: &'t [(&'t Key, &'t Change)],
+) -> Result<Vec<Piece<'t>>, Fault>
+    requires { AreOfKeys changes.now }
+    ensures pieces { IfOk result (λ v. shown_by v.items ≡ texts_by form texts.now (map (λ p. change_view p.1.now) changes.now)) }
+    ensures told { IfOk result (λ v. AreJoinedTexts form texts.now (map (λ p. change_view p.1.now) changes.now)) }
+    ensures memory { IfErr result (λ e. e ≡ OutOfMemory) }
+{
+    let mut list = Vec::with_capacity(alloc, changes.len())?;
+    let entries = texts_beside(alloc, texts, changes.len())?;
+    let mut at = 0;
+    for pair in changes {
+        list.push(piece_sought(alloc, form, texts, &entries, &mut at, pair)?)?;
     }
     Ok(list)
 }
@@ -35,7 +91,7 @@ fn held_by(alloc: Global, changes: &[&Change]) -> Result<Vec<Held>, AllocError>
 /// records. Kept texts are taken, and those of instances that went are made. Refused only as
 /// `OutOfMemory`.
 pub(crate) fn write_delta(
-    alloc: Global,
+    room: Vec<u8>,
     form: Form,
     registry: &Registry,
     queue: &ChangedQueue,
@@ -48,15 +104,9 @@ pub(crate) fn write_delta(
         → IsWritten form query.Delta (changes h) queue.now.base (Some v.items)) }
     ensures memory { IfErr result (λ e. e ≡ OutOfMemory) }
 {
+    let alloc = *room.allocator();
     let last = queue.last_changes(alloc)?;
-    let held = held_by(alloc, last.as_slice())?;
+    let pieces = pieces_by(alloc, form, texts, last.as_slice())?;
     let hash = counts.text(alloc)?;
-    Ok(many_text(
-        alloc,
-        form,
-        texts,
-        held.as_slice(),
-        &hash,
-        registry.version(),
-    )?)
+    Ok(join_many(room, pieces.as_slice(), &hash, registry.version())?)
 }

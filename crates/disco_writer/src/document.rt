@@ -43,7 +43,7 @@ use std::alloc::Global;
 ///
 /// `OutOfMemory` alone.
 pub fn write_document(
-    alloc: Global,
+    room: Vec<u8>,
     form: Form,
     query: &Query,
     registry: &Registry,
@@ -63,12 +63,12 @@ pub fn write_document(
     ensures memory { IfErr result (λ e. e ≡ OutOfMemory) }
 {
     match query {
-        Query::Apps => Ok(Some(write_apps(alloc, form, registry, counts, texts)?)),
-        Query::Delta => Ok(Some(write_delta(alloc, form, registry, queue, counts, texts)?)),
-        Query::App(name) => write_app(alloc, form, registry, texts, name),
-        Query::Vip(vip) => write_vip(alloc, form, registry, vips, texts, vip),
-        Query::Svip(svip) => write_svip(alloc, form, registry, texts, svip),
-        Query::Instance(key) => write_instance(alloc, form, registry, texts, key),
+        Query::Apps => Ok(Some(write_apps(room, form, registry, counts, texts)?)),
+        Query::Delta => Ok(Some(write_delta(room, form, registry, queue, counts, texts)?)),
+        Query::App(name) => write_app(room, form, registry, texts, name),
+        Query::Vip(vip) => write_vip(room, form, registry, vips, texts, vip),
+        Query::Svip(svip) => write_svip(room, form, registry, texts, svip),
+        Query::Instance(key) => write_instance(*room.allocator(), form, registry, texts, key),
     }
 }
 
@@ -97,7 +97,7 @@ pub fn write_full(
     ensures memory { IfErr result (λ e. e ≡ OutOfMemory) }
 {
     write_document(
-        alloc,
+        Vec::new(alloc),
         Form::Full,
         query,
         registry,
@@ -109,7 +109,7 @@ pub fn write_full(
 }
 
 fn write_apps(
-    alloc: Global,
+    room: Vec<u8>,
     form: Form,
     registry: &Registry,
     counts: &Counts,
@@ -120,13 +120,14 @@ fn write_apps(
     ensures written { IfOk result (λ v. (h : List Entry) → StandsFor registry.now h → IsWritten form query.Apps h (length h) (Some v.items)) }
     ensures memory { IfErr result (λ e. e ≡ OutOfMemory) }
 {
+    let alloc = *room.allocator();
     let hash = counts.text(alloc)?;
     let pieces = texts.pieces(alloc)?;
-    Ok(join_many(alloc, pieces.as_slice(), &hash, registry.version())?)
+    Ok(join_many(room, pieces.as_slice(), &hash, registry.version())?)
 }
 
 fn write_app(
-    alloc: Global,
+    room: Vec<u8>,
     form: Form,
     registry: &Registry,
     texts: &Texts,
@@ -137,16 +138,16 @@ fn write_app(
         → IsWritten form (query.App name.now) h (length h) (option_map (λ v. v.items) o)) }
     ensures memory { IfErr result (λ e. e ≡ OutOfMemory) }
 {
-    let held = registry.of_app(alloc, name)?;
+    let held = registry.of_app(*room.allocator(), name)?;
     if held.is_empty() {
         return Ok(None);
     }
-    Ok(Some(app_text(alloc, form, texts, name, held.as_slice())?))
+    Ok(Some(app_text(room, form, texts, name, held.as_slice())?))
 }
 
 /// The document of some records, with the hash code of these alone; none where there are none.
 fn write_some(
-    alloc: Global,
+    room: Vec<u8>,
     form: Form,
     texts: &Texts,
     held: &[Held],
@@ -160,12 +161,12 @@ fn write_some(
     if held.is_empty() {
         return Ok(None);
     }
-    let hash = count(held).text(alloc)?;
-    Ok(Some(many_text(alloc, form, texts, held, &hash, version)?))
+    let hash = count(held).text(*room.allocator())?;
+    Ok(Some(many_text(room, form, texts, held, &hash, version)?))
 }
 
 fn write_vip(
-    alloc: Global,
+    room: Vec<u8>,
     form: Form,
     registry: &Registry,
     vips: &VipIndex,
@@ -178,12 +179,12 @@ fn write_vip(
         → IsWritten form (query.Vip vip.now) h (length h) (option_map (λ v. v.items) o)) }
     ensures memory { IfErr result (λ e. e ≡ OutOfMemory) }
 {
-    let held = held_under_vip(alloc, registry, vips, vip)?;
-    Ok(write_some(alloc, form, texts, held.as_slice(), registry.version())?)
+    let held = held_under_vip(*room.allocator(), registry, vips, vip)?;
+    Ok(write_some(room, form, texts, held.as_slice(), registry.version())?)
 }
 
 fn write_svip(
-    alloc: Global,
+    room: Vec<u8>,
     form: Form,
     registry: &Registry,
     texts: &Texts,
@@ -194,8 +195,8 @@ fn write_svip(
         → IsWritten form (query.Svip svip.now) h (length h) (option_map (λ v. v.items) o)) }
     ensures memory { IfErr result (λ e. e ≡ OutOfMemory) }
 {
-    let held = held_under_svip(alloc, registry, svip)?;
-    Ok(write_some(alloc, form, texts, held.as_slice(), registry.version())?)
+    let held = held_under_svip(*room.allocator(), registry, svip)?;
+    Ok(write_some(room, form, texts, held.as_slice(), registry.version())?)
 }
 
 fn write_instance(

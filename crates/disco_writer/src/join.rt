@@ -152,7 +152,7 @@ fn push_many_close(
 
 /// How many bytes are asked for a document of these texts, with a name of so many: no document needs
 /// more, so it is asked for once. An escaped byte of a name takes 6. Nothing rests on it.
-fn room(pieces: &[Piece<'_>], name: &Text) -> usize {
+pub(crate) fn room_of(pieces: &[Piece<'_>], name: &Text) -> usize {
     let mut bytes = around(name).saturating_add(4 * ROUND);
     let mut last: Option<&Text> = None;
     for piece in pieces {
@@ -163,6 +163,17 @@ fn room(pieces: &[Piece<'_>], name: &Text) -> usize {
         last = Some(piece.app);
     }
     bytes
+}
+
+/// The room that was lent, empty; where none was, as much as a document of these texts may need.
+fn with_room(mut room: Vec<u8>, pieces: &[Piece<'_>], name: &Text) -> Result<Vec<u8>, AllocError>
+    ensures { IfOk result (λ v. v.items ≡ []) }
+{
+    room.clear();
+    if room.capacity() == 0 {
+        room.reserve_exact(room_of(pieces, name))?;
+    }
+    Ok(room)
 }
 
 /// How many bytes stand round the texts of an app.
@@ -216,7 +227,7 @@ fn push_one(out: &mut Vec<u8>, text: &[u8]) -> Result<(), AllocError>
 
 /// The document of many apps with these instances.
 pub(crate) fn join_many(
-    alloc: Global,
+    room: Vec<u8>,
     pieces: &[Piece<'_>],
     hash: &Text,
     version: u64,
@@ -228,14 +239,14 @@ pub(crate) fn join_many(
 {
     // For the proof alone: a hash code is UTF-8.
     let _hash = hash.as_str();
-    let mut out = Vec::with_capacity(alloc, room(pieces, hash))?;
-    push_many(alloc, &mut out, pieces, hash, version)?;
+    let mut out = with_room(room, pieces, hash)?;
+    push_many(*out.allocator(), &mut out, pieces, hash, version)?;
     Ok(out)
 }
 
 /// The document of an app with these instances.
 pub(crate) fn join_app(
-    alloc: Global,
+    room: Vec<u8>,
     name: &Text,
     pieces: &[Piece<'_>],
 ) -> Result<Vec<u8>, AllocError>
@@ -246,8 +257,8 @@ pub(crate) fn join_app(
 {
     // For the proof alone: a name is UTF-8.
     let _name = name.as_str();
-    let mut out = Vec::with_capacity(alloc, room(pieces, name))?;
-    push_app(alloc, &mut out, name, pieces)?;
+    let mut out = with_room(room, pieces, name)?;
+    push_app(*out.allocator(), &mut out, name, pieces)?;
     Ok(out)
 }
 

@@ -19,7 +19,7 @@ use std::alloc::Global;
 
 /// The document of many apps with these instances in a form, where kept texts are theirs.
 pub(crate) fn many_text(
-    alloc: Global,
+    room: Vec<u8>,
     form: Form,
     texts: &Texts,
     held: &[Held],
@@ -32,13 +32,13 @@ pub(crate) fn many_text(
         → document_of v.items ≡ Ok (meant Many (Some hash.now) (Some version) (mentions_in form (held_entries held.now)))) }
     ensures memory { IfErr result (λ e. e ≡ OutOfMemory) }
 {
-    let pieces = pieces_of(alloc, form, texts, held)?;
-    Ok(join_many(alloc, pieces.as_slice(), hash, version)?)
+    let pieces = pieces_of(*room.allocator(), form, texts, held)?;
+    Ok(join_many(room, pieces.as_slice(), hash, version)?)
 }
 
 /// The document of an app with these instances in a form, where kept texts are theirs.
 pub(crate) fn app_text(
-    alloc: Global,
+    room: Vec<u8>,
     form: Form,
     texts: &Texts,
     name: &Text,
@@ -50,8 +50,8 @@ pub(crate) fn app_text(
         → document_of v.items ≡ Ok (meant App None None (mentions_in form (held_entries held.now)))) }
     ensures memory { IfErr result (λ e. e ≡ OutOfMemory) }
 {
-    let pieces = pieces_of(alloc, form, texts, held)?;
-    Ok(join_app(alloc, name, pieces.as_slice())?)
+    let pieces = pieces_of(*room.allocator(), form, texts, held)?;
+    Ok(join_app(room, name, pieces.as_slice())?)
 }
 
 /// The document of an instance in a form, where a kept text is its.

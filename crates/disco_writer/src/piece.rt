@@ -1,14 +1,16 @@
 //! What a document is joined of: the texts of its instances.
-ghost use Rattle.std.specs.Prelude.{◌≡◌, IfErr, IfOk};
+ghost use Rattle.std.specs.Prelude.{◌≡◌, IfErr, IfOk, None};
 ghost use Rattle.disco_values.specs.declared.fault.Fault.TheVariants.{OutOfMemory};
+ghost use Rattle.disco_instance.specs.Row.{row};
 ghost use Rattle.disco_history.specs.Held.{entry_of};
 ghost use Rattle.disco_documents.specs.Rows.{held_entries};
-ghost use Rattle.disco_writer.specs.Joined.{AreJoinedTexts, IsJoinedText, bytes_of, shown_by, shown_one, texts_by, told_one};
+ghost use Rattle.disco_writer.specs.Joined.{AreJoinedTexts, IsJoinedText, IsToldText, bytes_of, shown_by, shown_one, texts_by, told_by, told_one};
 
 use crate::instance::write_text;
 use crate::texts::Texts;
 use disco_history::Held;
-use disco_values::{Fault, Form, Text};
+use disco_instance::Record;
+use disco_values::{Action, Fault, Form, Key, Text};
 use std::alloc::Global;
 
 /// A text that is kept, or one that was made for this document.
@@ -36,23 +38,34 @@ impl Piece<'_> {
     }
 }
 
-fn source_of<'t>(
-    alloc: Global,
-    form: Form,
-    texts: &'t Texts,
-    held: &'t Held,
-) -> Result<Source<'t>, Fault>
-    ensures source { IfOk result (λ s. bytes_of s ≡ (told_one form texts.now (entry_of held.now)).1) }
-    ensures told { IfOk result (λ s. IsJoinedText form texts.now (entry_of held.now)) }
-    ensures memory { IfErr result (λ e. e ≡ OutOfMemory) }
+/// The piece of the instance of a key, of which that text is kept.
+pub(crate) fn kept_piece<'t>(key: &'t Key, text: &'t [u8]) -> Piece<'t>
+    ensures { shown_one result ≡ (key.now.app, text.now) }
 {
-    match texts.get(&held.rec.key) {
-        Some(text) => Ok(Source::Kept(text)),
-        None => Ok(Source::Made(write_text(alloc, form, &held.rec, Some(held.action))?)),
+    Piece {
+        app: &key.app,
+        source: Source::Kept(text),
     }
 }
 
-/// An instance's app, and its kept text or, where none is kept, one that is made.
+/// The piece of a record and what was done to it, with a text that is made.
+pub(crate) fn make_piece<'t>(
+    alloc: Global,
+    form: Form,
+    rec: &'t Record,
+    action: Action,
+) -> Result<Piece<'t>, Fault>
+    ensures piece { IfOk result (λ p. shown_one p ≡ told_by form None (row rec.now, action)) }
+    ensures told { IfOk result (λ p. IsToldText form None (row rec.now, action)) }
+    ensures memory { IfErr result (λ e. e ≡ OutOfMemory) }
+{
+    Ok(Piece {
+        app: &rec.key.app,
+        source: Source::Made(write_text(alloc, form, rec, Some(action))?),
+    })
+}
+
+/// The piece of a held instance, with its kept text or, where none is kept, one that is made.
 pub(crate) fn piece_of<'t>(
     alloc: Global,
     form: Form,
@@ -63,10 +76,11 @@ pub(crate) fn piece_of<'t>(
     ensures told { IfOk result (λ p. IsJoinedText form texts.now (entry_of held.now)) }
     ensures memory { IfErr result (λ e. e ≡ OutOfMemory) }
 {
-    Ok(Piece {
-        app: &held.rec.key.app,
-        source: source_of(alloc, form, texts, held)?,
-    })
+    let key = &held.rec.key;
+    match texts.get(key) {
+        Some(text) => Ok(kept_piece(key, text)),
+        None => make_piece(alloc, form, &held.rec, held.action),
+    }
 }
 
 /// The pieces of these instances.

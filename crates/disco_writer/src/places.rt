@@ -1,8 +1,10 @@
 //! The texts in places by key, some of which may stand empty.
-ghost use Rattle.std.specs.Prelude.{◌≡◌, IfOk, IsSome, None, OnErr, OnOk, Some, option_map, true};
+ghost use Rattle.std.specs.Prelude.{◌≡◌, IfOk, IsSome, None, OnErr, OnOk, Some, map, option_map, true};
 ghost use Rattle.std.specs.FinMap as finmap;
 ghost use Rattle.std.specs.Option.{option_flatten};
 ghost use Rattle.disco_values.specs.declared.key.Key.{Key};
+ghost use Rattle.disco_history.specs.Places.{filled};
+ghost use Rattle.disco_writer.specs.InOrder.{keyed_text};
 ghost use Rattle.disco_writer.specs.Joined.{shown_by, shown_one, walked};
 ghost use Rattle.disco_writer.specs.Empty.{OpensOnly, ShowSame, SweepsAt};
 ghost use Rattle.disco_writer.specs.Named.{named_key};
@@ -43,6 +45,22 @@ fn walk<'t>(
     Ok(list)
 }
 
+/// The keys and the texts of places that aren't empty.
+fn walk_keyed<'t>(
+    alloc: Global,
+    places: &'t BTreeMap<Key, Option<Bytes>>,
+) -> Result<Vec<(&'t Key, &'t [u8])>, AllocError>
+    ensures { IfOk result (λ v. map keyed_text v.items ≡ filled (λ t. t) places.now.entries) }
+{
+    let mut list = Vec::with_capacity(alloc, places.len())?;
+    for (key, place) in places {
+        if let Some(text) = place {
+            list.push((key, text.as_slice()))?;
+        }
+    }
+    Ok(list)
+}
+
 /// The text in the place of a key.
 pub(crate) fn text_at<'t>(places: &'t Places<Bytes>, key: &Key) -> Option<&'t [u8]>
     ensures { option_map (λ t. t.now) result ≡ option_flatten (finmap.get places.now key.now) }
@@ -58,6 +76,16 @@ pub(crate) fn pieces_in(alloc: Global, places: &Places<Bytes>) -> Result<Vec<Pie
     ensures { IfOk result (λ v. shown_by v.items ≡ walked (finmap.entries places.now)) }
 {
     walk(alloc, places.as_map())
+}
+
+/// The key and the text of each instance that has one, in the order of their keys.
+pub(crate) fn entries_in(
+    alloc: Global,
+    places: &Places<Bytes>,
+) -> Result<Vec<(&Key, &[u8])>, AllocError>
+    ensures { IfOk result (λ v. map keyed_text v.items ≡ filled (λ t. t) (finmap.entries places.now)) }
+{
+    walk_keyed(alloc, places.as_map())
 }
 
 /// Makes a place for a key where there is none.

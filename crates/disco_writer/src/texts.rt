@@ -2,13 +2,14 @@
 ghost use Rattle.std.specs.Prelude.{◌≡◌, IfErr, IfOk, IsSome, List, None, OnErr, OnOk, Some, option_map, true, ℕ};
 ghost use Rattle.disco_values.specs.declared.fault.Fault.TheVariants.{OutOfMemory};
 ghost use Rattle.disco_values.specs.declared.key.Key.{Key};
-ghost use Rattle.std.specs.FinMap.{entries};
+ghost use Rattle.std.specs.FinMap.{entries, len};
+ghost use Rattle.disco_writer.specs.InOrder.{AreTheirs};
 ghost use Rattle.disco_writer.specs.Joined.{shown_by, walked};
 ghost use Rattle.disco_writer.specs.Kept.{HasNoEmpty, IsReadyFor, IsSameTexts, SetsText, none_kept, kept_text_at};
 
 use crate::named::Named;
 use crate::piece::Piece;
-use crate::places::{make, make_unless, pieces_in, put_named, sweep, text_at};
+use crate::places::{entries_in, make, make_unless, pieces_in, put_named, sweep, text_at};
 use disco_history::Places;
 use disco_instance::Record;
 use disco_values::{Bytes, Fault, Key};
@@ -55,6 +56,20 @@ impl Texts {
         ensures { option_map (λ t. t.now) result ≡ kept_text_at self.now key.now }
     {
         text_at(&self.places, key)
+    }
+
+    /// How many places there are, one of which may stand empty.
+    pub(crate) fn len(&self) -> usize
+        ensures { result ≡ len self.now.places }
+    {
+        self.places.len()
+    }
+
+    /// The key and the text of each instance that has one, in the order of their keys.
+    pub(crate) fn entries(&self, alloc: Global) -> Result<Vec<(&Key, &[u8])>, AllocError>
+        ensures { IfOk result (λ v. AreTheirs self.now v.items) }
+    {
+        entries_in(alloc, &self.places)
     }
 
     /// The app and the text of each instance that has one, in the order of their keys.

@@ -1,13 +1,12 @@
-use Rattle.std.proofs.Common.{◌≡◌, ℕ, true, ◌++◌, map, Bor}
-use Rattle.std.specs.List.{All, filter_map}
-use Rattle.disco_values.specs.declared.key.Key.{Key}
-use Rattle.disco_history.specs.Change.{is_proper, change_view}
-use Rattle.disco_history.specs.declared.change.Change.{Change}
-use Rattle.disco_queue.specs.Numbers.{numbered}
+use Rattle.std.proofs.Common.{◌≡◌, true, ◌++◌, map}
+use Rattle.std.specs.List.{All}
+use Rattle.disco_history.specs.Change.{is_proper}
+use Rattle.disco_queue.specs.Latest.{Latest}
+use Rattle.disco_queue.specs.Numbers.{keyed_change, numbered, numbered_keys}
 use Rattle.disco_queue.specs.Seen.{change_of}
 use Rattle.disco_queue.proofs.latest.numbered_in.Given as goal
 
-abbrev pub invariant-loop-number : goal.invariant-loop-number
-invariant-loop-number l =
-    (map (λ (c : Bor Change). change_view c.now) l.found.items ++ filter_map (λ (e : Key × ℕ). numbered l.before (map change_of l.kept.items) e.1) l.number-iterator ≡ filter_map (λ (e : Key × ℕ). numbered l.before (map change_of l.kept.items) e.1) l.places.entries)
-    × All (λ (c : Bor Change). is_proper c.now ≡ true) l.found.items
+abbrev pub invariant-loop-key : goal.invariant-loop-key
+invariant-loop-key l =
+    (map keyed_change l.found.items ++ numbered_keys (numbered l.before (map change_of l.kept.items)) l.key-iterator ≡ numbered_keys (numbered l.before (map change_of l.kept.items)) l.places.entries)
+    × All (λ (p : Latest). is_proper p.1.now ≡ true) l.found.items

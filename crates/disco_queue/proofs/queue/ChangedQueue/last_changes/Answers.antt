@@ -19,3 +19,6 @@ returns-clause-history c h keeps =
     ∙ ap (λ (es : List Entry). values (delta es 0)) (sym (seen_changes c.self.inside.kept.items))
     ∙ ap (λ (q : Queue). values (delta (changes q.kept) 0)) c.self.view_is
     ∙ ap (λ d. values d) (delta_from h c.args.self.now.kept c.args.self.now.base keeps.contents)
+
+pub returns-clause-keys : goal.returns-clause-keys
+returns-clause-keys c = c.in_ok-last_changes.ensures.keys c.self.invariant.1
