@@ -3,6 +3,7 @@
 #![tactic(auto)]
 
 mod clock;
+mod pauses;
 mod publishing;
 mod system_clock;
 mod tasks;

@@ -3,10 +3,11 @@ ghost use Rattle.std.specs.Prelude.{◌≡◌, IfErr};
 ghost use Rattle.disco_values.specs.declared.fault.Fault.TheVariants.{ReadFailed};
 
 use crate::clock::Clock;
+use crate::pauses::Pauses;
 use crate::tasks::{TASKS, Task, next_go, tend_once};
 use crate::timer::Timer;
 use disco_editions::Naming;
-use disco_press::Desk;
+use disco_press::{Desk, Room};
 use disco_values::Fault;
 use std::sync::atomic::{AtomicBool, Ordering};
 use std::sync::{Mutex, MutexGuard, Wait};
@@ -33,15 +34,53 @@ impl<'a> Ends<'a> {
     }
 }
 
+/// How much room the next go at a task takes, where it writes a document that names many instances.
+fn room_of_next<J: Naming>(desk: &Desk<J>, task: Task) -> Option<Room> {
+    match task {
+        Task::Publish => desk.next_room(),
+        Task::Clean => None,
+        Task::CloseMinute => None,
+        Task::Expire => None,
+    }
+}
+
+/// Takes the lock for the next go at a task. Room that it takes is made before, so that nobody waits
+/// for the lock while the host gives the memory.
+fn lock_with_room<'a, J: Naming, R: Wait>(
+    rt: &R,
+    desk: &'a Mutex<Desk<J>>,
+    task: Task,
+) -> MutexGuard<'a, Desk<J>> {
+    let guard = desk.lock(rt);
+    let Some(room) = room_of_next(&*guard, task) else {
+        return guard;
+    };
+    MutexGuard::unlock(guard);
+    let made = room.make();
+    let mut guard = desk.lock(rt);
+    if let Ok(made) = made {
+        guard.lend(made);
+    }
+    guard
+}
+
 /// Does a task at a moment, each go of it under the lock, which others may have between two goes.
 /// Where there is no memory the round stays open for the next time, and what a run is refused is taken
 /// the next time.
-fn tend<J: Naming, R: Wait>(rt: &R, desk: &Mutex<Desk<J>>, task: Task, now: u64, ends: Ends<'_>) {
+fn tend<J: Naming, R: Wait + rt::Clock>(
+    rt: &R,
+    desk: &Mutex<Desk<J>>,
+    task: Task,
+    now: u64,
+    pauses: &mut Pauses,
+    ends: Ends<'_>,
+) {
     for _ in rt.forever() {
         if ends.have_come() {
             return;
         }
-        let mut guard = desk.lock(rt);
+        pauses.pause_if_due(rt);
+        let mut guard = lock_with_room(rt, desk, task);
         let tended = tend_once(rt, &mut *guard, task, now);
         MutexGuard::unlock(guard);
         if !matches!(tended, Ok(true)) {
@@ -52,14 +91,20 @@ fn tend<J: Naming, R: Wait>(rt: &R, desk: &Mutex<Desk<J>>, task: Task, now: u64,
 
 /// Cleans up to a moment, by goes that forget the changes of a step each, so that nobody waits for
 /// all that came in a period.
-fn clean<J: Naming, R: Wait>(rt: &R, desk: &Mutex<Desk<J>>, now: u64, ends: Ends<'_>) {
+fn clean<J: Naming, R: Wait + rt::Clock>(
+    rt: &R,
+    desk: &Mutex<Desk<J>>,
+    now: u64,
+    pauses: &mut Pauses,
+    ends: Ends<'_>,
+) {
     let mut moment = now.saturating_sub(Task::Clean.period());
     for _ in rt.forever() {
         if ends.have_come() || moment >= now {
             return;
         }
         moment = next_go(moment, now);
-        tend(rt, desk, Task::Clean, moment, ends);
+        tend(rt, desk, Task::Clean, moment, pauses, ends);
     }
 }
 
@@ -78,9 +123,10 @@ fn tend_often<J: Naming, R: Wait + rt::Clock, C: Clock + Copy>(
         }
         let now = clock.now();
         if timer.is_due(now) {
+            let mut pauses = Pauses::new(rt);
             match task {
-                Task::Clean => clean(rt, desk, now, ends),
-                other => tend(rt, desk, other, now, ends),
+                Task::Clean => clean(rt, desk, now, &mut pauses, ends),
+                other => tend(rt, desk, other, now, &mut pauses, ends),
             }
         }
         thread::sleep(rt, Duration::from_millis(NAP_MILLIS));
