@@ -38,11 +38,27 @@ pub(crate) fn numbered_in<'a>(
     ensures proper { IfOk result (λ found. All (λ p. is_proper p.1.now ≡ true) found.items) }
     ensures ordered { IsOrdered key_cmp places.now }
 {
-    let mut found = Vec::new(alloc);
+    let mut found = Vec::with_capacity(alloc, places.len())?;
     for (key, number) in places {
         if let Some(change) = numbered(kept, before, *number) {
             found.push((key, change))?;
         }
+    }
+    Ok(found)
+}
+
+/// The changes of the pairs, in their order.
+pub(crate) fn without_keys<'a>(
+    pairs: &[(&'a Key, &'a Change)],
+    alloc: Global,
+) -> Result<Vec<&'a Change>, AllocError>
+    requires { All (λ p. is_proper p.1.now ≡ true) pairs.now }
+    ensures changes { IfOk result (λ found. map (λ c. change_view c.now) found.items ≡ map (λ p. change_view p.1.now) pairs.now) }
+    ensures proper { IfOk result (λ found. All (λ c. is_proper c.now ≡ true) found.items) }
+{
+    let mut found = Vec::with_capacity(alloc, pairs.len())?;
+    for (_, change) in pairs {
+        found.push(*change)?;
     }
     Ok(found)
 }

@@ -15,6 +15,7 @@ ghost use Rattle.disco_queue.specs.Queue.{AddsNoneEmpty, AreFilled, HasNumberPla
 ghost use Rattle.disco_queue.specs.Timed.{Timed, changes};
 
 use crate::kept::Kept;
+use crate::latest::without_keys;
 use crate::numbers::Numbers;
 use disco_history::Change;
 use disco_values::{Fault, Key};
@@ -224,12 +225,30 @@ impl ChangedQueue {
         }
     }
 
-    /// Each kept key with its last change, in the order of the keys. Takes memory for them alone.
+    /// The last kept change of each key, in the order of the keys. Takes memory for the references
+    /// alone.
     ///
     /// # Errors
     ///
     /// `OutOfMemory` alone.
-    pub fn last_changes(&self, alloc: Global) -> Result<Vec<(&Key, &Change)>, Fault>
+    pub fn last_changes(&self, alloc: Global) -> Result<Vec<&Change>, Fault>
+        ensures kept { IfOk result (λ found. map (λ c. change_view c.now) found.items ≡ values (delta (changes self.now.kept) 0)) }
+        ensures history { (h : List Timed) → KeepsHistory self.now h
+            → IfOk result (λ found. map (λ c. change_view c.now) found.items ≡ values (delta (changes h) self.now.base)) }
+        ensures proper { IfOk result (λ found. All (λ c. is_proper c.now ≡ true) found.items) }
+        ensures memory { IfErr result (λ e. e ≡ OutOfMemory) }
+    {
+        let pairs = self.last_changes_with_keys(alloc)?;
+        Ok(without_keys(pairs.as_slice(), alloc)?)
+    }
+
+    /// Each kept key with its last change, in the order of the keys. Takes memory for the references
+    /// alone.
+    ///
+    /// # Errors
+    ///
+    /// `OutOfMemory` alone.
+    pub fn last_changes_with_keys(&self, alloc: Global) -> Result<Vec<(&Key, &Change)>, Fault>
         ensures kept { IfOk result (λ found. map (λ p. change_view p.1.now) found.items ≡ values (delta (changes self.now.kept) 0)) }
         ensures history { (h : List Timed) → KeepsHistory self.now h
             → IfOk result (λ found. map (λ p. change_view p.1.now) found.items ≡ values (delta (changes h) self.now.base)) }

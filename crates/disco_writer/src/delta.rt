@@ -105,7 +105,7 @@ pub(crate) fn write_delta(
     ensures memory { IfErr result (λ e. e ≡ OutOfMemory) }
 {
     let alloc = *room.allocator();
-    let last = queue.last_changes(alloc)?;
+    let last = queue.last_changes_with_keys(alloc)?;
     let pieces = pieces_by(alloc, form, texts, last.as_slice())?;
     let hash = counts.text(alloc)?;
     Ok(join_many(room, pieces.as_slice(), &hash, registry.version())?)

@@ -72,7 +72,7 @@ fn room_of_apps(alloc: Global, texts: &Texts) -> Option<Room> {
 
 /// The room of the recent changes, where they are of many instances.
 fn room_of_delta(alloc: Global, form: Form, queue: &ChangedQueue, texts: &Texts) -> Option<Room> {
-    let last = queue.last_changes(alloc).ok()?;
+    let last = queue.last_changes_with_keys(alloc).ok()?;
     if last.len() < MANY {
         return None;
     }

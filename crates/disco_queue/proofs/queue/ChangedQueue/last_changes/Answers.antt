@@ -1,24 +1,16 @@
-use Rattle.std.proofs.Common.{List, ap, sym, ◌∙◌}
-use Rattle.std.specs.FinMap.{values}
-use Rattle.disco_history.specs.Change.{Entry}
-use Rattle.disco_history.specs.Mentions.{delta}
-use Rattle.disco_queue.specs.Queue.{Queue}
-use Rattle.disco_queue.specs.Timed.{changes}
-use Rattle.disco_queue.proofs.LastChanges.{delta_from, seen_changes}
+use Rattle.std.proofs.Common.{ap, map, ◌∙◌}
+use Rattle.disco_history.specs.Change.{change_view}
+use Rattle.disco_queue.specs.Latest.{Latest}
 use Rattle.disco_queue.proofs.queue.ChangedQueue.last_changes.Goals as goal
 
 pub returns-clause-kept : goal.returns-clause-kept
 returns-clause-kept c =
-    c.in_ok-last_changes.ensures.last c.self.invariant.1
-    ∙ ap (λ (es : List Entry). values (delta es 0)) (sym (seen_changes c.self.inside.kept.items))
-    ∙ ap (λ (q : Queue). values (delta (changes q.kept) 0)) c.self.view_is
+    c.in_ok-without_keys.ensures.changes
+    ∙ ap (map (λ (p : Latest). change_view p.1.now)) c.as_slice.ensures.value
+    ∙ c.in_ok-pairs.ensures.kept
 
 pub returns-clause-history : goal.returns-clause-history
 returns-clause-history c h keeps =
-    c.in_ok-last_changes.ensures.last c.self.invariant.1
-    ∙ ap (λ (es : List Entry). values (delta es 0)) (sym (seen_changes c.self.inside.kept.items))
-    ∙ ap (λ (q : Queue). values (delta (changes q.kept) 0)) c.self.view_is
-    ∙ ap (λ d. values d) (delta_from h c.args.self.now.kept c.args.self.now.base keeps.contents)
-
-pub returns-clause-keys : goal.returns-clause-keys
-returns-clause-keys c = c.in_ok-last_changes.ensures.keys c.self.invariant.1
+    c.in_ok-without_keys.ensures.changes
+    ∙ ap (map (λ (p : Latest). change_view p.1.now)) c.as_slice.ensures.value
+    ∙ c.in_ok-pairs.ensures.history h keeps
