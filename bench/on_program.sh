@@ -1,7 +1,8 @@
 # What the benches share. Each reads this file in with `.`, and calls `on_program` once.
 
 # Builds the program, and runs the Python script of that name in bench/ on it, in a folder that goes at
-# the end, with the words that follow.
+# the end, with the words that follow. It is given the program itself and not `discovery`, which looks
+# for newer sources each time.
 on_program() {
     script=$1
     shift
@@ -10,5 +11,5 @@ on_program() {
     trap 'rm -rf "$work"' EXIT
     trap 'exit 1' HUP INT TERM
     "$root/discovery" replay </dev/null
-    python3 "$root/bench/$script" "$root/discovery" "$work" "$@"
+    python3 "$root/bench/$script" "$root/crates/discovery/out/discovery" "$work" "$@"
 }
