@@ -8,6 +8,7 @@ mod hub;
 mod locked;
 mod replies;
 mod shared;
+mod waiting;
 
 pub use desk::answer_on;
 pub use hub::answer_hub;
