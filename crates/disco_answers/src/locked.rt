@@ -11,7 +11,7 @@ ghost use Rattle.disco_answers.specs.Replies.{shared_text};
 use crate::desk::answer_read;
 use crate::replies::showing;
 use crate::shared::Shared;
-use crate::waiting::lock_soon;
+use crate::waiting::spin_and_lock;
 use disco_calls::{Call, call_of_with};
 use disco_editions::{Looked, Naming};
 use disco_message::{Reply, Request};
@@ -51,7 +51,7 @@ fn answer_locked<J: Naming, R: Wait>(
         → IsAnsweredBySome seat.old seat.new asked now (reply_view shared_text result) }
     ensures known { IsPrefix seat.old.known seat.new.known }
 {
-    let mut guard = lock_soon(rt, desk);
+    let mut guard = spin_and_lock(rt, desk);
     let reply = answer_read(&mut *guard, seat, called, now);
     MutexGuard::unlock(guard);
     reply

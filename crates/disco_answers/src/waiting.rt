@@ -3,10 +3,10 @@
 use std::hint::spin_loop;
 use std::sync::{Mutex, MutexGuard, Wait};
 
-/// How often a lock is looked for before the thread sleeps.
-const LOOKS: u32 = 40;
+/// How often a lock is tried before the thread sleeps.
+const TRIES: u32 = 40;
 
-/// How often the processor pauses between two looks, each of which disturbs who holds the lock.
+/// How often the processor pauses between two tries, each of which disturbs who holds the lock.
 const PAUSES: u32 = 24;
 
 fn pause() {
@@ -15,11 +15,11 @@ fn pause() {
     }
 }
 
-/// Takes a lock as [`Mutex::lock`] does, but looks for it longer before the thread sleeps: for some 5
+/// Takes a lock as [`Mutex::lock`] does, but spins longer before the thread sleeps: for some 5
 /// microseconds, or 50 where a pause of the processor is long. A change holds the lock for less than
 /// it costs to sleep and to be woken.
-pub(crate) fn lock_soon<'m, T, R: Wait>(rt: &R, mutex: &'m Mutex<T>) -> MutexGuard<'m, T> {
-    for _ in 0..LOOKS {
+pub(crate) fn spin_and_lock<'m, T, R: Wait>(rt: &R, mutex: &'m Mutex<T>) -> MutexGuard<'m, T> {
+    for _ in 0..TRIES {
         if let Some(guard) = mutex.try_lock() {
             return guard;
         }
