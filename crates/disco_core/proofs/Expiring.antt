@@ -1,5 +1,5 @@
 -- What a run takes, and what it leaves.
-use Rattle.std.proofs.Common.{◌≡◌, ◌<◌, ℕ, ◌*◌, ◌+◌, cond, List, [], length, Bor, Result, Ok, Err, IfOk, OnErr, subst, map, take, Option, Some, None, option_map, refl, sym, ap, ◌∙◌}
+use Rattle.std.proofs.Common.{◌≡◌, ◌<◌, ℕ, ◌*◌, ◌+◌, cond, List, [], length, Result, Ok, Err, IfOk, OnErr, subst, map, take, Option, Some, None, option_map, refl, sym, ap, ◌∙◌}
 use Rattle.std.proofs.lemmas.Option.{same_Some}
 use Rattle.std.specs.FinMap.{get, keys, len}
 use Rattle.std.specs.Option.{option_flatten, option_map_or}
@@ -43,8 +43,8 @@ takes v p held now are count =
     λ i. cond (lets_expire (are.closed i)) (take (most_taken (count i)) (map (λ (d : ℕ × Key). d.1) (keys (due i)))) []
 
 -- the same of a call that may be refused
-pub gives_taken : (r : Result (Vec (Bor Key) Global) Fault) (v : Leases) (s : CoreState) (held now : ℕ) → ((p : Past) → CoreStandsFor s p → taken v.closed (due_at v) (keys v.places) held now ≡ taken_in p now)
-    → IfOk r (λ found. map (λ k. k.now) found.items ≡ taken v.closed (due_at v) (keys v.places) held now) → IfOk r (λ found. (p : Past) → CoreStandsFor s p → map (λ k. k.now) found.items ≡ taken_in p now)
+pub gives_taken : (r : Result (Vec Key Global) Fault) (v : Leases) (s : CoreState) (held now : ℕ) → ((p : Past) → CoreStandsFor s p → taken v.closed (due_at v) (keys v.places) held now ≡ taken_in p now)
+    → IfOk r (λ found. found.items ≡ taken v.closed (due_at v) (keys v.places) held now) → IfOk r (λ found. (p : Past) → CoreStandsFor s p → found.items ≡ taken_in p now)
 gives_taken (Ok found) v s held now same is = λ p stands. is ∙ same p stands
 gives_taken (Err e) v s held now same is = tt
 

@@ -503,8 +503,8 @@ impl Core {
     /// # Errors
     ///
     /// `OutOfMemory` alone, and only where there is such a key.
-    pub fn due(&self, now: u64) -> Result<Vec<&Key>, Fault>
-        ensures keys { IfOk result (λ found. (p : Past) → CoreStandsFor self.now p → map (λ k. k.now) found.items ≡ taken_in p now) }
+    pub fn due(&self, now: u64) -> Result<Vec<Key>, Fault>
+        ensures keys { IfOk result (λ found. (p : Past) → CoreStandsFor self.now p → found.items ≡ taken_in p now) }
         ensures memory { IfErr result (λ e. e ≡ OutOfMemory) }
         ensures refused { OnErr result ((p : Past) → CoreStandsFor self.now p → 0 < length (taken_in p now)) }
     {

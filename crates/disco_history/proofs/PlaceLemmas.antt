@@ -1,57 +1,14 @@
--- What a change of a tree's entries does to the places that they stand for, and to what they show.
-use Rattle.std.proofs.Common.{◌≡◌, Bool, true, false, cond, T, List, [], ◌∷◌, length, map, Option, Some, None, IsSome, option_map, refl, sym, ap, subst, ◌∙◌}
-use Rattle.std.specs.FinMap.{FinMap, entries, entries_sorted, from_entries, from_sorted, entries-from_sorted, get, get-entries, get-from_entries, get-from_sorted, insert, remove, len, len-entries, same_map, get-insert, get-remove, values}
-use Rattle.std.specs.BTreeMap.{is_at}
+-- What is shown of places that aren't empty, and what a change of them does to it.
+use Rattle.std.proofs.Common.{◌≡◌, Bool, true, false, cond, T, List, [], ◌∷◌, map, Option, Some, None, option_map, refl, sym, ap, subst, ◌∙◌}
+use Rattle.std.specs.FinMap.{FinMap, entries, entries_sorted, from_entries, from_sorted, entries-from_sorted, get, get-entries, get-from_entries, get-from_sorted, insert, remove, same_map, get-insert, get-remove, values}
 use Rattle.std.specs.FinMap.Entries.{below_all, find, is_sorted}
 use Rattle.std.specs.List.{cons_option, filter_map}
-use Rattle.std.specs.List.Sorted.{IsStrictlySortedBy}
-use Rattle.std.specs.Map.{keys_of}
 use Rattle.std.specs.Option.{option_flatten}
 use Rattle.disco_values.specs.Key.{key_cmp, same_key}
 use Rattle.disco_values.specs.declared.key.Key.{Key}
-use Rattle.disco_history.proofs.Keys.{keys_total, exact_keys, same_is, same_key-sym}
-use Rattle.disco_history.proofs.Slots.{Updated, at_key, get_stored}
-use Rattle.disco_history.proofs.Sorted.{both, both_first, both_second, in_order, none_below}
-use Rattle.disco_history.specs.Places.{filled, filled_in, places_of}
-
-module _ {V : Type 0} where
-  get_updated : (es fs : List (Key × Option V)) (k : Key) (w : Option (Option V)) → Updated es fs k w → (q : Key) → get (places_of fs) q ≡ cond (same_key q k) w (get (places_of es) q)
-  get_updated es fs k w h q =
-      get_stored fs q ∙ h q ∙ ap (λ b. cond b w (at_key es q)) (same_key-sym k q) ∙ ap (cond (same_key q k) w) (sym (get_stored es q))
-
-  pub one_put : (es fs : List (Key × Option V)) (k : Key) (p : Option V) → Updated es fs k (Some p) → places_of fs ≡ insert (places_of es) k p
-  one_put es fs k p h = same_map keys_total exact_keys _ _ (λ q. get_updated es fs k (Some p) h q ∙ sym (get-insert keys_total (places_of es) k p q))
-
-  -- an empty place for a key, in place of none or of an empty one
-  pub one_made : (es fs : List (Key × Option V)) (k : Key) (o : Option (Option V)) → Updated es fs k (Some None) → o ≡ at_key es k → option_flatten o ≡ None → places_of fs ≡ insert (places_of es) k (option_flatten (get (places_of es) k))
-  one_made es fs k o h was none = one_put es fs k None h ∙ ap (insert (places_of es) k) (sym (ap option_flatten (get_stored es k ∙ sym was) ∙ none))
-
-  twice : (b : Bool) (w v x y : Option (Option V)) → y ≡ cond b w x → cond b v y ≡ cond b v x
-  twice true w v x y e = refl
-  twice false w v x y e = e
-
-  -- and what stood in its place is put back
-  pub put_back : (es fs gs : List (Key × Option V)) (k : Key) (v : V) → Updated es fs k (Some None) → Updated fs gs k (Some (Some v)) → Some (Some v) ≡ at_key es k → places_of gs ≡ insert (places_of es) k (option_flatten (get (places_of es) k))
-  put_back es fs gs k v made back was =
-      one_put es gs k (Some v) (λ q. back q ∙ twice (is_at (key_cmp k) q) (Some None) (Some (Some v)) (at_key es q) (at_key fs q) (made q))
-      ∙ ap (insert (places_of es) k) (sym (ap option_flatten (get_stored es k ∙ sym was)))
-
-  pub one_out : (es fs : List (Key × Option V)) (k : Key) → Updated es fs k None → places_of fs ≡ remove (places_of es) k
-  one_out es fs k h = same_map keys_total exact_keys _ _ (λ q. get_updated es fs k None h q ∙ sym (get-remove keys_total (places_of es) k q))
-
-  pub place_at : (es : List (Key × Option V)) (q : Key) → IsSome (get (places_of es) q) → IsSome (at_key es q)
-  place_at es q h = subst (λ (o : Option (Option V)). IsSome o) (get_stored es q) h
-
-  -- a tree's entries are those of the places that they stand for
-  pub stored : (es : List (Key × Option V)) → IsStrictlySortedBy key_cmp (keys_of es) → entries (places_of es) ≡ es
-  stored es ordered =
-      let sorted = in_order es ordered in
-      ap entries (same_map keys_total exact_keys (from_entries es) (from_sorted es) (λ q. get-from_entries keys_total es q ∙ sym (get-from_sorted key_cmp es q sorted))) ∙ entries-from_sorted key_cmp es sorted
-
-  pub stored_len : (es : List (Key × Option V)) → IsStrictlySortedBy key_cmp (keys_of es) → length es ≡ len (places_of es)
-  stored_len es ordered = ap length (sym (stored es ordered)) ∙ sym (len-entries (places_of es))
-
--- ---- what is shown of the places that aren't empty
+use Rattle.disco_history.proofs.Keys.{keys_total, exact_keys, same_is}
+use Rattle.disco_history.proofs.Sorted.{both, both_first, both_second, none_below}
+use Rattle.disco_history.specs.Places.{filled, filled_in}
 
 module _ {V W : Type 0} (f : V → W) where
   below_filled : (k : Key) (es : List (Key × Option V)) → T (below_all key_cmp k es) → T (below_all key_cmp k (filled f es))

@@ -1,13 +1,9 @@
--- Places by key, which may stand empty. Nothing here is to be believed: it is the view of a type.
+-- What is shown of places by key that may stand empty. Nothing here is to be believed: it is the view of types.
 use Rattle.std.specs.Prelude.{List, Option, option_map}
 use Rattle.std.specs.FinMap.{FinMap, entries, from_entries}
 use Rattle.std.specs.List.{filter_map}
 use Rattle.disco_values.specs.Key.{key_cmp}
 use Rattle.disco_values.specs.declared.key.Key.{Key}
-
--- the places that a tree's entries stand for
-abbrev pub places_of : {V : Type 0} → List (Key × Option V) → FinMap key_cmp (Option V)
-places_of es = from_entries es
 
 -- what f shows of the values in entries, by their keys
 abbrev pub filled : {V W : Type 0} → (V → W) → List (Key × Option V) → List (Key × W)

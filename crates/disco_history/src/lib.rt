@@ -8,9 +8,7 @@ mod change;
 mod held;
 pub mod laws;
 mod list;
-mod places;
 
 pub use change::{Change, last_of};
 pub use held::Held;
 pub use list::RecordList;
-pub use places::Places;

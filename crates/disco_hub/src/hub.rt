@@ -22,7 +22,7 @@ ghost use Rattle.disco_rounds.specs.Rounds.{Advances, StaysOpen};
 ghost use Rattle.disco_hub.specs.State.{IsCopied, IsEmptyHub, IsSameHub, HubStandsFor, open_round, rules_of, version_of};
 ghost use Rattle.disco_rounds.specs.Press.{is_doc};
 
-use crate::expiry::{Expired, expire, taken};
+use crate::expiry::{Expired, expire};
 use crate::keeping::{forget, keep};
 use disco_cache::{DocCache, Edition, Payload};
 use disco_core::{Core, Ready, Room};
@@ -190,25 +190,12 @@ impl Hub {
     /// # Errors
     ///
     /// `OutOfMemory` alone, and only where there is such a key.
-    pub fn due(&self, now: u64) -> Result<Vec<&Key>, Fault>
-        ensures keys { IfOk result (λ found. (p : Past) → HubStandsFor self.now p → map (λ k. k.now) found.items ≡ taken_in p now) }
-        ensures memory { IfErr result (λ e. e ≡ OutOfMemory) }
-        ensures refused { OnErr result ((p : Past) → HubStandsFor self.now p → 0 < length (taken_in p now)) }
-    {
-        self.core.due(now)
-    }
-
-    /// The keys that [`Hub::due`] gives, as keys of their own.
-    ///
-    /// # Errors
-    ///
-    /// `OutOfMemory` alone, and only where there is such a key.
-    pub fn taken(&self, now: u64) -> Result<Vec<Key>, Fault>
+    pub fn due(&self, now: u64) -> Result<Vec<Key>, Fault>
         ensures keys { IfOk result (λ found. (p : Past) → HubStandsFor self.now p → found.items ≡ taken_in p now) }
         ensures memory { IfErr result (λ e. e ≡ OutOfMemory) }
         ensures refused { OnErr result ((p : Past) → HubStandsFor self.now p → 0 < length (taken_in p now)) }
     {
-        taken(self.alloc, self, now)
+        self.core.due(now)
     }
 
     /// Cancels at a moment in milliseconds, one by one, the instances that [`Hub::due`] gives when it
@@ -218,7 +205,7 @@ impl Hub {
         ensures history { Expires self.old self.new now (λ p. taken_in p now) result.gone result.stopped }
         ensures rest { KeepsRest self.old self.new }
     {
-        expire(self.alloc, self, now)
+        expire(self, now)
     }
 
     /// The document that is asked for, shared: the kept one where it is kept, and else one that is

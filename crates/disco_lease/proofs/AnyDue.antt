@@ -1,15 +1,14 @@
 -- Whether any lease has run out.
-use Rattle.std.proofs.Common.{◌≡◌, ℕ, zero, suc, ◌+◌, ◌<◌, ◌||◌, Bool, true, false, cond, List, [], ◌∷◌, map, length, Option, Some, None, option_map, is_some, refl, sym, ap, subst, ◌∙◌, arith}
+use Rattle.std.proofs.Common.{◌≡◌, ℕ, zero, suc, ◌+◌, ◌<◌, ◌||◌, Bool, true, false, cond, List, [], ◌∷◌, ◌++◌, map, length, Option, Some, None, option_map, is_some, refl, sym, ap, subst, ◌∙◌, arith}
 use Rattle.std.proofs.lemmas.List.{length-map}
-use Rattle.std.specs.BTreeMap as tree
-use Rattle.std.specs.BTreeMap.{BTreeMap}
 use Rattle.std.specs.FinMap.{FinMap, contains_key, empty_of_len, entries, from_entries, get-empty, keys, len, len-entries, len-insert}
 use Rattle.std.specs.List.{cons_option, list_any}
 use Rattle.disco_values.specs.Key.{key_cmp}
 use Rattle.disco_values.specs.declared.key.Key.{Key}
+use Rattle.disco_places.specs.KeyMaps.{ById, of_app, of_apps}
 use Rattle.disco_lease.specs.Leases as leases
 use Rattle.disco_lease.specs.Due.{due_cmp, due_moment, overdue, passed}
-use Rattle.disco_lease.specs.Seen.{has_run_out, pair, pairs, plain_lease, seen_places}
+use Rattle.disco_lease.specs.Seen.{has_run_out, ids_with_app, pair, pairs, plain_lease, seen}
 use Rattle.disco_lease.specs.declared.lease.Lease.{Lease}
 use Rattle.disco_lease.proofs.Due.{dues_total, exact_dues}
 use Rattle.disco_lease.proofs.Ordered.{Entries, collected, due_of, entries_stored}
@@ -60,14 +59,30 @@ abbrev due_keys : FinMap key_cmp (Option leases.Lease) → ℕ → List (ℕ × 
 due_keys m now = keys (overdue (due_of m) (keys m) now)
 
 -- where none has run out there is none to take
-pub none_due : (m : BTreeMap Key (Option Lease)) (now : ℕ) → tree.IsOrdered key_cmp m → list_any (λ (e : Key × Option Lease). has_run_out now e.1) m.entries ≡ false → due_keys (seen_places m.entries) now ≡ []
-none_due m now ordered none =
-    ap (λ (x : FinMap due_cmp (Unit {0})). keys x) (sym (collected m now ordered) ∙ ap (λ l. from_entries l) (no_pairs now m.entries none))
+pub none_due : (m : FinMap key_cmp (Option Lease)) (now : ℕ) → list_any (λ (e : Key × Option Lease). has_run_out now e.1) (entries m) ≡ false → due_keys (seen m) now ≡ []
+none_due m now none =
+    ap (λ (x : FinMap due_cmp (Unit {0})). keys x) (sym (collected m now) ∙ ap (λ l. from_entries l) (no_pairs now (entries m) none))
     ∙ ap (map (λ (e : (ℕ × Key) × Unit {0}). e.0)) (entries_stored dues_total exact_dues [] tt)
 
 -- where one has run out there is one to take
-pub some_due : (m : BTreeMap Key (Option Lease)) (now : ℕ) → tree.IsOrdered key_cmp m → list_any (λ (e : Key × Option Lease). has_run_out now e.1) m.entries ≡ true → 0 < length (due_keys (seen_places m.entries) now)
-some_due m now ordered some =
-    let count : len (from_entries {R = due_cmp} (pairs now m.entries)) ≡ length (due_keys (seen_places m.entries) now) =
-    len-entries (from_entries (pairs now m.entries)) ∙ sym (length-map (entries (from_entries {R = due_cmp} (pairs now m.entries))) (λ (e : (ℕ × Key) × Unit {0}). e.0)) ∙ ap (λ (x : FinMap due_cmp (Unit {0})). length (keys x)) (collected m now ordered) in
-    subst (λ n. 0 < n) count (some_in (pairs now m.entries) (some_pairs now m.entries some))
+pub some_due : (m : FinMap key_cmp (Option Lease)) (now : ℕ) → list_any (λ (e : Key × Option Lease). has_run_out now e.1) (entries m) ≡ true → 0 < length (due_keys (seen m) now)
+some_due m now some =
+    let count : len (from_entries {R = due_cmp} (pairs now (entries m))) ≡ length (due_keys (seen m) now) =
+    len-entries (from_entries (pairs now (entries m))) ∙ sym (length-map (entries (from_entries {R = due_cmp} (pairs now (entries m)))) (λ (e : (ℕ × Key) × Unit {0}). e.0)) ∙ ap (λ (x : FinMap due_cmp (Unit {0})). length (keys x)) (collected m now) in
+    subst (λ n. 0 < n) count (some_in (pairs now (entries m)) (some_pairs now (entries m) some))
+
+any_both : (P : Key × Option Lease → Bool) (xs ys : List (Key × Option Lease)) → list_any P (xs ++ ys) ≡ (list_any P xs || list_any P ys)
+any_both P [] ys = refl
+any_both P (x ∷ xs) ys = ap (λ b. P x || b) (any_both P xs ys) ∙ by (P x)
+  where
+    by : (b : Bool) → (b || (list_any P xs || list_any P ys)) ≡ ((b || list_any P xs) || list_any P ys)
+    by true = refl
+    by false = refl
+
+any_app : (now : ℕ) (a : List ℕ) (es : List (List ℕ × Option Lease)) → list_any (λ (e : Key × Option Lease). has_run_out now e.1) (ids_with_app a es) ≡ list_any (λ (e : List ℕ × Option Lease). has_run_out now e.1) es
+any_app now a [] = refl
+any_app now a (e ∷ es) = ap (λ b. has_run_out now e.1 || b) (any_app now a es)
+
+-- whether any has of this app, or of the rest
+pub any_more : (now : ℕ) (a : List ℕ × ById (Option Lease)) (rest : List (List ℕ × ById (Option Lease))) → list_any (λ (e : Key × Option Lease). has_run_out now e.1) (of_apps (a ∷ rest)) ≡ (list_any (λ (e : List ℕ × Option Lease). has_run_out now e.1) (entries a.1) || list_any (λ (e : Key × Option Lease). has_run_out now e.1) (of_apps rest))
+any_more now a rest = any_both (λ (e : Key × Option Lease). has_run_out now e.1) (of_app a) (of_apps rest) ∙ ap (λ b. b || list_any (λ (e : Key × Option Lease). has_run_out now e.1) (of_apps rest)) (any_app now a.0 (entries a.1))

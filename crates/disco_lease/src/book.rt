@@ -194,8 +194,8 @@ impl LeaseBook {
     /// # Errors
     ///
     /// `OutOfMemory` alone, and only where there is such a key.
-    pub fn due(&self, alloc: Global, now: u64, held: u64) -> Result<Vec<&Key>, Fault>
-        ensures keys { IfOk result (λ found. map (λ k. k.now) found.items ≡ taken self.now.closed (due_at self.now) (keys self.now.places) held now) }
+    pub fn due(&self, alloc: Global, now: u64, held: u64) -> Result<Vec<Key>, Fault>
+        ensures keys { IfOk result (λ found. found.items ≡ taken self.now.closed (due_at self.now) (keys self.now.places) held now) }
         ensures memory { IfErr result (λ e. e ≡ OutOfMemory) }
         ensures refused { OnErr result (0 < length (taken self.now.closed (due_at self.now) (keys self.now.places) held now)) }
     {

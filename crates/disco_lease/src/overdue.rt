@@ -1,63 +1,89 @@
 //! Leases that have run out.
-ghost use Rattle.std.specs.Prelude.{◌≡◌, ℕ, IfOk, OnOk, map, option_map};
+ghost use Rattle.std.specs.Prelude.{◌≡◌, ◌||◌, ℕ, IfOk, OnOk, map};
 ghost use Rattle.std.specs.FinMap as finmap;
 ghost use Rattle.std.specs.BTreeMap.{IsOrdered};
 ghost use Rattle.std.specs.List.{list_any};
-ghost use Rattle.std.specs.Option.{option_flatten, option_or};
-ghost use Rattle.disco_values.specs.Key.{key_cmp};
-ghost use Rattle.disco_lease.specs.Due.{due_moment, overdue};
+ghost use Rattle.std.specs.Option.{option_or};
+ghost use Rattle.disco_places.specs.KeyMaps.{of_apps};
+ghost use Rattle.disco_lease.specs.Due.{due_cmp};
 ghost use Rattle.disco_values.specs.declared.key.Key.{Key};
-ghost use Rattle.disco_lease.specs.Seen.{at_pair, pair, pairs, has_run_out, seen_due, seen_places, stored_cmp};
+ghost use Rattle.disco_lease.specs.Seen.{at_pair, ids_with_app, pair, pairs, has_run_out, seen_due};
 
 use crate::lease::Lease;
-use disco_values::Key;
+use disco_places::IdMap;
+use disco_values::{Key, Text};
 use std::alloc::{AllocError, Global};
 use std::collections::BTreeMap;
 
 /// The keys of leases that have run out, by due moment and then by key.
-pub(crate) type Overdue<'a> = BTreeMap<(u128, &'a Key), ()>;
+pub(crate) type Overdue = BTreeMap<(u128, Key), ()>;
+
+/// The places of the leases of each app.
+type Apps = BTreeMap<Text, IdMap<Option<Lease>>>;
+
+/// The key of this app and this id.
+fn key_of(app: &Text, id: &Text) -> Result<Key, AllocError>
+    ensures { IfOk result (λ k. k ≡ record { app = app.now; id = id.now }) }
+{
+    Ok(Key {
+        app: app.clone()?,
+        id: id.clone()?,
+    })
+}
 
 /// Adds the key of a lease that has run out.
-fn add<'a>(
-    overdue: &mut Overdue<'a>,
-    key: &'a Key,
+fn add(
+    overdue: &mut Overdue,
+    app: &Text,
+    id: &Text,
     place: &Option<Lease>,
     now: u64,
 ) -> Result<(), AllocError>
     ensures { OnOk result ((q : ℕ × Key) → finmap.get (seen_due overdue.new.entries) q ≡
-        option_or (at_pair q (pair now (key.now, place.now))) (finmap.get (seen_due overdue.old.entries) q)) }
+        option_or (at_pair q (pair now (record { app = app.now; id = id.now }, place.now))) (finmap.get (seen_due overdue.old.entries) q)) }
 {
     if let Some(lease) = place {
         let due = lease.due();
         if due < u128::from(now) {
-            overdue.insert((due, key), ())?;
+            overdue.insert((due, key_of(app, id)?), ())?;
         }
     }
     Ok(())
 }
 
-fn collect<'a>(
-    alloc: Global,
-    places: &'a BTreeMap<Key, Option<Lease>>,
+/// Adds the keys of those leases of an app that have run out.
+fn collect_ids(
+    overdue: &mut Overdue,
+    app: &Text,
+    ids: &BTreeMap<Text, Option<Lease>>,
     now: u64,
-) -> Result<Overdue<'a>, AllocError>
-    ensures pairs { IfOk result (λ m. seen_due m.entries ≡ finmap.from_entries (pairs now places.now.entries)) }
-    ensures ordered { IsOrdered key_cmp places.now }
+) -> Result<(), AllocError>
+    ensures { OnOk result ((q : ℕ × Key) → finmap.get (seen_due overdue.new.entries) q ≡
+        option_or (finmap.find due_cmp q (pairs now (ids_with_app app.now ids.now.entries))) (finmap.get (seen_due overdue.old.entries) q)) }
+{
+    for (id, place) in ids {
+        add(overdue, app, id, place, now)?;
+    }
+    Ok(())
+}
+
+fn collect(alloc: Global, apps: &Apps, now: u64) -> Result<Overdue, AllocError>
+    ensures { IfOk result (λ m. seen_due m.entries ≡ finmap.from_entries (pairs now (of_apps apps.now.entries))) }
 {
     let mut overdue = BTreeMap::new(alloc);
-    for (key, place) in places {
-        add(&mut overdue, key, place, now)?;
+    for (app, ids) in apps {
+        collect_ids(&mut overdue, app, ids.as_map(), now)?;
     }
     Ok(overdue)
 }
 
-fn keys<'a>(alloc: Global, overdue: &Overdue<'a>) -> Result<Vec<&'a Key>, AllocError>
-    ensures keys { IfOk result (λ v. map (λ k. k.now) v.items ≡ map (λ e. e.0.1.now) overdue.now.entries) }
-    ensures ordered { IsOrdered stored_cmp overdue.now }
+fn keys(alloc: Global, overdue: Overdue) -> Result<Vec<Key>, AllocError>
+    ensures keys { IfOk result (λ v. v.items ≡ map (λ e. e.0.1) overdue.entries) }
+    ensures ordered { IsOrdered due_cmp overdue }
 {
     let mut keys = Vec::new(alloc);
     for ((_, key), _) in overdue {
-        keys.push(*key)?;
+        keys.push(key)?;
     }
     Ok(keys)
 }
@@ -71,12 +97,11 @@ fn has_run_out(place: &Option<Lease>, now: u64) -> bool
     }
 }
 
-/// Whether a lease has run out by a moment. Takes no memory.
-pub(crate) fn any_overdue(places: &BTreeMap<Key, Option<Lease>>, now: u64) -> bool
-    ensures any { result ≡ list_any (λ e. has_run_out now e.1) places.now.entries }
-    ensures ordered { IsOrdered key_cmp places.now }
+/// Whether a lease of an app has run out by a moment.
+fn any_in(ids: &BTreeMap<Text, Option<Lease>>, now: u64) -> bool
+    ensures { result ≡ list_any (λ e. has_run_out now e.1) ids.now.entries }
 {
-    for (_, place) in places {
+    for (_, place) in ids {
         if has_run_out(place, now) {
             return true;
         }
@@ -84,16 +109,22 @@ pub(crate) fn any_overdue(places: &BTreeMap<Key, Option<Lease>>, now: u64) -> bo
     false
 }
 
-/// The keys of the leases that have run out by a moment, by due moment and then by key.
-pub(crate) fn overdue_keys<'a>(
-    alloc: Global,
-    places: &'a BTreeMap<Key, Option<Lease>>,
-    now: u64,
-) -> Result<Vec<&'a Key>, AllocError>
-    ensures { IfOk result (λ v. map (λ k. k.now) v.items ≡ map
-        (λ d. d.1) (finmap.keys (overdue (λ k. option_map due_moment (option_flatten (finmap.get (seen_places places.now.entries) k)))
-        (finmap.keys (seen_places places.now.entries)) now))) }
+/// Whether a lease has run out by a moment. Takes no memory.
+pub(crate) fn any_overdue(apps: &Apps, now: u64) -> bool
+    ensures { result ≡ list_any (λ e. has_run_out now e.1) (of_apps apps.now.entries) }
 {
-    let overdue = collect(alloc, places, now)?;
-    Ok(keys(alloc, &overdue)?)
+    for (_, ids) in apps {
+        if any_in(ids.as_map(), now) {
+            return true;
+        }
+    }
+    false
+}
+
+/// The keys of the leases that have run out by a moment, by due moment and then by key.
+pub(crate) fn overdue_keys(alloc: Global, apps: &Apps, now: u64) -> Result<Vec<Key>, AllocError>
+    ensures { IfOk result (λ v. v.items ≡ map (λ d. d.1) (finmap.keys (finmap.from_entries {R = due_cmp} (pairs now (of_apps apps.now.entries))))) }
+{
+    let overdue = collect(alloc, apps, now)?;
+    Ok(keys(alloc, overdue)?)
 }

@@ -80,7 +80,7 @@ impl<J: Naming> Desk<J> {
         ensures noted { NotesCancels self.old self.new (λ p. cancelled (rules_of self.old.hub) p now (taken_in p now) result.gone) }
         ensures rest { KeepsRest self.old.hub self.new.hub }
     {
-        match self.hub.taken(now) {
+        match self.hub.due(now) {
             Ok(keys) => cancel_all(self, keys.as_slice(), now),
             Err(fault) => Expired {
                 gone: 0,

@@ -1,3 +1,4 @@
+mod Apps
 mod Fronts
 mod Histories
 mod LastChanges

@@ -2,11 +2,9 @@
 use Rattle.std.proofs.Common.{◌≡◌, ℕ, Bool, true, false, cond, T, List, [], ◌∷◌, map, Option, Some, None, option_map, option_and_then, refl, sym, ap, subst, ◌∙◌}
 use mathlib.Core.List.{map-map}
 use Rattle.std.proofs.lemmas.List.Elements.{All-from_recursion}
-use Rattle.std.specs.FinMap.{FinMap, entries, entries_sorted, entries-from_sorted, from_entries, from_sorted, get-entries, get-from_sorted, same_map, values}
+use Rattle.std.specs.FinMap.{FinMap, entries, entries_sorted, entries-from_sorted, from_sorted, get-entries, get-from_sorted, same_map, values}
 use Rattle.std.specs.FinMap.Entries.{below_all, find, is_sorted}
 use Rattle.std.specs.List.{AllByRecursion, cons_option}
-use Rattle.std.specs.List.Sorted.{IsStrictlySortedBy}
-use Rattle.std.specs.Map.{keys_of}
 use Rattle.disco_values.specs.Key.{key_cmp, same_key}
 use Rattle.disco_values.specs.declared.key.Key.{Key}
 use Rattle.disco_history.specs.Change.{Entry, change_view, key_of}
@@ -14,11 +12,10 @@ use Rattle.disco_history.specs.Mentions.{delta}
 use Rattle.disco_history.proofs.Keys.{keys_total, exact_keys, same_is}
 use Rattle.disco_history.proofs.Sets.{get-delta}
 use Rattle.disco_history.proofs.Restrictions.{last_key}
-use Rattle.disco_history.proofs.Sorted.{Own, both, both_first, both_second, in_order, none_below, own}
-use Rattle.disco_queue.specs.Latest.{AreOfKeys, Latest}
+use Rattle.disco_history.proofs.Sorted.{Own, both, both_first, both_second, none_below, own}
+use Rattle.disco_queue.specs.Latest.{AreOfKeys, Latest, latest_key}
 use Rattle.disco_queue.specs.Numbers.{AreNumbered, keyed_change, numbered, numbered_keys}
 use Rattle.disco_queue.proofs.Numbering.{last_numbered}
-use Rattle.disco_history.proofs.Slots.{get_found}
 
 abbrev Stored : Type 0
 Stored = List (Key × ℕ)
@@ -52,25 +49,26 @@ module _ (f : ℕ → Option Entry) where
       step q e es (same_key q e.0) (f e.1) refl refl (λ tied. none_below q es (subst (λ k. T (below_all key_cmp k es)) (sym (same_is q e.0 tied)) (both_first _ _ h))) (find_shown q es (both_second _ _ h))
 
 -- where the places are numbered, a walk meets exactly the last changes
-pub walked : (ps : Stored) (before : ℕ) (es : List Entry) → IsStrictlySortedBy key_cmp (keys_of ps) → AreNumbered (from_entries ps) before es → numbered_keys (numbered before es) ps ≡ entries (delta es 0)
-walked ps before es ordered are =
+pub walked : (m : FinMap key_cmp ℕ) (before : ℕ) (es : List Entry) → AreNumbered m before es → numbered_keys (numbered before es) (entries m) ≡ entries (delta es 0)
+walked m before es are =
     let f = numbered before es in
-    let sorted : T (is_sorted key_cmp ps) = in_order ps ordered in
+    let ps = entries m in
+    let sorted : T (is_sorted key_cmp ps) = entries_sorted m in
     let both_maps : from_sorted (shown f ps) ≡ delta es 0 = same_map keys_total exact_keys (from_sorted (shown f ps)) (delta es 0) (λ q.
-    get-from_sorted key_cmp (shown f ps) q (sorted_shown f ps sorted) ∙ find_shown f q ps sorted ∙ ap (option_and_then f) (sym (get_found ps q)) ∙ last_numbered (from_entries ps) before es q are ∙ sym (get-delta es 0 q)) in
+    get-from_sorted key_cmp (shown f ps) q (sorted_shown f ps sorted) ∙ find_shown f q ps sorted ∙ ap (option_and_then f) (sym (get-entries m q)) ∙ last_numbered m before es q are ∙ sym (get-delta es 0 q)) in
     sym (entries-from_sorted key_cmp (shown f ps) (sorted_shown f ps sorted)) ∙ ap entries both_maps
 
 -- ---- what was met, as it is lent
 
 -- the changes alone
-pub met_values : (ps : List Latest) (m : FinMap key_cmp Entry) → map keyed_change ps ≡ entries m → map (λ (p : Latest). change_view p.1.now) ps ≡ values m
+pub met_values : (ps : List Latest) (m : FinMap key_cmp Entry) → map keyed_change ps ≡ entries m → map (λ (p : Latest). change_view p.2.now) ps ≡ values m
 met_values ps m is = sym (map-map (λ (p : Key × Entry). p.1) keyed_change ps) ∙ ap (map (λ (p : Key × Entry). p.1)) is
 
 own_keys : (es : List Entry) (xs : List (Key × Entry)) → Own (λ q. find key_cmp q (entries (delta es 0))) xs → AllByRecursion (λ (p : Key × Entry). p.0 ≡ key_of p.1) xs
 own_keys es [] all = tt
 own_keys es (p ∷ xs) all = (same_is p.0 (key_of p.1) (last_key es p.0 p.1 (sym (get-delta es 0 p.0) ∙ get-entries (delta es 0) p.0 ∙ all.0)), own_keys es xs all.1)
 
-lent_keys : (ps : List Latest) → AllByRecursion (λ (p : Key × Entry). p.0 ≡ key_of p.1) (map keyed_change ps) → AllByRecursion (λ (p : Latest). p.0.now ≡ key_of (change_view p.1.now)) ps
+lent_keys : (ps : List Latest) → AllByRecursion (λ (p : Key × Entry). p.0 ≡ key_of p.1) (map keyed_change ps) → AllByRecursion (λ (p : Latest). latest_key p ≡ key_of (change_view p.2.now)) ps
 lent_keys [] all = tt
 lent_keys (p ∷ ps) all = (all.0, lent_keys ps all.1)
 
@@ -79,4 +77,4 @@ pub met_keys : (ps : List Latest) (es : List Entry) → map keyed_change ps ≡ 
 met_keys ps es is =
     let m = delta es 0 in
     let all = own_keys es (entries m) (own (entries m) (entries_sorted m)) in
-    All-from_recursion (λ (p : Latest). p.0.now ≡ key_of (change_view p.1.now)) ps (lent_keys ps (subst (λ xs. AllByRecursion (λ (p : Key × Entry). p.0 ≡ key_of p.1) xs) (sym is) all))
+    All-from_recursion (λ (p : Latest). latest_key p ≡ key_of (change_view p.2.now)) ps (lent_keys ps (subst (λ xs. AllByRecursion (λ (p : Key × Entry). p.0 ≡ key_of p.1) xs) (sym is) all))

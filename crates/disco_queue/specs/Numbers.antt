@@ -6,7 +6,7 @@ use Rattle.std.specs.Option.{unwrap_or}
 use Rattle.disco_values.specs.Key.{key_cmp, same_key}
 use Rattle.disco_values.specs.declared.key.Key.{Key}
 use Rattle.disco_history.specs.Change.{Entry, change_view, key_of}
-use Rattle.disco_queue.specs.Latest.{Latest}
+use Rattle.disco_queue.specs.Latest.{Latest, latest_key}
 
 -- the later one, if there is one
 abbrev pub later_or : ℕ → ℕ → ℕ
@@ -42,5 +42,9 @@ number_kept number (Some n) = if n == number then None else Some n
 abbrev pub numbered_keys : (ℕ → Option Entry) → List (Key × ℕ) → List (Key × Entry)
 numbered_keys f es = filter_map (λ e. option_map (λ x. (e.0, x)) (f e.1)) es
 
+-- the same of one app's ids
+abbrev pub numbered_ids : (ℕ → Option Entry) → List ℕ → List (List ℕ × ℕ) → List (Key × Entry)
+numbered_ids f app es = filter_map (λ e. option_map (λ x. (record { app = app; id = e.0 }, x)) (f e.1)) es
+
 abbrev pub keyed_change : Latest → Key × Entry
-keyed_change p = (p.0.now, change_view p.1.now)
+keyed_change p = (latest_key p, change_view p.2.now)

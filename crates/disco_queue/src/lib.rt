@@ -10,4 +10,5 @@ pub mod laws;
 mod numbers;
 mod queue;
 
+pub use latest::Latest;
 pub use queue::ChangedQueue;

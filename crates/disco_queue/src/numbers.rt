@@ -10,31 +10,31 @@ ghost use Rattle.disco_queue.specs.Numbers.{AreNumbered, number_in, number_kept}
 ghost use Rattle.disco_queue.specs.Seen.{change_of};
 
 use crate::kept::Kept;
-use crate::latest::numbered_in;
-use disco_history::Change;
+use crate::latest::{Latest, numbered_in};
+use disco_places::KeyMap;
 use disco_values::Key;
 use std::alloc::{AllocError, Global};
-use std::collections::{BTreeMap, VecDeque};
+use std::collections::VecDeque;
 use std::marker::Model;
 
 /// A place for each of some keys: the number of the last kept change of the key, counted from 1 at
 /// the beginning of the history, or 0 where the place stands empty.
 #[derive(Drop)]
 pub(crate) struct Numbers {
-    places: BTreeMap<Key, u64>,
+    places: KeyMap<u64>,
 }
 
 impl Model for Numbers {
     ghost use Rattle.std.specs.Prelude.{ℕ};
     ghost use Rattle.std.specs.Coded.{codes};
-    ghost use Rattle.std.specs.FinMap.{FinMap, code, from_entries};
+    ghost use Rattle.std.specs.FinMap.{FinMap, code};
     ghost use Rattle.disco_values.specs.Key.{key_cmp};
 
     ghost Value = { FinMap key_cmp ℕ };
 
     ghost coded = { Prim.hlevel (codes, code) };
 
-    ghost view = { λ n. from_entries n.places.entries };
+    ghost view = { λ n. n.places };
 }
 
 impl Numbers {
@@ -42,7 +42,7 @@ impl Numbers {
         ensures { result ≡ empty }
     {
         Numbers {
-            places: BTreeMap::new(alloc),
+            places: KeyMap::new(alloc),
         }
     }
 
@@ -52,10 +52,7 @@ impl Numbers {
         ensures err { OnErr result (self.new ≡ self.old) }
         ensures needed { OnErr result (get self.old key.now ≡ None) }
     {
-        if !self.places.contains_key(key) {
-            self.places.insert(key.clone()?, 0)?;
-        }
-        Ok(())
+        self.places.or_insert(key, 0)
     }
 
     /// Puts a number into the place of a key, where it has one. Answers the number that stood there, 0
@@ -64,12 +61,8 @@ impl Numbers {
         ensures put { AltersAt (written number) key.now self.old self.new }
         ensures before { result ≡ number_in self.old key.now }
     {
-        match self.places.get_mut(key) {
-            Some(place) => {
-                let before = *place;
-                *place = number;
-                before
-            }
+        match self.places.swap(key, number) {
+            Some(before) => before,
             None => 0,
         }
     }
@@ -90,11 +83,11 @@ impl Numbers {
         kept: &'a VecDeque<Kept>,
         before: u64,
         alloc: Global,
-    ) -> Result<Vec<(&'a Key, &'a Change)>, AllocError>
+    ) -> Result<Vec<Latest<'a>>, AllocError>
         ensures last { AreNumbered self.now before (map change_of kept.now.items)
-            → IfOk result (λ found. map (λ p. change_view p.1.now) found.items ≡ values (delta (map change_of kept.now.items) 0)) }
+            → IfOk result (λ found. map (λ p. change_view p.2.now) found.items ≡ values (delta (map change_of kept.now.items) 0)) }
         ensures keys { AreNumbered self.now before (map change_of kept.now.items) → IfOk result (λ found. AreOfKeys found.items) }
-        ensures proper { IfOk result (λ found. All (λ p. is_proper p.1.now ≡ true) found.items) }
+        ensures proper { IfOk result (λ found. All (λ p. is_proper p.2.now ≡ true) found.items) }
     {
         numbered_in(&self.places, kept, before, alloc)
     }

@@ -15,7 +15,7 @@ ghost use Rattle.disco_queue.specs.Queue.{AddsNoneEmpty, AreFilled, HasNumberPla
 ghost use Rattle.disco_queue.specs.Timed.{Timed, changes};
 
 use crate::kept::Kept;
-use crate::latest::without_keys;
+use crate::latest::{Latest, without_keys};
 use crate::numbers::Numbers;
 use disco_history::Change;
 use disco_values::{Fault, Key};
@@ -238,8 +238,8 @@ impl ChangedQueue {
         ensures proper { IfOk result (λ found. All (λ c. is_proper c.now ≡ true) found.items) }
         ensures memory { IfErr result (λ e. e ≡ OutOfMemory) }
     {
-        let pairs = self.last_changes_with_keys(alloc)?;
-        Ok(without_keys(pairs.as_slice(), alloc)?)
+        let latest = self.last_changes_with_keys(alloc)?;
+        Ok(without_keys(latest.as_slice(), alloc)?)
     }
 
     /// Each kept key with its last change, in the order of the keys. Takes memory for the references
@@ -248,12 +248,12 @@ impl ChangedQueue {
     /// # Errors
     ///
     /// `OutOfMemory` alone.
-    pub fn last_changes_with_keys(&self, alloc: Global) -> Result<Vec<(&Key, &Change)>, Fault>
-        ensures kept { IfOk result (λ found. map (λ p. change_view p.1.now) found.items ≡ values (delta (changes self.now.kept) 0)) }
+    pub fn last_changes_with_keys(&self, alloc: Global) -> Result<Vec<Latest<'_>>, Fault>
+        ensures kept { IfOk result (λ found. map (λ p. change_view p.2.now) found.items ≡ values (delta (changes self.now.kept) 0)) }
         ensures history { (h : List Timed) → KeepsHistory self.now h
-            → IfOk result (λ found. map (λ p. change_view p.1.now) found.items ≡ values (delta (changes h) self.now.base)) }
+            → IfOk result (λ found. map (λ p. change_view p.2.now) found.items ≡ values (delta (changes h) self.now.base)) }
         ensures keys { IfOk result (λ found. AreOfKeys found.items) }
-        ensures proper { IfOk result (λ found. All (λ p. is_proper p.1.now ≡ true) found.items) }
+        ensures proper { IfOk result (λ found. All (λ p. is_proper p.2.now ≡ true) found.items) }
         ensures memory { IfErr result (λ e. e ≡ OutOfMemory) }
     {
         Ok(self.numbers.last_changes(&self.kept, self.base, alloc)?)

@@ -1,4 +1,4 @@
 pub mod Histories
-mod Ranges
+mod Walking
 mod Readies
 mod Placing

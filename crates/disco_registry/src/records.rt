@@ -1,16 +1,18 @@
 //! The held records by key.
 ghost use Rattle.disco_values.specs.Key.{same_key};
 ghost use Rattle.disco_registry.specs.Records.{next_left, of_key, shows_id};
-ghost use Rattle.std.specs.Prelude.{◌≡◌, ◌++◌, ◌∷◌, [], IfOk, IfSome, None, OnOk, Some, filter, is_some, map, option_map};
+ghost use Rattle.std.specs.Prelude.{◌≡◌, IfOk, IfSome, None, OnOk, Some, filter, is_some, map, option_map};
 ghost use Rattle.std.specs.FinMap as finmap;
 ghost use Rattle.std.specs.FinMap.{values};
 ghost use Rattle.std.specs.List.{filter_map, find};
 ghost use Rattle.std.specs.Option.{option_copied};
 ghost use Rattle.disco_history.specs.Apps.{is_of_app, is_of_id};
 ghost use Rattle.disco_history.specs.Held.{entry_of, record_at, seen_record};
+ghost use Rattle.disco_places.specs.KeyMaps.{of_apps};
 
-use disco_history::{Held, Places};
+use disco_history::Held;
 use disco_instance::Record;
+use disco_places::{IdMap, Places};
 use disco_values::{Key, Text};
 use std::alloc::{AllocError, Global};
 use std::collections::BTreeMap;
@@ -89,11 +91,24 @@ fn has_id(place: &Option<Held>, id: &str) -> bool
     }
 }
 
-/// The first record of an id in places.
-fn first_of_id<'a>(places: &'a BTreeMap<Key, Option<Held>>, id: &str) -> Option<&'a Held>
-    ensures { option_map (λ h. entry_of h.now) result ≡ find (is_of_id id.now) (filter_map (λ e. option_map entry_of e.1) places.now.entries) }
+/// The records in places, shared.
+fn shared_in(alloc: Global, ids: &BTreeMap<Text, Option<Held>>) -> Result<Vec<Held>, AllocError>
+    ensures { IfOk result (λ v. map entry_of v.items ≡ filter_map (λ e. option_map entry_of e.1) ids.now.entries) }
 {
-    for (_, place) in places {
+    let mut list = Vec::new(alloc);
+    for (_, place) in ids {
+        if let Some(held) = place {
+            list.push(held.share()?)?;
+        }
+    }
+    Ok(list)
+}
+
+/// The first record of an id in the places of one app.
+fn first_in<'a>(ids: &'a BTreeMap<Text, Option<Held>>, id: &str) -> Option<&'a Held>
+    ensures { option_map (λ h. entry_of h.now) result ≡ find (is_of_id id.now) (filter_map (λ e. option_map entry_of e.1) ids.now.entries) }
+{
+    for (_, place) in ids {
         if has_id(place, id) {
             return place.as_ref();
         }
@@ -101,26 +116,16 @@ fn first_of_id<'a>(places: &'a BTreeMap<Key, Option<Held>>, id: &str) -> Option<
     None
 }
 
-/// The key below all those of an app.
-fn first_key(alloc: Global, app: &Text) -> Result<Key, AllocError>
-    ensures { IfOk result (λ k. k ≡ record { app = app.now; id = [] }) }
+/// The first record of an id in the places of all apps.
+fn first_of_id<'a>(apps: &'a BTreeMap<Text, IdMap<Option<Held>>>, id: &str) -> Option<&'a Held>
+    ensures { option_map (λ h. entry_of h.now) result ≡ find (is_of_id id.now) (filter_map (λ e. option_map entry_of e.1) (of_apps apps.now.entries)) }
 {
-    Ok(Key {
-        app: app.clone()?,
-        id: Text::empty(alloc),
-    })
-}
-
-/// The least key above all those of an app: its app has a byte 0 more.
-fn key_past(alloc: Global, app: &Text) -> Result<Key, AllocError>
-    ensures { IfOk result (λ k. k ≡ record { app = app.now ++ 0 ∷ []; id = [] }) }
-{
-    let mut text = String::from_str(alloc, app.as_str())?;
-    text.push('\0')?;
-    Ok(Key {
-        app: Text::from_string(text),
-        id: Text::empty(alloc),
-    })
+    for (_, ids) in apps {
+        if let Some(held) = first_in(ids.as_map(), id) {
+            return Some(held);
+        }
+    }
+    None
 }
 
 impl Records {
@@ -185,29 +190,27 @@ impl Records {
     pub(crate) fn of_app(&self, alloc: Global, app: &Text) -> Result<Vec<Held>, AllocError>
         ensures { IfOk result (λ v. map entry_of v.items ≡ filter (is_of_app app.now) (values self.now.held)) }
     {
-        let from = first_key(alloc, app)?;
-        let to = key_past(alloc, app)?;
-        let mut list = Vec::new(alloc);
-        for (_, place) in self.places.as_map().range(from..to) {
-            if let Some(held) = place {
-                list.push(held.share()?)?;
-            }
+        let apps = self.places.apps();
+        // For the proof alone: the apps of a map stand in order, each once.
+        let _len = apps.len();
+        match apps.get(app) {
+            Some(ids) => Ok(shared_in(alloc, ids.as_map())?),
+            None => Ok(Vec::new(alloc)),
         }
-        Ok(list)
     }
 
     /// The first record of an id: of several apps' the one with the least app, in byte order.
     pub(crate) fn of_id(&self, id: &str) -> Option<&Held>
         ensures { option_map (λ h. entry_of h.now) result ≡ find (is_of_id id.now) (values self.now.held) }
     {
-        first_of_id(self.places.as_map(), id)
+        first_of_id(self.places.apps(), id)
     }
 
-    /// The places of the records in the order of their keys. One of them may stand empty.
-    pub(crate) fn as_map(&self) -> &BTreeMap<Key, Option<Held>>
-        ensures { filter_map (λ e. option_map entry_of e.1) result.now.entries ≡ values self.now.held }
+    /// The places of the records, by app and then by id. One of them may stand empty.
+    pub(crate) fn apps(&self) -> &BTreeMap<Text, IdMap<Option<Held>>>
+        ensures { filter_map (λ e. option_map entry_of e.1) (of_apps result.now.entries) ≡ values self.now.held }
     {
-        self.places.as_map()
+        self.places.apps()
     }
 
     /// Takes out the place that stands empty, if there is one. Takes no memory.

@@ -18,6 +18,7 @@ ghost use Rattle.disco_registry.specs.Accept.{MayRefuse, accept_after, accepts, 
 ghost use Rattle.disco_history.specs.Apps.{is_of_app, is_of_id};
 ghost use Rattle.disco_registry.specs.Commit.{IsPrepared, IsReady, Takes, changes_properly, done_by, appended, outcome};
 ghost use Rattle.disco_history.specs.Held.{entry_of, record_at, seen_record};
+ghost use Rattle.disco_places.specs.KeyMaps.{of_apps};
 ghost use Rattle.disco_registry.specs.Op.{op_view, register, cancel, renew, set_status, drop_status, add_metadata};
 ghost use Rattle.disco_registry.specs.State.{IsSameRegistry, StandsFor, RegistryState};
 
@@ -26,6 +27,7 @@ use crate::records::Records;
 use crate::settle::settled;
 use disco_history::{Change, Held};
 use disco_instance::Record;
+use disco_places::IdMap;
 use disco_values::{Action, Entries, Fault, Key, Status, Text, status_of};
 use std::alloc::{AllocError, Global};
 use std::collections::BTreeMap;
@@ -242,11 +244,11 @@ impl Registry {
         self.version
     }
 
-    /// The held records by key. A place may stand empty, and no other answer shows it.
-    pub fn records(&self) -> &BTreeMap<Key, Option<Held>>
-        ensures { filter_map (λ e. option_map entry_of e.1) result.now.entries ≡ values self.now.held }
+    /// The held records, by app and then by id. A place may stand empty, and no other answer shows it.
+    pub fn records(&self) -> &BTreeMap<Text, IdMap<Option<Held>>>
+        ensures { filter_map (λ e. option_map entry_of e.1) (of_apps result.now.entries) ≡ values self.now.held }
     {
-        self.records.as_map()
+        self.records.apps()
     }
 
     /// Makes every growth that an operation needs, and changes no answer.

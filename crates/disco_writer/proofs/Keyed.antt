@@ -18,12 +18,12 @@ use Rattle.disco_writer.proofs.Walk.{present, same_text}
 shown_at : (v : Kept) (k : Key) → kept_text_at v k ≡ find key_cmp k (present (entries v.places))
 shown_at v k = ap option_flatten (get-entries v.places k) ∙ sym (find_filled (λ t. t) k (entries v.places) (entries_sorted v.places) ∙ same_text _)
 
-each_theirs : (v : Kept) (es : List KeyedText) → Own (λ q. find key_cmp q (present (entries v.places))) (map keyed_text es) → AllByRecursion (λ e. kept_text_at v e.0.now ≡ Some e.1.now) es
+each_theirs : (v : Kept) (es : List KeyedText) → Own (λ q. find key_cmp q (present (entries v.places))) (map keyed_text es) → AllByRecursion (λ e. kept_text_at v (keyed_text e).0 ≡ Some e.2.now) es
 each_theirs v [] own = tt
-each_theirs v (e ∷ es) own = (shown_at v e.0.now ∙ own.0, each_theirs v es own.1)
+each_theirs v (e ∷ es) own = (shown_at v (keyed_text e).0 ∙ own.0, each_theirs v es own.1)
 
 pub are_theirs : (v : Kept) (es : List KeyedText) → map keyed_text es ≡ filled (λ t. t) (entries v.places) → AreTheirs v es
 are_theirs v es is =
     let ps = present (entries v.places) in
     let all = own ps (sorted_filled (λ t. t) (entries v.places) (entries_sorted v.places)) in
-    All-from_recursion (λ (e : KeyedText). kept_text_at v e.0.now ≡ Some e.1.now) es (each_theirs v es (rw is all))
+    All-from_recursion (λ (e : KeyedText). kept_text_at v (keyed_text e).0 ≡ Some e.2.now) es (each_theirs v es (rw is all))

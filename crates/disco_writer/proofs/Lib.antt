@@ -1,4 +1,5 @@
 mod Appending
+mod Apps
 mod Entries
 mod Escapes
 mod Grouping

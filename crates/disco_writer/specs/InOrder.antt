@@ -1,16 +1,21 @@
 -- Texts with their keys. Nothing here need be believed.
-use Rattle.std.specs.Prelude.{◌≡◌, ℕ, List, Some, All}
+use Rattle.std.specs.Prelude.{◌≡◌, ℕ, List, Option, Some, All, option_map}
 use Rattle.std.specs.Borrow.{Bor}
+use Rattle.std.specs.List.{filter_map}
 use Rattle.disco_values.specs.declared.key.Key.{Key}
 use Rattle.disco_writer.specs.Kept.{Kept, kept_text_at}
 
--- a key and a text
+-- an app, an id and a text
 abbrev pub KeyedText : Type 0
-KeyedText = Bor Key × Bor (List ℕ)
+KeyedText = Bor (List ℕ) × Bor (List ℕ) × Bor (List ℕ)
 
 abbrev pub keyed_text : KeyedText → Key × List ℕ
-keyed_text e = (e.0.now, e.1.now)
+keyed_text e = (record { app = e.0.now; id = e.1.now }, e.2.now)
 
 -- each text is the one that is kept under its key
 abbrev pub AreTheirs : Kept → List KeyedText → Type 0
-AreTheirs v es = All (λ e. kept_text_at v e.0.now ≡ Some e.1.now) es
+AreTheirs v es = All (λ e. kept_text_at v (record { app = e.0.now; id = e.1.now }) ≡ Some e.2.now) es
+
+-- the texts of an app's places that don't stand empty, with their keys
+abbrev pub keyed_ids : List ℕ → List (List ℕ × Option (List ℕ)) → List (Key × List ℕ)
+keyed_ids app es = filter_map (λ e. option_map (λ t. (record { app = app; id = e.0 }, t)) e.1) es

@@ -50,6 +50,10 @@ AreTextsOf f (p ∷ ps) (e ∷ es) = (p.0 ≡ e.0.key.app) × IsTextOf f p.1 (me
 abbrev pub walked : List (Key × Option (List ℕ)) → List Shown
 walked es = filter_map (λ e. option_map (λ t. (e.0.app, t)) e.1) es
 
+-- the same of one app's places
+abbrev pub walked_ids : List ℕ → List (List ℕ × Option (List ℕ)) → List Shown
+walked_ids app es = filter_map (λ e. option_map (λ t. (app, t)) e.1) es
+
 -- of an instance, of which that text is kept, or none: the kept one or, where none is, the one that is made
 abbrev pub told_text : Form → Option (List ℕ) → Entry → List ℕ
 told_text f kept e = unwrap_or kept (text_of_entry f e)

@@ -3,7 +3,7 @@ ghost use Rattle.std.specs.Prelude.{◌≡◌, List, IfOk, IfErr, Some, map, opt
 ghost use Rattle.disco_values.specs.declared.fault.Fault.TheVariants.{OutOfMemory};
 ghost use Rattle.disco_history.specs.Change.{change_view, key_of};
 ghost use Rattle.disco_index.specs.Tally.{tally_in};
-ghost use Rattle.disco_queue.specs.Latest.{AreOfKeys};
+ghost use Rattle.disco_queue.specs.Latest.{AreOfKeys, latest_key};
 ghost use Rattle.disco_queue.specs.Queue.{KeepsHistory};
 ghost use Rattle.disco_queue.specs.Timed.{Timed, changes};
 ghost use Rattle.disco_registry.specs.State.{StandsFor};
@@ -13,32 +13,32 @@ ghost use Rattle.disco_writer.specs.Joined.{AreJoinedTexts, IsJoinedText, IsTold
 ghost use Rattle.disco_writer.specs.Kept.{AreKept};
 ghost use Rattle.disco_query.specs.declared.query.Query.TheVariants as query;
 
-use crate::in_order::{text_from, texts_beside};
+use crate::in_order::{KeyedText, text_from, texts_beside};
 use crate::join::join_many;
 use crate::piece::{Piece, kept_piece, make_piece};
 use crate::texts::Texts;
 use disco_history::Change;
 use disco_index::Counts;
-use disco_queue::ChangedQueue;
+use disco_queue::{ChangedQueue, Latest};
 use disco_registry::Registry;
-use disco_values::{Action, Fault, Form, Key};
+use disco_values::{Action, Fault, Form, Text};
 use std::alloc::Global;
 
-/// The piece of a change of a key, of whose instance that text is kept, or none.
+/// The piece of a change of an instance of an app, of which that text is kept, or none.
 fn piece_by<'t>(
     alloc: Global,
     form: Form,
     kept: Option<&'t [u8]>,
-    key: &'t Key,
+    app: &'t Text,
     change: &'t Change,
 ) -> Result<Piece<'t>, Fault>
-    requires { key.now ≡ key_of (change_view change.now) }
+    requires { app.now ≡ (key_of (change_view change.now)).app }
     ensures piece { IfOk result (λ p. shown_one p ≡ told_by form (option_map (λ t. t.now) kept.entry) (change_view change.now)) }
     ensures told { IfOk result (λ p. IsToldText form (option_map (λ t. t.now) kept.entry) (change_view change.now)) }
     ensures memory { IfErr result (λ e. e ≡ OutOfMemory) }
 {
     match kept {
-        Some(text) => Ok(kept_piece(key, text)),
+        Some(text) => Ok(kept_piece(app, text)),
         None => match change {
             Change::Put { action, rec } => make_piece(alloc, form, rec, *action),
             Change::Gone { rec } => make_piece(alloc, form, rec, Action::Deleted),
@@ -51,19 +51,19 @@ fn piece_sought<'t>(
     alloc: Global,
     form: Form,
     texts: &'t Texts,
-    entries: &[(&'t Key, &'t [u8])],
+    entries: &[KeyedText<'t>],
     at: &mut usize,
-    pair: &(&'t Key, &'t Change),
+    latest: &Latest<'t>,
 ) -> Result<Piece<'t>, Fault>
     requires theirs { AreTheirs texts.now entries.now }
-    requires key { pair.now.0.now ≡ key_of (change_view pair.now.1.now) }
-    ensures piece { IfOk result (λ p. shown_one p ≡ told_one form texts.now (change_view pair.now.1.now)) }
-    ensures told { IfOk result (λ p. IsJoinedText form texts.now (change_view pair.now.1.now)) }
+    requires key { latest_key latest.now ≡ key_of (change_view latest.now.2.now) }
+    ensures piece { IfOk result (λ p. shown_one p ≡ told_one form texts.now (change_view latest.now.2.now)) }
+    ensures told { IfOk result (λ p. IsJoinedText form texts.now (change_view latest.now.2.now)) }
     ensures memory { IfErr result (λ e. e ≡ OutOfMemory) }
 {
-    let (key, change) = *pair;
-    let kept = text_from(texts, entries, at, key);
-    piece_by(alloc, form, kept, key, change)
+    let (app, id, change) = *latest;
+    let kept = text_from(texts, entries, at, app, id);
+    piece_by(alloc, form, kept, app, change)
 }
 
 /// The pieces of these changes of keys.
@@ -71,18 +71,18 @@ pub(crate) fn pieces_by<'t>(
     alloc: Global,
     form: Form,
     texts: &'t Texts,
-    changes: &'t [(&'t Key, &'t Change)],
+    changes: &'t [Latest<'t>],
 ) -> Result<Vec<Piece<'t>>, Fault>
     requires { AreOfKeys changes.now }
-    ensures pieces { IfOk result (λ v. shown_by v.items ≡ texts_by form texts.now (map (λ p. change_view p.1.now) changes.now)) }
-    ensures told { IfOk result (λ v. AreJoinedTexts form texts.now (map (λ p. change_view p.1.now) changes.now)) }
+    ensures pieces { IfOk result (λ v. shown_by v.items ≡ texts_by form texts.now (map (λ p. change_view p.2.now) changes.now)) }
+    ensures told { IfOk result (λ v. AreJoinedTexts form texts.now (map (λ p. change_view p.2.now) changes.now)) }
     ensures memory { IfErr result (λ e. e ≡ OutOfMemory) }
 {
     let mut list = Vec::with_capacity(alloc, changes.len())?;
     let entries = texts_beside(alloc, texts, changes.len())?;
     let mut at = 0;
-    for pair in changes {
-        list.push(piece_sought(alloc, form, texts, &entries, &mut at, pair)?)?;
+    for latest in changes {
+        list.push(piece_sought(alloc, form, texts, &entries, &mut at, latest)?)?;
     }
     Ok(list)
 }

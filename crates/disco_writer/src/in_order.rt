@@ -7,8 +7,12 @@ ghost use Rattle.disco_writer.specs.InOrder.{AreTheirs};
 ghost use Rattle.disco_writer.specs.Kept.{Kept, kept_text_at};
 
 use crate::texts::Texts;
-use disco_values::Key;
+use disco_values::Text;
 use std::alloc::{AllocError, Global};
+use std::cmp::Ordering;
+
+/// A text, with the app and the id of its instance before it.
+pub(crate) type KeyedText<'t> = (&'t Text, &'t Text, &'t [u8]);
 
 /// Of this many texts at least one is sought where all are gone through.
 const FEW: usize = 4;
@@ -18,7 +22,7 @@ pub(crate) fn texts_beside(
     alloc: Global,
     texts: &Texts,
     sought: usize,
-) -> Result<Vec<(&Key, &[u8])>, AllocError>
+) -> Result<Vec<KeyedText<'_>>, AllocError>
     ensures { IfOk result (λ v. AreTheirs texts.now v.items) }
 {
     if sought < texts.len() / FEW {
@@ -27,38 +31,47 @@ pub(crate) fn texts_beside(
     texts.entries(alloc)
 }
 
+/// The order of a text's key and the one of this app and this id.
+fn order(entry: &KeyedText<'_>, app: &Text, id: &Text) -> Ordering {
+    match entry.0.cmp(app) {
+        Ordering::Equal => entry.1.cmp(id),
+        decided => decided,
+    }
+}
+
 /// The first place from `at` on whose key isn't before this one.
-fn passed(entries: &[(&Key, &[u8])], at: usize, key: &Key) -> usize {
+fn passed(entries: &[KeyedText<'_>], at: usize, app: &Text, id: &Text) -> usize {
     let mut at = at;
-    while at < entries.len() && *entries[at].0 < *key {
+    while at < entries.len() && order(&entries[at], app, id).is_lt() {
         at += 1;
     }
     at
 }
 
-/// The text at a place, where it is the key's.
-fn text_here<'t>(entries: &[(&'t Key, &'t [u8])], at: usize, key: &Key) -> Option<&'t [u8]>
-    ensures { IfSome result (λ t. (v : Kept) → AreTheirs v entries.now → kept_text_at v key.now ≡ Some t.now) }
+/// The text at a place, where it is that of the key of this app and this id.
+fn text_here<'t>(entries: &[KeyedText<'t>], at: usize, app: &Text, id: &Text) -> Option<&'t [u8]>
+    ensures { IfSome result (λ t. (v : Kept) → AreTheirs v entries.now → kept_text_at v (record { app = app.now; id = id.now }) ≡ Some t.now) }
 {
     match entries.get(at) {
-        Some((found, text)) => { if **found == *key { Some(*text) } else { None } }
-        None => None,
+        Some((found, place, text)) if **found == *app && **place == *id => Some(*text),
+        _ => None,
     }
 }
 
-/// The text of a key, if there is one: beside it, where the place `at` goes on to, or by a search.
+/// The text of the key of this app and this id, if there is one: beside it, where the place `at` goes on to, or by a search.
 pub(crate) fn text_from<'t>(
     texts: &'t Texts,
-    entries: &[(&'t Key, &'t [u8])],
+    entries: &[KeyedText<'t>],
     at: &mut usize,
-    key: &Key,
+    app: &Text,
+    id: &Text,
 ) -> Option<&'t [u8]>
     requires { AreTheirs texts.now entries.now }
-    ensures { option_map (λ t. t.now) result ≡ kept_text_at texts.now key.now }
+    ensures { option_map (λ t. t.now) result ≡ kept_text_at texts.now (record { app = app.now; id = id.now }) }
 {
-    *at = passed(entries, *at, key);
-    match text_here(entries, *at, key) {
+    *at = passed(entries, *at, app, id);
+    match text_here(entries, *at, app, id) {
         Some(text) => Some(text),
-        None => texts.get(key),
+        None => texts.get_at(app, id),
     }
 }

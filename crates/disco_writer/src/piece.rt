@@ -38,12 +38,12 @@ impl Piece<'_> {
     }
 }
 
-/// The piece of the instance of a key, of which that text is kept.
-pub(crate) fn kept_piece<'t>(key: &'t Key, text: &'t [u8]) -> Piece<'t>
-    ensures { shown_one result ≡ (key.now.app, text.now) }
+/// The piece of an instance of an app, of which that text is kept.
+pub(crate) fn kept_piece<'t>(app: &'t Text, text: &'t [u8]) -> Piece<'t>
+    ensures { shown_one result ≡ (app.now, text.now) }
 {
     Piece {
-        app: &key.app,
+        app,
         source: Source::Kept(text),
     }
 }
@@ -78,7 +78,7 @@ pub(crate) fn piece_of<'t>(
 {
     let key = &held.rec.key;
     match texts.get(key) {
-        Some(text) => Ok(kept_piece(key, text)),
+        Some(text) => Ok(kept_piece(&key.app, text)),
         None => make_piece(alloc, form, &held.rec, held.action),
     }
 }

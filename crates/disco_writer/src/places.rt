@@ -1,71 +1,103 @@
 //! The texts in places by key, some of which may stand empty.
-ghost use Rattle.std.specs.Prelude.{◌≡◌, IfOk, IsSome, None, OnErr, OnOk, Some, map, option_map, true};
+ghost use Rattle.std.specs.Prelude.{◌≡◌, ◌++◌, IfOk, IsSome, None, OnErr, OnOk, Some, map, option_map, true};
 ghost use Rattle.std.specs.FinMap as finmap;
 ghost use Rattle.std.specs.Option.{option_flatten};
 ghost use Rattle.disco_values.specs.declared.key.Key.{Key};
 ghost use Rattle.disco_history.specs.Places.{filled};
-ghost use Rattle.disco_writer.specs.InOrder.{keyed_text};
-ghost use Rattle.disco_writer.specs.Joined.{shown_by, shown_one, walked};
+ghost use Rattle.disco_places.specs.KeyMaps.{of_apps};
+ghost use Rattle.disco_writer.specs.InOrder.{keyed_ids, keyed_text};
+ghost use Rattle.disco_writer.specs.Joined.{shown_by, shown_one, walked, walked_ids};
 ghost use Rattle.disco_writer.specs.Empty.{OpensOnly, ShowSame, SweepsAt};
 ghost use Rattle.disco_writer.specs.Named.{named_key};
 
+use crate::in_order::KeyedText;
 use crate::named::Named;
 use crate::piece::{Piece, Source};
-use disco_history::Places;
-use disco_values::{Bytes, Key};
+use disco_places::{IdMap, Places};
+use disco_values::{Bytes, Key, Text};
 use std::alloc::{AllocError, Global};
 use std::collections::BTreeMap;
 
-/// An instance's app and its text, where its place isn't empty.
-fn piece<'t>(key: &'t Key, place: &'t Option<Bytes>) -> Option<Piece<'t>>
-    ensures { option_map shown_one result ≡ option_map (λ t. (key.now.app, t)) place.now }
+/// An app and the text of one of its instances, where the place isn't empty.
+fn piece<'t>(app: &'t Text, place: &'t Option<Bytes>) -> Option<Piece<'t>>
+    ensures { option_map shown_one result ≡ option_map (λ t. (app.now, t)) place.now }
 {
     match place {
         Some(text) => Some(Piece {
-            app: &key.app,
+            app,
             source: Source::Kept(text.as_slice()),
         }),
         None => None,
     }
 }
 
-/// The apps and the texts of places that aren't empty.
-fn walk<'t>(
-    alloc: Global,
-    places: &'t BTreeMap<Key, Option<Bytes>>,
-) -> Result<Vec<Piece<'t>>, AllocError>
-    ensures { IfOk result (λ v. shown_by v.items ≡ walked places.now.entries) }
+/// Adds the texts of an app's places that aren't empty.
+fn walk_ids<'t>(
+    list: &mut Vec<Piece<'t>>,
+    app: &'t Text,
+    ids: &'t BTreeMap<Text, Option<Bytes>>,
+) -> Result<(), AllocError>
+    ensures { OnOk result (shown_by list.new.items ≡ shown_by list.old.items ++ walked_ids app.now ids.now.entries) }
 {
-    let mut list = Vec::with_capacity(alloc, places.len())?;
-    for (key, place) in places {
-        if let Some(piece) = piece(key, place) {
+    for (_, place) in ids {
+        if let Some(piece) = piece(app, place) {
             list.push(piece)?;
         }
     }
+    Ok(())
+}
+
+/// The apps and the texts of places that aren't empty.
+fn walk<'t>(
+    alloc: Global,
+    room: usize,
+    apps: &'t BTreeMap<Text, IdMap<Option<Bytes>>>,
+) -> Result<Vec<Piece<'t>>, AllocError>
+    ensures { IfOk result (λ v. shown_by v.items ≡ walked (of_apps apps.now.entries)) }
+{
+    let mut list = Vec::with_capacity(alloc, room)?;
+    for (app, ids) in apps {
+        walk_ids(&mut list, app, ids.as_map())?;
+    }
     Ok(list)
+}
+
+/// Adds the ids and the texts of an app's places that aren't empty.
+fn walk_keyed_ids<'t>(
+    list: &mut Vec<KeyedText<'t>>,
+    app: &'t Text,
+    ids: &'t BTreeMap<Text, Option<Bytes>>,
+) -> Result<(), AllocError>
+    ensures { OnOk result (map keyed_text list.new.items ≡ map keyed_text list.old.items ++ keyed_ids app.now ids.now.entries) }
+{
+    for (id, place) in ids {
+        if let Some(text) = place {
+            list.push((app, id, text.as_slice()))?;
+        }
+    }
+    Ok(())
 }
 
 /// The keys and the texts of places that aren't empty.
 fn walk_keyed<'t>(
     alloc: Global,
-    places: &'t BTreeMap<Key, Option<Bytes>>,
-) -> Result<Vec<(&'t Key, &'t [u8])>, AllocError>
-    ensures { IfOk result (λ v. map keyed_text v.items ≡ filled (λ t. t) places.now.entries) }
+    room: usize,
+    apps: &'t BTreeMap<Text, IdMap<Option<Bytes>>>,
+) -> Result<Vec<KeyedText<'t>>, AllocError>
+    ensures { IfOk result (λ v. map keyed_text v.items ≡ filled (λ t. t) (of_apps apps.now.entries)) }
 {
-    let mut list = Vec::with_capacity(alloc, places.len())?;
-    for (key, place) in places {
-        if let Some(text) = place {
-            list.push((key, text.as_slice()))?;
-        }
+    let mut list = Vec::with_capacity(alloc, room)?;
+    for (app, ids) in apps {
+        walk_keyed_ids(&mut list, app, ids.as_map())?;
     }
     Ok(list)
 }
 
-/// The text in the place of a key.
-pub(crate) fn text_at<'t>(places: &'t Places<Bytes>, key: &Key) -> Option<&'t [u8]>
-    ensures { option_map (λ t. t.now) result ≡ option_flatten (finmap.get places.now key.now) }
+/// The text in the place of the key of this app and this id.
+pub(crate) fn text_at<'t>(places: &'t Places<Bytes>, app: &Text, id: &Text) -> Option<&'t [u8]>
+    ensures { option_map (λ t. t.now) result ≡ option_flatten (finmap.get places.now (record { app = app.now; id = id.now })) }
 {
-    match places.get(key) {
+    match places.get_at(app, id) {
         Some(text) => Some(text.as_slice()),
         None => None,
     }
@@ -75,17 +107,17 @@ pub(crate) fn text_at<'t>(places: &'t Places<Bytes>, key: &Key) -> Option<&'t [u
 pub(crate) fn pieces_in(alloc: Global, places: &Places<Bytes>) -> Result<Vec<Piece<'_>>, AllocError>
     ensures { IfOk result (λ v. shown_by v.items ≡ walked (finmap.entries places.now)) }
 {
-    walk(alloc, places.as_map())
+    walk(alloc, places.len(), places.apps())
 }
 
 /// The key and the text of each instance that has one, in the order of their keys.
 pub(crate) fn entries_in(
     alloc: Global,
     places: &Places<Bytes>,
-) -> Result<Vec<(&Key, &[u8])>, AllocError>
+) -> Result<Vec<KeyedText<'_>>, AllocError>
     ensures { IfOk result (λ v. map keyed_text v.items ≡ filled (λ t. t) (finmap.entries places.now)) }
 {
-    walk_keyed(alloc, places.as_map())
+    walk_keyed(alloc, places.len(), places.apps())
 }
 
 /// Makes a place for a key where there is none.

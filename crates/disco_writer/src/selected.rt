@@ -1,5 +1,5 @@
 //! The records under a vip.
-ghost use Rattle.std.specs.Prelude.{◌≡◌, IfOk, IfErr, filter, map};
+ghost use Rattle.std.specs.Prelude.{◌≡◌, ◌++◌, IfOk, IfErr, OnOk, filter, map, option_map};
 ghost use Rattle.std.specs.List.{filter_map};
 ghost use Rattle.std.specs.FinMap.{get, values};
 ghost use Rattle.disco_values.specs.declared.fault.Fault.TheVariants.{OutOfMemory};
@@ -14,6 +14,7 @@ use disco_index::{Counts, VipIndex, has_vip};
 use disco_registry::Registry;
 use disco_values::{Fault, Key, Text};
 use std::alloc::{AllocError, Global};
+use std::collections::BTreeMap;
 
 /// The records at these keys, shared.
 fn held_at(alloc: Global, registry: &Registry, keys: &[&Key]) -> Result<Vec<Held>, AllocError>
@@ -48,6 +49,25 @@ fn has_svip(held: &Held, svip: &Text) -> bool
     has_vip(held.rec.details.secure_vip_address.as_str(), svip.as_str())
 }
 
+/// Adds the records of an app with a secure vip, shared.
+fn add_under_svip(
+    list: &mut Vec<Held>,
+    ids: &BTreeMap<Text, Option<Held>>,
+    svip: &Text,
+) -> Result<(), AllocError>
+    ensures { OnOk result (held_entries list.new.items ≡ held_entries list.old.items
+        ++ filter (λ e. asks_for (of_secure_vip svip.now) e.0) (filter_map (λ e. option_map entry_of e.1) ids.now.entries)) }
+{
+    for (_, place) in ids {
+        if let Some(held) = place
+            && has_svip(held, svip)
+        {
+            list.push(held.share()?)?;
+        }
+    }
+    Ok(())
+}
+
 /// The records with a secure vip, in the order of their keys, shared.
 pub(crate) fn held_under_svip(
     alloc: Global,
@@ -57,12 +77,8 @@ pub(crate) fn held_under_svip(
     ensures { IfOk result (λ v. held_entries v.items ≡ filter (λ e. asks_for (of_secure_vip svip.now) e.0) (values registry.now.held)) }
 {
     let mut list = Vec::new(alloc);
-    for (_, place) in registry.records() {
-        if let Some(held) = place
-            && has_svip(held, svip)
-        {
-            list.push(held.share()?)?;
-        }
+    for (_, ids) in registry.records() {
+        add_under_svip(&mut list, ids.as_map(), svip)?;
     }
     Ok(list)
 }

@@ -7,12 +7,13 @@ ghost use Rattle.disco_writer.specs.InOrder.{AreTheirs};
 ghost use Rattle.disco_writer.specs.Joined.{shown_by, walked};
 ghost use Rattle.disco_writer.specs.Kept.{HasNoEmpty, IsReadyFor, IsSameTexts, SetsText, none_kept, kept_text_at};
 
+use crate::in_order::KeyedText;
 use crate::named::Named;
 use crate::piece::Piece;
 use crate::places::{entries_in, make, make_unless, pieces_in, put_named, sweep, text_at};
-use disco_history::Places;
 use disco_instance::Record;
-use disco_values::{Bytes, Fault, Key};
+use disco_places::Places;
+use disco_values::{Bytes, Fault, Key, Text};
 use std::alloc::{AllocError, Global};
 use std::marker::Model;
 use std::sync::Arc;
@@ -55,7 +56,14 @@ impl Texts {
     pub fn get(&self, key: &Key) -> Option<&[u8]>
         ensures { option_map (λ t. t.now) result ≡ kept_text_at self.now key.now }
     {
-        text_at(&self.places, key)
+        self.get_at(&key.app, &key.id)
+    }
+
+    /// The text under the key of this app and this id.
+    pub(crate) fn get_at(&self, app: &Text, id: &Text) -> Option<&[u8]>
+        ensures { option_map (λ t. t.now) result ≡ kept_text_at self.now (record { app = app.now; id = id.now }) }
+    {
+        text_at(&self.places, app, id)
     }
 
     /// How many places there are, one of which may stand empty.
@@ -66,7 +74,7 @@ impl Texts {
     }
 
     /// The key and the text of each instance that has one, in the order of their keys.
-    pub(crate) fn entries(&self, alloc: Global) -> Result<Vec<(&Key, &[u8])>, AllocError>
+    pub(crate) fn entries(&self, alloc: Global) -> Result<Vec<KeyedText<'_>>, AllocError>
         ensures { IfOk result (λ v. AreTheirs self.now v.items) }
     {
         entries_in(alloc, &self.places)

@@ -3,11 +3,10 @@ use Rattle.std.specs.FinMap.{FinMap, keys}
 use Rattle.disco_values.specs.declared.key.Key.{Key}
 use Rattle.disco_lease.specs.Due.{due_cmp}
 use Rattle.disco_lease.proofs.Collecting.{keys_due}
-use Rattle.disco_lease.proofs.Ordered.{collected}
 use Rattle.disco_lease.proofs.overdue.overdue_keys.Goals as goal
 
 pub returns : goal.returns
 returns c =
     c.in_ok-keys.ensures.keys
     ∙ keys_due c.in_ok-overdue.overdue.entries c.keys.ensures.ordered
-    ∙ ap (λ (m : FinMap due_cmp (Unit {0})). map (λ (d : ℕ × Key). d.1) (keys m)) (c.in_ok-overdue.ensures.pairs ∙ collected c.args.places.now c.args.now c.collect.ensures.ordered)
+    ∙ ap (λ (m : FinMap due_cmp (Unit {0})). map (λ (d : ℕ × Key). d.1) (keys m)) c.in_ok-overdue.ensures

@@ -8,5 +8,5 @@ use Rattle.disco_queue.proofs.latest.without_keys.Given as goal
 
 abbrev pub invariant-loop-change : goal.invariant-loop-change
 invariant-loop-change l =
-    (map (λ (c : Bor Change). change_view c.now) l.found.items ++ map (λ (p : Latest). change_view p.1.now) (drop l.change-index l.pairs) ≡ map (λ (p : Latest). change_view p.1.now) l.pairs)
+    (map (λ (c : Bor Change). change_view c.now) l.found.items ++ map (λ (p : Latest). change_view p.2.now) (drop l.change-index l.latest) ≡ map (λ (p : Latest). change_view p.2.now) l.latest)
     × All (λ (c : Bor Change). is_proper c.now ≡ true) l.found.items

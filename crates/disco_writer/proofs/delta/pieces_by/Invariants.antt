@@ -6,8 +6,8 @@ use Rattle.disco_writer.proofs.Told.{AreSoFar}
 use Rattle.disco_writer.proofs.delta.pieces_by.Given as goal
 
 abbrev told : Latest → Entry
-told p = change_view p.1.now
+told p = change_view p.2.now
 
-abbrev pub invariant-loop-pair : goal.invariant-loop-pair
-invariant-loop-pair l = (shown_by l.list.items ++ texts_by l.form l.texts (map told (drop l.pair-index l.changes)) ≡ texts_by l.form l.texts (map told l.changes))
-    × AreSoFar l.form l.texts (map told (drop l.pair-index l.changes)) (map told l.changes)
+abbrev pub invariant-loop-latest : goal.invariant-loop-latest
+invariant-loop-latest l = (shown_by l.list.items ++ texts_by l.form l.texts (map told (drop l.latest-index l.changes)) ≡ texts_by l.form l.texts (map told l.changes))
+    × AreSoFar l.form l.texts (map told (drop l.latest-index l.changes)) (map told l.changes)

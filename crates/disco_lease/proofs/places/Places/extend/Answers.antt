@@ -1,12 +1,13 @@
-use Rattle.std.proofs.Common.{sym, ap, ◌∙◌}
-use Rattle.disco_lease.proofs.Entries.{has_lease_seen, none_moved, one_moved}
+use Rattle.std.proofs.Common.{◌≡◌, Some, option_map, sym, ap, ◌∙◌}
+use Rattle.std.specs.FinMap.{get}
+use Rattle.std.specs.Option.{option_flatten}
+use Rattle.disco_lease.specs.Seen.{plain_lease, seen}
+use Rattle.disco_lease.proofs.Entries.{seen_moved}
 use Rattle.disco_lease.proofs.places.Places.extend.Goals as goal
 
-pub returns-clause-there : goal.returns-clause-there
-returns-clause-there c = rw (← c.self.view_is) (c.extend_at.ensures.there ∙ has_lease_seen c.self.inside.places.entries c.args.key.now)
-
-pub returns-clause-moved : goal.returns-clause-moved
-returns-clause-moved c = λ is. rw (← c.self.view_is) (one_moved c.self.inside.places.entries c.extend_at.new.places.entries c.args.key.now c.args.now (sym c.extend_at.ensures.there ∙ is) (λ some. let m = c.extend_at.ensures.moved some in (m.0, m.1, m.2.0)))
-
-pub returns-clause-same : goal.returns-clause-same
-returns-clause-same c = λ is. rw (← c.self.view_is) (none_moved c.self.inside.places.entries c.extend_at.new.places.entries c.args.key.now c.args.now (sym c.extend_at.ensures.there ∙ is) (λ some. let m = c.extend_at.ensures.moved some in (m.0, m.1, m.2.0)) (λ none. ap (λ p. p.entries) (c.extend_at.ensures.same none)))
+pub returns-in-Some-clause-moved : goal.returns-in-Some-clause-moved
+returns-in-Some-clause-moved c = λ _.
+    let m = c.self.inside.places in
+    let k = c.args.key.now in
+    let there : Some (plain_lease c.in-Some.lease) ≡ option_flatten (get (seen m) k) = rw (c.self.view_is) (ap (option_map plain_lease) (sym c.in-Some.is) ∙ c.lease.ensures) in
+    rw (← c.self.view_is) (seen_moved m c.put.new.self k c.args.now c.in-Some.lease c.extended.result there c.extended.ensures c.put.ensures.there)

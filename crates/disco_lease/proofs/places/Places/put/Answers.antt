@@ -1,9 +1,10 @@
-use Rattle.std.proofs.Common.{Some}
-use Rattle.disco_lease.proofs.Entries.{one_put, place_seen}
+use Rattle.std.proofs.Common.{Some, ap, ◌∙◌}
+use Rattle.disco_lease.specs.Seen.{seen}
+use Rattle.disco_lease.proofs.Entries.{place_seen, seen_put}
 use Rattle.disco_lease.proofs.places.Places.put.Goals as goal
 
-pub set-requires : goal.set-requires
-set-requires c = place_seen c.self.inside.places.entries c.args.key.now (rw c.self.view_is c.requires)
-
 pub returns : goal.returns
-returns c = rw (← c.self.view_is) (one_put c.self.inside.places.entries c.set.new.places.entries c.args.key.now (Some c.args.lease) c.set.ensures.0)
+returns c =
+    let m = c.self.inside.places in
+    let k = c.args.key.now in
+    rw (← c.self.view_is) (ap seen (c.put.ensures.there (place_seen m k (rw c.self.view_is c.requires))) ∙ seen_put m k (Some c.args.lease))

@@ -1,0 +1,18 @@
+use Rattle.std.proofs.Common.{ap, ◌∙◌}
+use Rattle.disco_places.specs.KeyMaps.{by_key}
+use Rattle.disco_places.proofs.Stored.{lent}
+use Rattle.disco_places.proofs.Nesting.{none_out, taken_out}
+use Rattle.disco_places.proofs.key_map.close_in.Goals as goal
+
+pub returns-in-Some-clause-closed : goal.returns-in-Some-clause-closed
+returns-in-Some-clause-closed g c =
+    let k = c.args.key.now in
+    let n = c.remove.new.self in
+    let after = c.get_mut.follows.holds n in
+    let there = c.in-Some.ensures.value in
+    taken_out c.args.apps.now.entries (c.get_mut.follows.lender n).entries c.requires after.4 k c.in-Some.ids.now n there
+    (lent k.app c.args.apps.now (c.get_mut.follows.lender n) c.in-Some.ids.now n there after.3) c.remove.ensures
+
+pub returns-in-None-clause-closed : goal.returns-in-None-clause-closed
+returns-in-None-clause-closed g c =
+    ap (λ m. by_key m.entries) c.get_mut.follows.holds-at-none ∙ none_out c.args.apps.now.entries c.args.key.now c.requires c.in-None.ensures.value

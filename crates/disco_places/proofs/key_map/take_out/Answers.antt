@@ -1,0 +1,7 @@
+use Rattle.disco_places.proofs.Nesting.{bare_out}
+use Rattle.disco_places.specs.KeyMaps.{by_key}
+use Rattle.disco_places.proofs.key_map.take_out.Goals as goal
+
+pub returns-then-close_in-clause-closed : goal.returns-then-close_in-clause-closed
+returns-then-close_in-clause-closed g c =
+    bare_out c.close_in.new.apps.entries c.unset.new.apps.entries c.close_in.ensures.ordered c.unset.ensures.ordered c.args.key.now (by_key c.args.apps.now.entries) c.close_in.ensures.closed (c.close_in.ensures.bare c.if-close_in.true) c.unset.ensures.updates.0

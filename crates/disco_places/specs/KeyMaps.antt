@@ -1,0 +1,29 @@
+-- What stands by app and then by id, as entries by key (this project's own definition).
+use Rattle.std.specs.Prelude.{ℕ, List, map}
+use Rattle.std.specs.declared.cmp.Ordering.{Ordering}
+use Rattle.std.specs.Cmp.Lexicographic.{slice_cmp}
+use Rattle.std.specs.FinMap.{FinMap, entries, from_entries}
+use Rattle.std.specs.List.{flat_map}
+use Rattle.std.specs.Ordering.{nat_cmp}
+use Rattle.disco_values.specs.Key.{key_cmp}
+use Rattle.disco_values.specs.declared.key.Key.{Key}
+
+-- texts in byte order
+abbrev pub text_cmp : List ℕ → List ℕ → Ordering
+text_cmp = slice_cmp nat_cmp
+
+-- what each of some ids has
+abbrev pub ById : Type 0 → Type 0
+ById X = FinMap text_cmp X
+
+-- the entries of an app, by their keys
+abbrev pub of_app : {X : Type 0} → List ℕ × ById X → List (Key × X)
+of_app a = map (λ e. (record { app = a.0; id = e.0 }, e.1)) (entries a.1)
+
+-- those of all apps, in their order
+abbrev pub of_apps : {X : Type 0} → List (List ℕ × ById X) → List (Key × X)
+of_apps apps = flat_map of_app apps
+
+-- the same as a map
+abbrev pub by_key : {X : Type 0} → List (List ℕ × ById X) → FinMap key_cmp X
+by_key apps = from_entries (of_apps apps)
