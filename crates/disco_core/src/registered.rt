@@ -42,7 +42,7 @@ use disco_query::{DocKey, Query};
 use disco_queue::ChangedQueue;
 use disco_registry::{Applied, Op, Registry};
 use disco_settings::Settings;
-use disco_values::{Bytes, Fault, Form, Key};
+use disco_values::{Bytes, Fault, Form, Key, Text};
 use disco_writer::{Room, room_for, write_document};
 use std::alloc::Global;
 use std::marker::Model;
@@ -667,7 +667,8 @@ impl Core {
         ensures allowed { IfOk result (λ _. (h : List Entry) → registry.StandsFor self.now.registry h → refusal_of_id id.now h ≡ None) }
         ensures refused { IfErr result (λ e. e ≢ OutOfMemory → (h : List Entry) → registry.StandsFor self.now.registry h → refusal_of_id id.now h ≡ Some e) }
     {
-        match self.registry.by_id(id) {
+        let id = Text::new(self.alloc, id)?;
+        match self.registry.with_id(&id) {
             Some(rec) => self.instance(&rec.key, form),
             None => Err(Fault::NotFound),
         }

@@ -11,13 +11,13 @@ use Rattle.std.specs.FinMap.Entries as found
 use Rattle.std.specs.List.{AllByRecursion, cons_option, filter_map, find}
 use Rattle.std.specs.List.Sorted.{IsStrictlySortedBy}
 use Rattle.std.specs.Map.{keys_of}
-use Rattle.std.specs.Option.{option_or}
+use Rattle.std.specs.Option.{option_flatten, option_or}
 use Rattle.std.specs.Ordering.{is_eq}
 use Rattle.std.specs.Str.{bytes_eq}
 use Rattle.std.specs.declared.cmp.Ordering.TheVariants.{Less}
 use Rattle.disco_values.specs.Key.{key_cmp}
 use Rattle.disco_values.specs.declared.key.Key.{Key}
-use Rattle.disco_history.specs.Apps.{is_of_app}
+use Rattle.disco_history.specs.Apps.{is_of_app, is_of_id}
 use Rattle.disco_history.specs.Change.{Entry}
 use Rattle.disco_history.specs.Held.{entry_of}
 use Rattle.disco_history.specs.declared.held.Held.{Held}
@@ -25,7 +25,7 @@ use Rattle.disco_history.proofs.PlaceLemmas.{values_filled}
 use Rattle.disco_history.proofs.Sorted.{Own, own}
 use Rattle.disco_places.specs.KeyMaps.{ById, of_app, of_apps, text_cmp}
 use Rattle.disco_places.proofs.Stored.{at_text, text_is}
-use Rattle.disco_registry.specs.Records.{AreInPlace, key_of_held, mentions_held}
+use Rattle.disco_registry.specs.Records.{AreInPlace, AreKeyed, AreKeyedById, key_of_held, mentions_held}
 
 abbrev Entries : Type 0
 Entries = List (Key × Option Held)
@@ -72,9 +72,6 @@ found_later P e es none = ap (λ o. option_or o (find P (shown (of_apps es)))) n
 -- ---- the records of an app
 
 -- each record stands under its key
-abbrev AreKeyed : Entries → Type 0
-AreKeyed es = AllByRecursion (λ (e : Key × Option Held). IfSome e.1 (λ h. key_of_held h ≡ e.0)) es
-
 keyed_entries : (f : Key → Option (Option Held)) (es : Entries) → Own f es → ((q : Key) (h : Held) → f q ≡ Some (Some h) → key_of_held h ≡ q) → AreKeyed es
 keyed_entries f [] own each = tt
 keyed_entries f (e ∷ es) own each = (one e.1 own.0, keyed_entries f es own.1 each)
@@ -108,7 +105,7 @@ keyed_later : (es fs : Entries) → AreKeyed (es ++ fs) → AreKeyed fs
 keyed_later [] fs each = each
 keyed_later (e ∷ es) fs each = keyed_later es fs each.1
 
-none_above : (a : List ℕ) (es : Apps) → AllByRecursion (λ b. text_cmp a b ≡ Less) (keys_of es) → at_text es a ≡ None
+none_above : {X : Type 0} (a : List ℕ) (es : List (List ℕ × X)) → AllByRecursion (λ b. text_cmp a b ≡ Less) (keys_of es) → at_text es a ≡ None
 none_above a [] h = refl
 none_above a (e ∷ es) h = ap (λ o. cond (is_eq o) (Some e.1) (at_text es a)) h.0 ∙ none_above a es h.1
 
@@ -135,9 +132,50 @@ in_app a (e ∷ es) sorted each =
         ∙ ap (λ xs. shown_in (entries e.1) ++ xs) (sym (ap shown_of (ap (at_text es) (text_is a e.0 is) ∙ none_above e.0 es (sorted_head text_cmp e.0 (keys_of es) sorted))) ∙ later)
     by false is later = later
 
+-- the places of what is held stand under the keys of their records
+pub all_keyed : (p : FinMap key_cmp (Option Held)) (next last : Option Held) (es : Apps) → AreInPlace p next last → of_apps es ≡ entries p → AreKeyed (of_apps es)
+all_keyed p next last es placed is =
+    subst AreKeyed (sym is) (keyed_entries (λ q. found.find key_cmp q (entries p)) (entries p) (own (entries p) (entries_sorted p)) (λ q h there. placed.keyed q h (get-entries p q ∙ there)))
+
 -- what the places of an app show is what is held of it
 pub app_shown : (p : FinMap key_cmp (Option Held)) (next last : Option Held) (a : List ℕ) (es : Apps) → AreInPlace p next last → IsStrictlySortedBy text_cmp (keys_of es) → of_apps es ≡ entries p
     → shown_of (at_text es a) ≡ filter (is_of_app a) (values (mentions_held p))
 app_shown p next last a es placed sorted is =
-    let each = keyed_entries (λ q. found.find key_cmp q (entries p)) (entries p) (own (entries p) (entries_sorted p)) (λ q h there. placed.keyed q h (get-entries p q ∙ there)) in
-    in_app a es sorted (subst AreKeyed (sym is) each) ∙ ap (filter (is_of_app a)) (all_shown p es is)
+    in_app a es sorted (all_keyed p next last es placed is) ∙ ap (filter (is_of_app a)) (all_shown p es is)
+
+-- ---- the record under an id
+
+ids_keyed : (a : List ℕ) (es : IdEntries) (fs : Entries) → AreKeyed (keyed a es ++ fs) → AreKeyedById es
+ids_keyed a [] fs each = tt
+ids_keyed a (e ∷ es) fs each = (one e.1 each.0, ids_keyed a es fs each.1)
+  where
+    one : (o : Option Held) → IfSome o (λ h. key_of_held h ≡ record { app = a; id = e.0 }) → IfSome o (λ h. (key_of_held h).id ≡ e.0)
+    one None key = tt
+    one (Some h) key = ap (λ (k : Key). k.id) key
+
+pub first_keyed : (e : List ℕ × ById (Option Held)) (es : Apps) → AreKeyed (of_apps (e ∷ es)) → AreKeyedById (entries e.1)
+first_keyed e es each = ids_keyed e.0 (entries e.1) (of_apps es) each
+
+pub others_keyed : (e : List ℕ × ById (Option Held)) (es : Apps) → AreKeyed (of_apps (e ∷ es)) → AreKeyed (of_apps es)
+others_keyed e es each = keyed_later (of_app e) (of_apps es) each
+
+-- what stands under an id of one app is the first record that shows it
+pub under_id : (id : List ℕ) (es : IdEntries) → IsStrictlySortedBy text_cmp (keys_of es) → AreKeyedById es → option_map entry_of (option_flatten (at_text es id)) ≡ find (is_of_id id) (shown_in es)
+under_id id [] sorted each = refl
+under_id id (e ∷ es) sorted each = by (is_eq (text_cmp id e.0)) refl e.1 each.0 (under_id id es (sorted_tail text_cmp e.0 (keys_of es) sorted) each.1)
+  where
+    rest : Option Entry
+    rest = find (is_of_id id) (shown_in es)
+
+    test : (h : Held) (t : Bool) → is_eq (text_cmp id e.0) ≡ t → (key_of_held h).id ≡ e.0 → cond (is_of_id id (entry_of h)) (Some (entry_of h)) rest ≡ cond t (Some (entry_of h)) rest
+    test h t is key = ap (λ b. cond b (Some (entry_of h)) rest) (ap (λ x. bytes_eq x id) key ∙ sym (is_eq-slice_cmp id e.0 ∙ nat_list_eq_equiv.symm id e.0) ∙ is)
+
+    none_left : is_eq (text_cmp id e.0) ≡ true → at_text es id ≡ None
+    none_left is = ap (at_text es) (text_is id e.0 is) ∙ none_above e.0 es (sorted_head text_cmp e.0 (keys_of es) sorted)
+
+    by : (t : Bool) → is_eq (text_cmp id e.0) ≡ t → (o : Option Held) → IfSome o (λ h. (key_of_held h).id ≡ e.0) → option_map entry_of (option_flatten (at_text es id)) ≡ rest
+        → option_map entry_of (option_flatten (cond t (Some o) (at_text es id))) ≡ find (is_of_id id) (cons_option (option_map entry_of o) (shown_in es))
+    by true is None key later = sym (ap (λ (o : Option (Option Held)). option_map entry_of (option_flatten o)) (none_left is)) ∙ later
+    by false is None key later = later
+    by true is (Some h) key later = sym (test h true is key)
+    by false is (Some h) key later = later ∙ sym (test h false is key)

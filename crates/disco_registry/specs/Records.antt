@@ -1,7 +1,8 @@
 -- The held records, by key. Nothing here is to be believed: it is the view and the invariant of a type.
-use Rattle.std.specs.Prelude.{◌≡◌, ℕ, ◌+◌, Bool, false, if◌then◌else◌, List, Option, Some, None}
+use Rattle.std.specs.Prelude.{◌≡◌, ℕ, ◌+◌, Bool, false, if◌then◌else◌, List, Option, Some, None, IfSome}
 use Rattle.std.specs.Str.{bytes_eq}
 use Rattle.std.specs.FinMap.{FinMap, get, len}
+use Rattle.std.specs.List.{AllByRecursion}
 use Rattle.disco_values.specs.Key.{key_cmp, same_key}
 use Rattle.disco_values.specs.declared.key.Key.{Key}
 use Rattle.disco_history.specs.Change.{Entry}
@@ -52,6 +53,14 @@ next_left k (Some h) = if same_key (key_of_held h) k then None else Some h
 abbrev pub one_if : Option Held → ℕ
 one_if None = 0
 one_if (Some h) = 1
+
+-- each record stands under its key
+abbrev pub AreKeyed : List (Key × Option Held) → Type 0
+AreKeyed es = AllByRecursion (λ e. IfSome e.1 (λ h. key_of_held h ≡ e.0)) es
+
+-- each record stands under its id
+abbrev pub AreKeyedById : List (List ℕ × Option Held) → Type 0
+AreKeyedById es = AllByRecursion (λ e. IfSome e.1 (λ h. (key_of_held h).id ≡ e.0)) es
 
 -- each record stands under its key, and no place is empty but that of the record that is put next
 pub record AreInPlace (p : FinMap key_cmp (Option Held)) (next last : Option Held) : Type 0 where

@@ -1,6 +1,6 @@
 //! The held records by key.
 ghost use Rattle.disco_values.specs.Key.{same_key};
-ghost use Rattle.disco_registry.specs.Records.{next_left, of_key, shows_id};
+ghost use Rattle.disco_registry.specs.Records.{AreKeyed, AreKeyedById, next_left, of_key, shows_id};
 ghost use Rattle.std.specs.Prelude.{◌≡◌, IfOk, IfSome, None, OnOk, Some, filter, is_some, map, option_map};
 ghost use Rattle.std.specs.FinMap as finmap;
 ghost use Rattle.std.specs.FinMap.{values};
@@ -128,6 +128,32 @@ fn first_of_id<'a>(apps: &'a BTreeMap<Text, IdMap<Option<Held>>>, id: &str) -> O
     None
 }
 
+/// The record that stands under an id in the places of one app.
+fn found_in<'a>(ids: &'a BTreeMap<Text, Option<Held>>, id: &Text) -> Option<&'a Held>
+    requires { AreKeyedById ids.now.entries }
+    ensures { option_map (λ h. entry_of h.now) result ≡ find (is_of_id id.now) (filter_map (λ e. option_map entry_of e.1) ids.now.entries) }
+{
+    // For the proof alone: the ids of a map stand in order, each once.
+    let _len = ids.len();
+    match ids.get(id) {
+        Some(place) => place.as_ref(),
+        None => None,
+    }
+}
+
+/// The first record that stands under an id in the places of all apps.
+fn found_under<'a>(apps: &'a BTreeMap<Text, IdMap<Option<Held>>>, id: &Text) -> Option<&'a Held>
+    requires { AreKeyed (of_apps apps.now.entries) }
+    ensures { option_map (λ h. entry_of h.now) result ≡ find (is_of_id id.now) (filter_map (λ e. option_map entry_of e.1) (of_apps apps.now.entries)) }
+{
+    for (_, ids) in apps {
+        if let Some(held) = found_in(ids.as_map(), id) {
+            return Some(held);
+        }
+    }
+    None
+}
+
 impl Records {
     /// No records.
     pub(crate) fn new(alloc: Global) -> Records
@@ -204,6 +230,13 @@ impl Records {
         ensures { option_map (λ h. entry_of h.now) result ≡ find (is_of_id id.now) (values self.now.held) }
     {
         first_of_id(self.places.apps(), id)
+    }
+
+    /// The same, by a search among the ids of each app.
+    pub(crate) fn with_id(&self, id: &Text) -> Option<&Held>
+        ensures { option_map (λ h. entry_of h.now) result ≡ find (is_of_id id.now) (values self.now.held) }
+    {
+        found_under(self.places.apps(), id)
     }
 
     /// The places of the records, by app and then by id. One of them may stand empty.

@@ -195,20 +195,24 @@ impl Registry {
         self.records.held(key)
     }
 
-    /// The record of an id, with what its last change did: of several apps' the one with the least
-    /// app, in byte order.
-    pub fn held_by_id(&self, id: &str) -> Option<&Held>
-        ensures { option_map (λ h. entry_of h.now) result ≡ find (is_of_id id.now) (values self.now.held) }
-    {
-        self.records.of_id(id)
-    }
-
-    /// The record of an id: of several apps' the one with the least app, in byte order.
+    /// The record of an id: of several apps' the one with the least app, in byte order. Goes over all
+    /// records; `with_id` doesn't.
     pub fn by_id(&self, id: &str) -> Option<&Record>
         ensures found { seen_record result ≡ option_map (λ e. e.0) (find (is_of_id id.now) (values self.now.held)) }
         ensures history { (h : List Entry) → StandsFor self.now h → seen_record result ≡ by_id (registry_of h) id.now }
     {
-        match self.held_by_id(id) {
+        match self.records.of_id(id) {
+            Some(held) => Some(&*held.rec),
+            None => None,
+        }
+    }
+
+    /// The same, by a search among the ids of each app.
+    pub fn with_id(&self, id: &Text) -> Option<&Record>
+        ensures found { seen_record result ≡ option_map (λ e. e.0) (find (is_of_id id.now) (values self.now.held)) }
+        ensures history { (h : List Entry) → StandsFor self.now h → seen_record result ≡ by_id (registry_of h) id.now }
+    {
+        match self.records.with_id(id) {
             Some(held) => Some(&*held.rec),
             None => None,
         }

@@ -11,22 +11,22 @@ use Rattle.disco_core.proofs.registered.Core.by_id.Goals as goal
 pub returns-in-Some-clause-key : goal.returns-in-Some-clause-key
 returns-in-Some-clause-key c = ok_then c.instance.result _ _ (λ p is h stands.
     let rec = c.in-Some.rec.now in
-    let there : by_id (registry_of h) c.args.id.now ≡ Some (row rec) = sym (c.in-Some.ensures.history h (subst (λ (s : CoreState). StandsFor s.registry h) (sym c.self.view_is) stands)) in
+    let there : by_id (registry_of h) c.args.id.now ≡ Some (row rec) = ap (by_id (registry_of h)) (sym c.in_ok-id.ensures) ∙ sym (c.in-Some.ensures.history h (subst (λ (s : CoreState). StandsFor s.registry h) (sym c.self.view_is) stands)) in
     ap (option_map (λ (r : Row). doc_of_key r.key c.args.form)) there ∙ ap (λ k. Some k) (sym is)) c.instance.ensures.key
 
 pub returns-in-Some-clause-refused : goal.returns-in-Some-clause-refused
 returns-in-Some-clause-refused c = err_then c.instance.result _ _ (λ e why other h stands.
     let rec = c.in-Some.rec.now in
-    let there : by_id (registry_of h) c.args.id.now ≡ Some (row rec) = sym (c.in-Some.ensures.history h (subst (λ (s : CoreState). StandsFor s.registry h) (sym c.self.view_is) stands)) in
+    let there : by_id (registry_of h) c.args.id.now ≡ Some (row rec) = ap (by_id (registry_of h)) (sym c.in_ok-id.ensures) ∙ sym (c.in-Some.ensures.history h (subst (λ (s : CoreState). StandsFor s.registry h) (sym c.self.view_is) stands)) in
     ap (λ (o : Option Row). refusal_by o h) there ∙ why other h stands) c.instance.ensures.refused
 
-pub returns-in-None-clause-refused : goal.returns-in-None-clause-refused
-returns-in-None-clause-refused c = λ other h stands.
-    let none : by_id (registry_of h) c.args.id.now ≡ None = sym (c.in-None.ensures.history h (subst (λ (s : CoreState). StandsFor s.registry h) (sym c.self.view_is) stands)) in
+pub returns-clause-refused : goal.returns-clause-refused
+returns-clause-refused c = λ other h stands.
+    let none : by_id (registry_of h) c.args.id.now ≡ None = ap (by_id (registry_of h)) (sym c.in_ok-id.ensures) ∙ sym (c.in-None.ensures.history h (subst (λ (s : CoreState). StandsFor s.registry h) (sym c.self.view_is) stands)) in
     ap (λ (o : Option Row). refusal_by o h) none
 
 pub returns-in-Some-clause-allowed : goal.returns-in-Some-clause-allowed
 returns-in-Some-clause-allowed c = ok_then c.instance.result _ _ (λ d none h stands.
     let rec = c.in-Some.rec.now in
-    let there : by_id (registry_of h) c.args.id.now ≡ Some (row rec) = sym (c.in-Some.ensures.history h (subst (λ (s : CoreState). StandsFor s.registry h) (sym c.self.view_is) stands)) in
+    let there : by_id (registry_of h) c.args.id.now ≡ Some (row rec) = ap (by_id (registry_of h)) (sym c.in_ok-id.ensures) ∙ sym (c.in-Some.ensures.history h (subst (λ (s : CoreState). StandsFor s.registry h) (sym c.self.view_is) stands)) in
     ap (λ (o : Option Row). refusal_by o h) there ∙ none h stands) c.instance.ensures.allowed

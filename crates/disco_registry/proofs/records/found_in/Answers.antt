@@ -1,0 +1,18 @@
+use Rattle.std.proofs.Common.{Option, option_map, ap, ◌∙◌}
+use Rattle.std.specs.Option.{option_flatten}
+use Rattle.disco_history.specs.Held.{entry_of}
+use Rattle.disco_history.specs.declared.held.Held.{Held}
+use Rattle.disco_registry.proofs.Placing.{map_copied}
+use Rattle.disco_registry.proofs.Walking.{under_id}
+use Rattle.disco_registry.proofs.records.found_in.Goals as goal
+
+pub returns-in-Some : goal.returns-in-Some
+returns-in-Some c =
+    map_copied c.as_ref.result ∙ ap (option_map entry_of) c.as_ref.ensures.value
+    ∙ ap (λ (o : Option (Option Held)). option_map entry_of (option_flatten o)) c.in-Some.ensures.value
+    ∙ under_id c.args.id.now c.args.ids.now.entries c.len-len.ensures.ordered c.requires
+
+pub returns-in-None : goal.returns-in-None
+returns-in-None c =
+    ap (λ (o : Option (Option Held)). option_map entry_of (option_flatten o)) c.in-None.ensures.value
+    ∙ under_id c.args.id.now c.args.ids.now.entries c.len-len.ensures.ordered c.requires
