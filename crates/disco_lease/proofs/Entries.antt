@@ -61,15 +61,18 @@ seen_some (Some p) h = refl
 pub place_seen : (m : Places) (q : Key) → IsSome (get (seen m) q) → IsSome (get m q)
 place_seen m q h = seen_some (get m q) (subst (λ (o : Option (Option leases.Lease)). IsSome o) (get_seen m q) h)
 
-flat_some : (o : Option (Option leases.Lease)) (l : leases.Lease) → Some l ≡ option_flatten o → IsSome o
-flat_some None l is = absurd (let bad : true ≡ false = ap is_some is in cc)
-flat_some (Some p) l is = refl
+also_some : (o : Option Lease) → is_some o ≡ is_some (option_map plain_lease o)
+also_some None = refl
+also_some (Some l) = refl
+
+pub some_seen : (m : Places) (k : Key) → is_some (option_flatten (get m k)) ≡ is_some (option_flatten (get (seen m) k))
+some_seen m k = also_some (option_flatten (get m k)) ∙ ap is_some (lease_seen m k)
 
 -- a lease that is moved by its duration
-pub seen_moved : (m n : Places) (k : Key) (now : ℕ) (old new : Lease) → Some (plain_lease old) ≡ option_flatten (get (seen m) k) → plain_lease new ≡ leases.extended now (plain_lease old) → (IsSome (get m k) → n ≡ insert m k (Some new))
+pub seen_moved : (m n : Places) (k : Key) (now : ℕ) (old new : Lease) → option_flatten (get m k) ≡ Some old → plain_lease new ≡ leases.extended now (plain_lease old) → n ≡ insert m k (Some new)
     → seen n ≡ insert (seen m) k (option_map (leases.extended now) (option_flatten (get (seen m) k)))
 seen_moved m n k now old new there extended put =
-    ap seen (put (place_seen m k (flat_some (get (seen m) k) (plain_lease old) there)))
+    ap seen put
     ∙ seen_put m k (Some new)
     ∙ ap (λ l. insert (seen m) k (Some l)) extended
-    ∙ ap (λ o. insert (seen m) k (option_map (leases.extended now) o)) there
+    ∙ ap (λ o. insert (seen m) k (option_map (leases.extended now) o)) (sym (ap (option_map plain_lease) there) ∙ lease_seen m k)

@@ -71,13 +71,7 @@ impl Places {
         ensures moved { IsTrue result → self.new ≡ finmap.insert self.old key.now (option_map (extended now) (option_flatten (finmap.get self.old key.now))) }
         ensures same { result ≡ false → self.new ≡ self.old }
     {
-        match self.lease(key) {
-            Some(lease) => {
-                self.places.put(key, lease.extended(now));
-                true
-            }
-            None => false,
-        }
+        self.places.update(key, |lease| lease.extended(now))
     }
 
     /// Takes the place of a key out.

@@ -5,6 +5,7 @@ use Rattle.std.specs.Option.{option_flatten}
 use Rattle.disco_values.specs.Key.{key_cmp, same_key}
 use Rattle.disco_values.specs.declared.key.Key.{Key}
 use Rattle.disco_history.proofs.Keys.{keys_total, exact_keys, same_is}
+use Rattle.disco_places.specs.KeyMaps.{Replaces}
 
 module _ {X : Type 0} (m : FinMap key_cmp X) (k : Key) where
   put_step : (n : FinMap key_cmp X) (x : X) (o : Option X) → get m k ≡ o → (IsSome (get m k) → n ≡ insert m k x) → (get m k ≡ None → n ≡ m) → len n ≡ len m
@@ -65,3 +66,14 @@ module _ {V : Type 0} (m : FinMap key_cmp (Option V)) (k : Key) where
   -- an empty place where there was none
   pub made : (n : FinMap key_cmp (Option V)) → (IsSome (get m k) → n ≡ m) → (get m k ≡ None → n ≡ insert m k None) → n ≡ insert m k (option_flatten (get m k))
   made n there absent = made_step n (get m k) refl there absent
+
+  in_place : (o : Option (Option V)) (x : V) → option_flatten o ≡ Some x → is_some o ≡ true
+  in_place None x is = absurd (let bad : false ≡ true = ap is_some is in cc)
+  in_place (Some p) x is = refl
+
+  -- a value that is replaced in its place, or none
+  pub len_replaced : (n : FinMap key_cmp (Option V)) (F : V → V → Type 0) (b : Bool) → (b ≡ true → Replaces F m n k) → (b ≡ false → n ≡ m) → len n ≡ len m
+  len_replaced n F true changed same =
+      let made = changed refl in
+      ap len made.4 ∙ len-insert keys_total m k (Some made.1) ∙ ap (λ c. cond c (len m) (len m + 1)) (in_place (get m k) made.0 made.2)
+  len_replaced n F false changed same = ap len (same refl)

@@ -70,6 +70,9 @@ module _ {V : Type 0} where
   pub one_put : (es fs : List (Text × V)) (k : Text) (v : V) → Updated es fs k (Some v) → ids_of fs ≡ insert (ids_of es) k v
   one_put es fs k v h = same_map texts_total exact_bytes _ _ (λ q. get_updated es fs k (Some v) h q ∙ sym (get-insert texts_total (ids_of es) k v q))
 
+  pub same_ids : (es fs : List (Text × V)) → ((q : Text) → at_text fs q ≡ at_text es q) → ids_of fs ≡ ids_of es
+  same_ids es fs h = same_map texts_total exact_bytes _ _ (λ q. get_stored fs q ∙ h q ∙ sym (get_stored es q))
+
   pub one_out : (es fs : List (Text × V)) (k : Text) → Updated es fs k None → ids_of fs ≡ remove (ids_of es) k
   one_out es fs k h = same_map texts_total exact_bytes _ _ (λ q. get_updated es fs k None h q ∙ sym (get-remove texts_total (ids_of es) k q))
 
@@ -89,3 +92,11 @@ module _ {V : Type 0} where
 -- a write through what was lent at a text that is there
 pub lent : {X : Type 0} (k : Text) (m n : BTreeMap Text X) (old new : X) → Some old ≡ at_text m.entries k → (IsSome (at_text m.entries k) → UpdatesBy text_cmp (text_cmp k) m n (Some new)) → Updated m.entries n.entries k (Some new)
 lent k m n old new there holds = (holds (subst (λ (o : Option _). IsSome o) there refl)).0
+
+-- a write of what stood there already
+pub unchanged : {X : Type 0} (k : Text) (m n : BTreeMap Text X) (old new : X) → Some old ≡ at_text m.entries k → Updated m.entries n.entries k (Some new) → new ≡ old → (q : Text) → at_text n.entries q ≡ at_text m.entries q
+unchanged k m n old new there update same q = update q ∙ stays (is_at (text_cmp k) q) refl
+  where
+    stays : (b : Bool) → is_at (text_cmp k) q ≡ b → cond b (Some new) (at_text m.entries q) ≡ at_text m.entries q
+    stays true is = ap (λ p. Some p) same ∙ there ∙ ap (at_text m.entries) (text_is k q is)
+    stays false is = refl

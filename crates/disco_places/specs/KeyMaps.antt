@@ -1,9 +1,10 @@
 -- What stands by app and then by id, as entries by key (this project's own definition).
-use Rattle.std.specs.Prelude.{ℕ, List, map}
+use Rattle.std.specs.Prelude.{◌≡◌, ℕ, List, map, Option, Some}
 use Rattle.std.specs.declared.cmp.Ordering.{Ordering}
 use Rattle.std.specs.Cmp.Lexicographic.{slice_cmp}
-use Rattle.std.specs.FinMap.{FinMap, entries, from_entries}
+use Rattle.std.specs.FinMap.{FinMap, entries, from_entries, get, insert}
 use Rattle.std.specs.List.{flat_map}
+use Rattle.std.specs.Option.{option_flatten}
 use Rattle.std.specs.Ordering.{nat_cmp}
 use Rattle.disco_values.specs.Key.{key_cmp}
 use Rattle.disco_values.specs.declared.key.Key.{Key}
@@ -27,3 +28,7 @@ of_apps apps = flat_map of_app apps
 -- the same as a map
 abbrev pub by_key : {X : Type 0} → List (List ℕ × ById X) → FinMap key_cmp X
 by_key apps = from_entries (of_apps apps)
+
+-- the place of k had a value, and has now one that F says may come of it; all others are as they were
+abbrev pub Replaces : {K X : Type 0} {cmp : K → K → Ordering} → (X → X → Type 0) → FinMap cmp (Option X) → FinMap cmp (Option X) → K → Type 0
+Replaces {X = X} F m n k = (x : X) × (y : X) × (option_flatten (get m k) ≡ Some x) × F x y × (n ≡ insert m k (Some y))

@@ -1,9 +1,10 @@
 //! Values by id.
-ghost use Rattle.std.specs.Prelude.{◌≡◌, IsSome, IsTrue, None, OnErr, OnOk, Some, is_some};
+ghost use Rattle.std.specs.Prelude.{◌≡◌, IsSome, IsTrue, None, OnErr, OnOk, Some, false, is_some};
 ghost use Rattle.std.specs.BTreeMap as tree;
 ghost use Rattle.std.specs.FinMap as finmap;
-ghost use Rattle.std.specs.Option.{option_copied};
-ghost use Rattle.disco_places.specs.KeyMaps.{text_cmp};
+ghost use Rattle.std.specs.Fn.{FnOnceReturnsAt};
+ghost use Rattle.std.specs.Option.{option_copied, option_flatten};
+ghost use Rattle.disco_places.specs.KeyMaps.{Replaces, text_cmp};
 
 use disco_values::Text;
 use std::alloc::{AllocError, Global};
@@ -37,6 +38,38 @@ fn swap<V: Drop>(ids: &mut BTreeMap<Text, V>, id: &Text, value: V) -> Option<V>
     match ids.get_mut(id) {
         Some(place) => Some(mem::replace(place, value)),
         None => None,
+    }
+}
+
+fn change<V: Drop, F: FnOnce(&V) -> V + Drop>(place: &mut Option<V>, f: F) -> bool
+    requires { F.IsAlwaysCallable f }
+    ensures there { result ≡ is_some place.old }
+    ensures changed { IsTrue result → (x : _) × (y : _) × (place.old ≡ Some x) × FnOnceReturnsAt F.FnOnce f x y × (place.new ≡ Some y) }
+    ensures same { result ≡ false → place.new ≡ place.old }
+{
+    match place {
+        Some(value) => {
+            *value = f(value);
+            true
+        }
+        None => false,
+    }
+}
+
+fn update<V: Drop, F: FnOnce(&V) -> V + Drop>(
+    ids: &mut BTreeMap<Text, Option<V>>,
+    id: &Text,
+    f: F,
+) -> bool
+    requires { F.IsAlwaysCallable f }
+    ensures there { result ≡ is_some (option_flatten (tree.get text_cmp ids.old id.now)) }
+    ensures changed { IsTrue result → (x : _) × (y : _) × (option_flatten (tree.get text_cmp ids.old id.now) ≡ Some x)
+        × FnOnceReturnsAt F.FnOnce f x y × tree.Updates text_cmp ids.old ids.new id.now (Some (Some y)) }
+    ensures same { result ≡ false → (q : _) → tree.get text_cmp ids.new q ≡ tree.get text_cmp ids.old q }
+{
+    match ids.get_mut(id) {
+        Some(place) => change(place, f),
+        None => false,
     }
 }
 
@@ -115,5 +148,18 @@ impl<V: Drop> IdMap<V> {
         ensures { self.new ≡ finmap.remove self.old id.now }
     {
         unset(&mut self.ids, id);
+    }
+}
+
+impl<V: Drop> IdMap<Option<V>> {
+    /// Changes the value in the place of an id, if there is one, to what a function makes of it. Answers
+    /// whether there is one. Takes no memory of its own.
+    pub(crate) fn update<F: FnOnce(&V) -> V + Drop>(&mut self, id: &Text, f: F) -> bool
+        requires { F.IsAlwaysCallable f }
+        ensures there { result ≡ is_some (option_flatten (finmap.get self.old id.now)) }
+        ensures changed { IsTrue result → Replaces (FnOnceReturnsAt F.FnOnce f) self.old self.new id.now }
+        ensures same { result ≡ false → self.new ≡ self.old }
+    {
+        update(&mut self.ids, id, f)
     }
 }

@@ -1,10 +1,11 @@
 //! Values by key.
-ghost use Rattle.std.specs.Prelude.{◌≡◌, IsSome, IsTrue, None, OnErr, OnOk, Some, is_some};
+ghost use Rattle.std.specs.Prelude.{◌≡◌, IsSome, IsTrue, None, OnErr, OnOk, Some, false, is_some};
 ghost use Rattle.std.specs.BTreeMap as tree;
 ghost use Rattle.std.specs.BTreeMap.{IsOrdered};
 ghost use Rattle.std.specs.FinMap as finmap;
-ghost use Rattle.std.specs.Option.{option_copied};
-ghost use Rattle.disco_places.specs.KeyMaps.{by_key, of_apps, text_cmp};
+ghost use Rattle.std.specs.Fn.{FnOnceReturnsAt};
+ghost use Rattle.std.specs.Option.{option_copied, option_flatten};
+ghost use Rattle.disco_places.specs.KeyMaps.{Replaces, by_key, of_apps, text_cmp};
 
 use crate::id_map::IdMap;
 use disco_values::{Key, Text};
@@ -73,6 +74,27 @@ fn swap_in<V: Drop>(apps: &mut BTreeMap<Text, IdMap<V>>, key: &Key, value: V) ->
     match apps.get_mut(&key.app) {
         Some(ids) => ids.swap(&key.id, value),
         None => None,
+    }
+}
+
+/// Changes the value in the place of a key, if there is one, to what a function makes of it. Answers
+/// whether there is one.
+fn update_in<V: Drop, F: FnOnce(&V) -> V + Drop>(
+    apps: &mut BTreeMap<Text, IdMap<Option<V>>>,
+    key: &Key,
+    f: F,
+) -> bool
+    requires ordered { IsOrdered text_cmp apps.old }
+    requires callable { F.IsAlwaysCallable f }
+    ensures there { result ≡ is_some (option_flatten (finmap.get (by_key apps.old.entries) key.now)) }
+    ensures changed { IsTrue result →
+        Replaces (FnOnceReturnsAt F.FnOnce f) (by_key apps.old.entries) (by_key apps.new.entries) key.now }
+    ensures same { result ≡ false → by_key apps.new.entries ≡ by_key apps.old.entries }
+    ensures ordered { IsOrdered text_cmp apps.new }
+{
+    match apps.get_mut(&key.app) {
+        Some(ids) => ids.update(&key.id, f),
+        None => false,
     }
 }
 
@@ -213,5 +235,18 @@ impl<V: Drop> KeyMap<V> {
         }
         take_out(&mut self.apps, key);
         self.len -= 1;
+    }
+}
+
+impl<V: Drop> KeyMap<Option<V>> {
+    /// Changes the value in the place of a key, if there is one, to what a function makes of it. Answers
+    /// whether there is one. Takes no memory of its own.
+    pub(crate) fn update<F: FnOnce(&V) -> V + Drop>(&mut self, key: &Key, f: F) -> bool
+        requires { F.IsAlwaysCallable f }
+        ensures there { result ≡ is_some (option_flatten (finmap.get self.old key.now)) }
+        ensures changed { IsTrue result → Replaces (FnOnceReturnsAt F.FnOnce f) self.old self.new key.now }
+        ensures same { result ≡ false → self.new ≡ self.old }
+    {
+        update_in(&mut self.apps, key, f)
     }
 }

@@ -1,8 +1,9 @@
 //! Places by key, which may stand empty.
-ghost use Rattle.std.specs.Prelude.{◌≡◌, IsSome, None, OnErr, OnOk, Some};
+ghost use Rattle.std.specs.Prelude.{◌≡◌, IsSome, IsTrue, None, OnErr, OnOk, Some, false, is_some};
 ghost use Rattle.std.specs.FinMap as finmap;
+ghost use Rattle.std.specs.Fn.{FnOnceReturnsAt};
 ghost use Rattle.std.specs.Option.{option_copied, option_flatten};
-ghost use Rattle.disco_places.specs.KeyMaps.{of_apps};
+ghost use Rattle.disco_places.specs.KeyMaps.{Replaces, of_apps};
 
 use crate::id_map::IdMap;
 use crate::key_map::KeyMap;
@@ -91,6 +92,17 @@ impl<V: Drop> Places<V> {
         ensures none { finmap.get self.old key.now ≡ None → self.new ≡ self.old }
     {
         self.places.set(key, Some(value));
+    }
+
+    /// Changes the value in the place of a key, if there is one, to what a function makes of it. Answers
+    /// whether there is one. Takes no memory of its own.
+    pub fn update<F: FnOnce(&V) -> V + Drop>(&mut self, key: &Key, f: F) -> bool
+        requires { F.IsAlwaysCallable f }
+        ensures there { result ≡ is_some (option_flatten (finmap.get self.old key.now)) }
+        ensures changed { IsTrue result → Replaces (FnOnceReturnsAt F.FnOnce f) self.old self.new key.now }
+        ensures same { result ≡ false → self.new ≡ self.old }
+    {
+        self.places.update(key, f)
     }
 
     /// Takes the place of a key out.

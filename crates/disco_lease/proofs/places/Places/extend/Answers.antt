@@ -1,13 +1,14 @@
-use Rattle.std.proofs.Common.{◌≡◌, Some, option_map, sym, ap, ◌∙◌}
-use Rattle.std.specs.FinMap.{get}
-use Rattle.std.specs.Option.{option_flatten}
-use Rattle.disco_lease.specs.Seen.{plain_lease, seen}
-use Rattle.disco_lease.proofs.Entries.{seen_moved}
+use Rattle.std.proofs.Common.{◌≡◌, rules, ap, ◌∙◌}
+use Rattle.disco_lease.specs.Leases.{extended}
+use Rattle.disco_lease.specs.Seen.{plain_lease}
+use Rattle.disco_lease.proofs.Entries.{seen_moved, some_seen}
 use Rattle.disco_lease.proofs.places.Places.extend.Goals as goal
 
-pub returns-in-Some-clause-moved : goal.returns-in-Some-clause-moved
-returns-in-Some-clause-moved c = λ _.
-    let m = c.self.inside.places in
-    let k = c.args.key.now in
-    let there : Some (plain_lease c.in-Some.lease) ≡ option_flatten (get (seen m) k) = rw (c.self.view_is) (ap (option_map plain_lease) (sym c.in-Some.is) ∙ c.lease.ensures) in
-    rw (← c.self.view_is) (seen_moved m c.put.new.self k c.args.now c.in-Some.lease c.extended.result there c.extended.ensures c.put.ensures.there)
+pub returns-clause-there : goal.returns-clause-there
+returns-clause-there c = rw (← c.self.view_is) (c.update.ensures.there ∙ some_seen c.self.inside.places c.args.key.now)
+
+pub returns-clause-moved : goal.returns-clause-moved
+returns-clause-moved c = λ t.
+    let made = c.update.ensures.changed t in
+    let is : plain_lease made.1 ≡ extended c.args.now (plain_lease made.3.0.now) = search rules in
+    rw (← c.self.view_is) (seen_moved c.self.inside.places c.update.new.self c.args.key.now c.args.now made.0 made.1 made.2 (is ∙ ap (λ l. extended c.args.now (plain_lease l)) made.3.2) made.4)
