@@ -175,14 +175,11 @@ impl<R: Source> Reader<R> {
         ensures room { IsTrue result → self.new.end < vec_len self.new.buffer }
         ensures full { IsFalse result → self.new.end - self.new.start ≡ self.new.limits.head }
     {
-        if self.end < self.buffer.len() {
-            return true;
+        // Where nothing is unread, what comes next is read into the memory that was used last.
+        if self.start == self.end || self.end == self.buffer.len() {
+            self.compact();
         }
-        if self.start == 0 {
-            return false;
-        }
-        self.compact();
-        true
+        self.end < self.buffer.len()
     }
 
     /// Reads once, and makes room for it. False at the end of the input.
