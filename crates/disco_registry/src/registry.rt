@@ -164,6 +164,16 @@ fn status_given(text: &Option<Text>) -> Option<Status>
     }
 }
 
+/// The record of what is held.
+fn record_of(held: Option<&Held>) -> Option<&Record>
+    ensures { seen_record result ≡ option_map (λ e. e.0) (option_map (λ h. entry_of h.now) held.entry) }
+{
+    match held {
+        Some(held) => Some(&*held.rec),
+        None => None,
+    }
+}
+
 impl Registry {
     /// An empty registry at version 0, with its limits.
     pub fn new(alloc: Global, versions: u64, instances: u64) -> Registry
@@ -201,10 +211,7 @@ impl Registry {
         ensures found { seen_record result ≡ option_map (λ e. e.0) (find (is_of_id id.now) (values self.now.held)) }
         ensures history { (h : List Entry) → StandsFor self.now h → seen_record result ≡ by_id (registry_of h) id.now }
     {
-        match self.records.of_id(id) {
-            Some(held) => Some(&*held.rec),
-            None => None,
-        }
+        record_of(self.records.of_id(id))
     }
 
     /// The same, by a search among the ids of each app.
@@ -212,10 +219,7 @@ impl Registry {
         ensures found { seen_record result ≡ option_map (λ e. e.0) (find (is_of_id id.now) (values self.now.held)) }
         ensures history { (h : List Entry) → StandsFor self.now h → seen_record result ≡ by_id (registry_of h) id.now }
     {
-        match self.records.with_id(id) {
-            Some(held) => Some(&*held.rec),
-            None => None,
-        }
+        record_of(self.records.with_id(id))
     }
 
     /// The records of an app in the order of their ids. It costs nothing for those of other apps,
