@@ -6,6 +6,8 @@ import subprocess
 import sys
 import time
 
+from holds import Holds
+
 PORT = 18781
 BASE = "/eureka/v2"
 APPS = 100
@@ -14,6 +16,10 @@ WRITES_A_SECOND = 1_000
 # A request more would meet the end of the connection.
 REQUESTS_A_CONNECTION = 999
 LONGEST = 8
+# The step of a publisher, which holds the desk's lock from its begin to its end.
+STEP = "publishing::publish_step::<"
+# A step that takes so many milliseconds copies a document of many instances.
+LONG_STEP = 1
 # A publisher begins a round each so many seconds behind the server's start, and is done a second later.
 ROUND_SECONDS = 30
 
@@ -139,22 +145,45 @@ def measure(seconds):
     return changes, looks
 
 
+def holds_of(program):
+    """The steps of the program's publisher from now on; none where the kernel lets nobody look at them."""
+    try:
+        return Holds(program, STEP)
+    except (OSError, subprocess.CalledProcessError) as error:
+        print("for how long the publisher holds the lock isn't told: %s" % error)
+        return None
+
+
+def show_holds(calls):
+    long = sorted(length for _, length in calls if length >= LONG_STEP)
+    if long:
+        print(
+            "%d holds of the lock by the publisher, %d of %d ms and more: median of these %.2f ms, longest %s ms"
+            % (len(calls), len(long), LONG_STEP, long[len(long) // 2], ", ".join("%.2f" % length for length in reversed(long[-LONGEST:])))
+        )
+
+
 def main():
     program = sys.argv[1]
     seconds = float(sys.argv[3]) if len(sys.argv) > 3 else 70
+    holds = holds_of(program)
     server = subprocess.Popen([program, "serve", "--port", str(PORT)], stdout=subprocess.PIPE)
+    calls = []
     try:
         if not server.stdout.readline().startswith(b"listening"):
             sys.exit("the server doesn't listen")
         changes, looks = measure(seconds)
     finally:
         server.kill()
+        if holds:
+            calls = holds.close()
     for waits in (changes, looks):
         waits.show()
     print(
         "near a round: longest change %.2f ms, longest look %.2f ms"
         % (changes.longest_in_rounds(), looks.longest_in_rounds())
     )
+    show_holds(calls)
 
 
 main()
