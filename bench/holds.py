@@ -6,6 +6,7 @@ import subprocess
 
 TRACING = "/sys/kernel/tracing"
 GROUP = "discovery"
+OWN = TRACING + "/instances/" + GROUP
 
 
 def symbol(program, name):
@@ -38,28 +39,39 @@ def append(path, line):
         os.close(handle)
 
 
+def forget():
+    """Takes the probes out, also those that a run which was ended early has left."""
+    if os.path.exists(OWN):
+        append(OWN + "/events/enable", "0\n")
+        os.rmdir(OWN)
+    for kind in ("enter", "leave"):
+        try:
+            append(TRACING + "/uprobe_events", "-:%s/%s\n" % (GROUP, kind))
+        except OSError:
+            # There is none.
+            pass
+
+
 class Holds:
     """The calls of a function from now on. Fails with `OSError` where the kernel lets nobody look."""
 
     def __init__(self, program, name):
-        self.own = TRACING + "/instances/" + GROUP
         place = "%s:%#x" % (os.path.realpath(program), in_file(program, symbol(program, name)))
         if not os.path.exists(TRACING + "/uprobe_events"):
             raise OSError("%s isn't there, or only for root" % TRACING)
+        forget()
         append(TRACING + "/uprobe_events", "p:%s/enter %s\n" % (GROUP, place))
         append(TRACING + "/uprobe_events", "r:%s/leave %s\n" % (GROUP, place))
-        os.makedirs(self.own, exist_ok=True)
-        append(self.own + "/trace_clock", "mono\n")
-        append(self.own + "/events/%s/enable" % GROUP, "1\n")
+        os.makedirs(OWN)
+        append(OWN + "/trace_clock", "mono\n")
+        append(OWN + "/events/%s/enable" % GROUP, "1\n")
 
     def close(self):
         """Each call as its begin, in seconds of the monotonic clock, and its milliseconds; and looks no more."""
-        append(self.own + "/events/%s/enable" % GROUP, "0\n")
-        with open(self.own + "/trace", encoding="ascii", errors="replace") as text:
+        append(OWN + "/events/%s/enable" % GROUP, "0\n")
+        with open(OWN + "/trace", encoding="ascii", errors="replace") as text:
             calls = list(paired(text))
-        os.rmdir(self.own)
-        for kind in ("enter", "leave"):
-            append(TRACING + "/uprobe_events", "-:%s/%s\n" % (GROUP, kind))
+        forget()
         return calls
 
 
@@ -76,4 +88,3 @@ def paired(lines):
         elif thread in begun:
             begin = begun.pop(thread)
             yield begin, (moment - begin) * 1000
-

@@ -159,7 +159,13 @@ def show_holds(calls):
     if long:
         print(
             "%d holds of the lock by the publisher, %d of %d ms and more: median of these %.2f ms, longest %s ms"
-            % (len(calls), len(long), LONG_STEP, long[len(long) // 2], ", ".join("%.2f" % length for length in reversed(long[-LONGEST:])))
+            % (
+                len(calls),
+                len(long),
+                LONG_STEP,
+                long[len(long) // 2],
+                ", ".join("%.2f" % length for length in reversed(long[-LONGEST:])),
+            )
         )
 
 
