@@ -1,2 +1,2 @@
-mod Answering
-mod Noting
+mod DeskAnswers
+mod HubAnswers

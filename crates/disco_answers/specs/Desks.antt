@@ -5,16 +5,16 @@ use Rattle.std.specs.declared.alloc.Global.{Global}
 use Rattle.std.specs.declared.sync.Arc.{Arc}
 use Rattle.disco_values.specs.declared.fault.Fault.{Fault}
 use Rattle.disco_history.specs.Change.{Entry}
-use Rattle.disco_query.specs.declared.key.DocKey.{DocKey}
+use Rattle.disco_values.specs.declared.doc_key.DocKey.{DocKey}
 use Rattle.disco_cache.specs.declared.payload.Payload.{Payload}
 use Rattle.disco_core.specs.Past.{Past, history}
-use Rattle.disco_rounds.specs.Press.{change}
+use Rattle.disco_hub.specs.Press.{change}
 use Rattle.disco_hub.specs.State.{HubStandsFor, rules_of, version_of}
 use Rattle.disco_press.specs.Desks.{CountsBySeat, DeskState, IsValid, Notes, notes_of}
-use Rattle.disco_editions.specs.Looks.{Shows}
-use Rattle.disco_editions.specs.Logs.{notes_in}
+use Rattle.disco_press.specs.Looks.{Shows}
+use Rattle.disco_press.specs.Logs.{notes_in}
 use Rattle.disco_press.specs.Seats.{SeatState}
-use Rattle.disco_editions.specs.declared.looking.Looked.TheVariants.{Doc}
+use Rattle.disco_press.specs.declared.look.Looked.TheVariants.{Doc}
 use Rattle.disco_message.specs.ReplyText.{ReplyView}
 use Rattle.disco_calls.specs.Calls.{CallView, loads}
 use Rattle.disco_answers.specs.Replies.{IsReply, with_document}

@@ -5,7 +5,7 @@ use Rattle.disco_values.specs.declared.fault.Fault.{Fault}
 use Rattle.disco_history.specs.Change.{Entry}
 use Rattle.disco_registry.specs.Accept.{accept_after}
 use Rattle.disco_registry.specs.Op.{OpView, register}
-use Rattle.disco_query.specs.declared.key.DocKey.{DocKey}
+use Rattle.disco_values.specs.declared.doc_key.DocKey.{DocKey}
 use Rattle.disco_cache.specs.Payloads.{cert_of}
 use Rattle.disco_cache.specs.declared.payload.Payload.{Payload}
 use Rattle.disco_core.specs.Past.{Past, history, with_done}

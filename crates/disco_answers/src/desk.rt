@@ -12,14 +12,11 @@ ghost use Rattle.disco_answers.specs.Replies.{IsAnswered, shared_text};
 
 use crate::replies::{lacking, refused, showing, success_of, wrote};
 use crate::shared::Shared;
-use disco_calls::{Call, call_of};
-use disco_editions::Naming;
+use disco_calls::{Call, Routes, call_of};
 use disco_message::{Reply, Request};
-use disco_press::{Desk, Seat};
-use disco_query::DocKey;
+use disco_press::{Desk, Naming, Seat};
 use disco_registry::Op;
-use disco_routes::Routes;
-use disco_values::{Fault, Form, Key, Text};
+use disco_values::{DocKey, Fault, Form, Key, Text};
 use std::alloc::Global;
 
 /// Serves the document of a key.

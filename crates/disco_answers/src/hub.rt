@@ -8,13 +8,11 @@ ghost use Rattle.disco_answers.specs.Replies.{IsAnswered, shared_text};
 
 use crate::replies::{lacking, refused, showing, success_of, wrote};
 use crate::shared::Shared;
-use disco_calls::{Call, call_of};
+use disco_calls::{Call, Routes, call_of};
 use disco_hub::Hub;
 use disco_message::{Reply, Request};
-use disco_query::DocKey;
 use disco_registry::Op;
-use disco_routes::Routes;
-use disco_values::{Form, Key, Text};
+use disco_values::{DocKey, Form, Key, Text};
 use std::alloc::Global;
 
 /// Serves the document of a key.

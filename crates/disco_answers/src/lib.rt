@@ -8,7 +8,7 @@ mod hub;
 mod locked;
 mod replies;
 mod shared;
-mod waiting;
+mod spin;
 
 pub use desk::answer_on;
 pub use hub::answer_hub;

@@ -14,14 +14,14 @@ use Rattle.disco_values.specs.declared.form.Form.{Form}
 use Rattle.disco_values.specs.declared.form.Form.TheVariants.{Full, Compact}
 use Rattle.disco_history.specs.Query.{asks_for, is_named, vips}
 use Rattle.disco_history.proofs.Keys.{same_key-parts, same_key-sym}
-use Rattle.disco_documents.specs.Documents.{asked_by}
-use Rattle.disco_query.specs.declared.query.Query.{Query}
-use Rattle.disco_query.specs.declared.query.Query.TheVariants as query
+use Rattle.disco_wire.specs.Documents.{asked_by}
+use Rattle.disco_values.specs.declared.query.Query.{Query}
+use Rattle.disco_values.specs.declared.query.Query.TheVariants as query
 use Rattle.disco_cache.specs.Docs.{Docs, Drops}
-use Rattle.disco_query.specs.Keys.{doc_cmp, kind_of, names_in, place_of, same_doc}
+use Rattle.disco_values.specs.Keys.{doc_cmp, kind_of, names_in, place_of, same_doc}
 use Rattle.disco_cache.specs.Kept.{AreAskedAlike, doc_of, is_of, is_of_any, query_cmp, vip_query}
-use Rattle.disco_query.specs.declared.key.DocKey.{DocKey}
-use Rattle.disco_query.proofs.Orders.{docs_total, then_then}
+use Rattle.disco_values.specs.declared.doc_key.DocKey.{DocKey}
+use Rattle.disco_values.proofs.Orders.{docs_total, then_then}
 
 -- ---- one drop after another
 

@@ -9,7 +9,7 @@ use Rattle.disco_history.proofs.SortedBy.{get_at, get_gap, inserted_gap, len_of}
 use Rattle.disco_cache.specs.Docs.{Docs}
 use Rattle.disco_cache.specs.Kept.{AreDocsSorted, IsDocAt, IsDocGap, Stored, doc_key, docs_map, payload_in}
 use Rattle.disco_cache.specs.declared.payload.Payload.{Payload}
-use Rattle.disco_query.proofs.Orders.{docs_total, exact_docs}
+use Rattle.disco_values.proofs.Orders.{docs_total, exact_docs}
 
 module _ (xs ys : Stored) (i : ℕ) (d : Arc Payload Global) (sorted : AreDocsSorted xs) (gap : IsDocGap xs d.value.key i) where
   pub stays_sorted : (r : Result Bool Fault) → IfOk r (λ kept. ys ≡ cond kept (list.insert xs i d) xs) → OnErr r (ys ≡ xs) → AreDocsSorted ys

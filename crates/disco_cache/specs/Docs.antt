@@ -1,8 +1,8 @@
 -- Kept documents as plain data.
 use Rattle.std.specs.Prelude.{◌≡◌, ℕ, Bool, if◌then◌else◌, None}
 use Rattle.std.specs.FinMap.{FinMap, get}
-use Rattle.disco_query.specs.Keys.{doc_cmp}
-use Rattle.disco_query.specs.declared.key.DocKey.{DocKey}
+use Rattle.disco_values.specs.Keys.{doc_cmp}
+use Rattle.disco_values.specs.declared.doc_key.DocKey.{DocKey}
 use Rattle.disco_cache.specs.declared.payload.Payload.{Payload}
 
 -- the document of each key that has one, and how many there may be

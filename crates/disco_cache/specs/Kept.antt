@@ -10,10 +10,10 @@ use Rattle.std.specs.Cmp.Lexicographic.{slice_cmp}
 use Rattle.std.specs.Ordering.{nat_cmp, ordering_then, is_eq}
 use Rattle.disco_history.specs.SortedBy.{AreSortedBy, IsAtBy, IsGapBy, map_by}
 use Rattle.disco_values.specs.declared.form.Form.{Form}
-use Rattle.disco_query.specs.declared.query.Query.{Query}
-use Rattle.disco_query.specs.declared.query.Query.TheVariants as query
-use Rattle.disco_query.specs.Keys.{doc_cmp, kind_of, names_in}
-use Rattle.disco_query.specs.declared.key.DocKey.{DocKey}
+use Rattle.disco_values.specs.declared.query.Query.{Query}
+use Rattle.disco_values.specs.declared.query.Query.TheVariants as query
+use Rattle.disco_values.specs.Keys.{doc_cmp, kind_of, names_in}
+use Rattle.disco_values.specs.declared.doc_key.DocKey.{DocKey}
 use Rattle.disco_cache.specs.declared.query_ref.QueryRef.{QueryRef}
 use Rattle.disco_cache.specs.declared.query_ref.QueryRef.TheVariants as query_ref
 use Rattle.disco_cache.specs.declared.payload.Payload.{Payload}

@@ -2,7 +2,7 @@
 use Rattle.std.specs.Prelude.{◌≡◌, ℕ, List}
 use Rattle.disco_values.specs.declared.cert.Cert.{Cert}
 use Rattle.disco_history.specs.Change.{Entry}
-use Rattle.disco_documents.specs.Documents.{IsTrueFor}
+use Rattle.disco_wire.specs.Documents.{IsTrueFor}
 use Rattle.disco_cache.specs.declared.payload.Payload.{Payload}
 
 -- the document is true after a history of a run: it is of that run, and true of what it was asked for, in its form

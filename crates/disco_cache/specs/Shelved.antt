@@ -2,9 +2,9 @@
 use Rattle.std.specs.Prelude.{ℕ, List}
 use Rattle.std.specs.FinMap.{FinMap}
 use Rattle.disco_history.specs.SortedBy.{AreSortedBy, IsAtBy, IsGapBy, map_by}
-use Rattle.disco_query.specs.Keys.{doc_cmp}
+use Rattle.disco_values.specs.Keys.{doc_cmp}
 use Rattle.disco_cache.specs.declared.entry.Entry.{Entry}
-use Rattle.disco_query.specs.declared.key.DocKey.{DocKey}
+use Rattle.disco_values.specs.declared.doc_key.DocKey.{DocKey}
 use Rattle.disco_cache.specs.declared.payload.Payload.{Payload}
 
 abbrev pub entry_key : Entry → DocKey

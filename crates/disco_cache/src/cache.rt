@@ -6,7 +6,7 @@ ghost use Rattle.std.specs.FinMap as finmap;
 ghost use Rattle.disco_instance.specs.Row.{row};
 ghost use Rattle.disco_values.specs.declared.fault.Fault.TheVariants.{OutOfMemory};
 ghost use Rattle.disco_history.specs.Query.{asks_for, is_named, vips};
-ghost use Rattle.disco_documents.specs.Documents.{asked_by};
+ghost use Rattle.disco_wire.specs.Documents.{asked_by};
 ghost use Rattle.disco_cache.specs.Docs.{Drops};
 ghost use Rattle.disco_cache.specs.Kept.{AreAskedAlike, AreDocsSorted, IsDocAt, IsDocGap, doc_of, is_of, is_of_any, doc_key, docs_map, query_of};
 
@@ -14,8 +14,7 @@ use crate::payload::Payload;
 use crate::query_ref::{QueryRef, compare};
 use disco_index::next_vip;
 use disco_instance::Record;
-use disco_query::DocKey;
-use disco_values::{Fault, Form};
+use disco_values::{DocKey, Fault, Form};
 use std::alloc::Global;
 use std::marker::Model;
 use std::sync::Arc;

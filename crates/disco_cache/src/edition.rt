@@ -6,8 +6,7 @@ ghost use Rattle.disco_cache.specs.Shelved.{AreShelved, IsEntryAt, IsEntryGap};
 
 use crate::entry::Entry;
 use crate::payload::Payload;
-use disco_query::DocKey;
-use disco_values::Fault;
+use disco_values::{DocKey, Fault};
 use std::alloc::Global;
 use std::marker::Model;
 use std::sync::Arc;
@@ -21,7 +20,7 @@ pub struct Edition {
 impl Model for Edition {
     ghost use Rattle.std.specs.Coded.{codes};
     ghost use Rattle.std.specs.FinMap.{FinMap, code};
-    ghost use Rattle.disco_query.specs.Keys.{doc_cmp};
+    ghost use Rattle.disco_values.specs.Keys.{doc_cmp};
     ghost use Rattle.disco_cache.specs.Shelved.{AreShelved, entries_map};
     ghost use Rattle.disco_cache.specs.declared.payload.Payload.{Payload};
 

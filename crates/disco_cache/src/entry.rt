@@ -3,8 +3,7 @@ ghost use Rattle.std.specs.Prelude.{◌≡◌, IfErr, IfOk};
 ghost use Rattle.disco_values.specs.declared.fault.Fault.TheVariants.{OutOfMemory};
 
 use crate::payload::Payload;
-use disco_query::DocKey;
-use disco_values::Fault;
+use disco_values::{DocKey, Fault};
 use std::alloc::Global;
 use std::sync::Arc;
 

@@ -8,6 +8,6 @@ mod payload;
 mod query_ref;
 
 pub use cache::DocCache;
-pub use disco_query::DocKey;
+pub use disco_values::DocKey;
 pub use edition::Edition;
 pub use payload::Payload;

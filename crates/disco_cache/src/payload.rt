@@ -1,8 +1,7 @@
 //! A document as it is served.
 ghost use Rattle.std.specs.Prelude.{◌≡◌};
 
-use disco_query::DocKey;
-use disco_values::{Bytes, Cert};
+use disco_values::{Bytes, Cert, DocKey};
 
 /// A document as it is served.
 #[derive(Debug, Drop)]

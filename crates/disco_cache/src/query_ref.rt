@@ -1,10 +1,9 @@
 //! What a change names.
 ghost use Rattle.std.specs.Prelude.{◌≡◌};
 ghost use Rattle.disco_cache.specs.Kept.{doc_of, query_cmp, query_of, vip_query};
-ghost use Rattle.disco_query.specs.Keys.{doc_cmp, kind_of, place_of};
+ghost use Rattle.disco_values.specs.Keys.{doc_cmp, kind_of, place_of};
 
-use disco_query::{DocKey, Query};
-use disco_values::{Form, Key};
+use disco_values::{DocKey, Form, Key, Query};
 use std::cmp::Ordering;
 
 /// What a change names: a query whose names are borrowed from a record.

@@ -1,2 +1,7 @@
-mod Finding
+mod FilledNames
+mod FoundCalls
 mod Listed
+mod Named
+mod RouterTable
+mod RowWalks
+mod Rows

@@ -2,7 +2,7 @@
 use Rattle.std.specs.Prelude.{ℕ, List, Result, Ok, Err, if◌then◌else◌}
 use Rattle.std.specs.Option.{ok_or}
 use Rattle.std.specs.Str.{is_utf8}
-use Rattle.disco_query.specs.declared.key.DocKey.{DocKey}
+use Rattle.disco_values.specs.declared.doc_key.DocKey.{DocKey}
 use Rattle.disco_values.specs.Text.{in_upper_case}
 use Rattle.disco_values.specs.declared.fault.Fault.{Fault}
 use Rattle.disco_values.specs.declared.fault.Fault.TheVariants.{BadMethod, BadRequest, BadStatus, NotAcceptable, NotFound}
@@ -12,12 +12,12 @@ use Rattle.disco_instance.specs.Instance.{if_ok}
 use Rattle.disco_message.specs.RequestView.{RequestView}
 use Rattle.disco_message.specs.declared.status_line.Allow.{Allow}
 use Rattle.disco_registry.specs.Op.{OpView, op_view, cancel, renew, set_status, drop_status, add_metadata}
-use Rattle.disco_routes.specs.Paths.{path_place}
-use Rattle.disco_routes.specs.declared.place.Place.{Place}
-use Rattle.disco_routes.specs.declared.place.Place.TheVariants as place
+use Rattle.disco_calls.specs.Paths.{path_place}
+use Rattle.disco_calls.specs.declared.place.Place.{Place}
+use Rattle.disco_calls.specs.declared.place.Place.TheVariants as place
 use Rattle.disco_wire.specs.Registration.{registration_of}
-use Rattle.disco_query.specs.declared.query.Query.{Query}
-use Rattle.disco_query.specs.declared.query.Query.TheVariants as query
+use Rattle.disco_values.specs.declared.query.Query.{Query}
+use Rattle.disco_values.specs.declared.query.Query.TheVariants as query
 use Rattle.disco_calls.specs.Accept.{form_of, takes_json}
 use Rattle.disco_calls.specs.Decoding.{decoded}
 use Rattle.disco_calls.specs.Methods.{allow_of, lists_method, method_of}

@@ -1,8 +1,8 @@
 -- Places with their names decoded.
 use Rattle.std.specs.Prelude.{ℕ, List, Option, Some, option_and_then, option_map}
 use Rattle.disco_operations.specs.Decoding.{decoded_text}
-use Rattle.disco_routes.specs.declared.place.Place.{Place}
-use Rattle.disco_routes.specs.declared.place.Place.TheVariants.{Apps, Delta, App, Instance, Status, Metadata, Id, Vip, Svip}
+use Rattle.disco_calls.specs.declared.place.Place.{Place}
+use Rattle.disco_calls.specs.declared.place.Place.TheVariants.{Apps, Delta, App, Instance, Status, Metadata, Id, Vip, Svip}
 
 abbrev pub two_texts : List ℕ → List ℕ → Option (List ℕ × List ℕ)
 two_texts one other = option_and_then (λ a. option_map (λ b. (a, b)) (decoded_text other)) (decoded_text one)

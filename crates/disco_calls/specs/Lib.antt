@@ -1,6 +1,10 @@
-pub mod Methods
-pub mod Decoding
-pub mod Query
 pub mod Accept
 pub mod Calls
+pub mod Decoding
 pub mod Laws
+pub mod Methods
+pub mod Paths
+pub mod Places
+pub mod Query
+pub mod Table
+pub mod Worked

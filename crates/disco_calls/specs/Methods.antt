@@ -3,8 +3,8 @@ use Rattle.std.specs.Prelude.{ℕ, Bool, true, false, List, codes, if◌then◌e
 use Rattle.std.specs.Str.{bytes_eq}
 use Rattle.disco_message.specs.declared.status_line.Allow.{Allow}
 use Rattle.disco_message.specs.declared.status_line.Allow.TheVariants as allow
-use Rattle.disco_routes.specs.declared.place.Place.{Place}
-use Rattle.disco_routes.specs.declared.place.Place.TheVariants.{App, Instance, Status, Metadata}
+use Rattle.disco_calls.specs.declared.place.Place.{Place}
+use Rattle.disco_calls.specs.declared.place.Place.TheVariants.{App, Instance, Status, Metadata}
 use Rattle.disco_calls.specs.declared.method.Method.{Method}
 use Rattle.disco_calls.specs.declared.method.Method.TheVariants.{Get, Post, Put, Delete, Other}
 

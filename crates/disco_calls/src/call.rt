@@ -1,9 +1,8 @@
 //! What a request asks for.
 
 use disco_message::Allow;
-use disco_query::DocKey;
 use disco_registry::Op;
-use disco_values::{Form, Key, Text};
+use disco_values::{DocKey, Form, Key, Text};
 
 /// What a request asks for.
 #[derive(Debug, Drop)]

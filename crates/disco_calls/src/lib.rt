@@ -3,12 +3,18 @@
 #![tactic(auto)]
 
 mod accept;
-mod asking;
 mod call;
-mod decoding;
+mod dispatch;
 pub mod laws;
 mod method;
+mod names;
+mod parts;
+mod place;
 mod query;
+mod route;
+mod routes;
 
-pub use asking::{call_of, call_of_with};
 pub use call::Call;
+pub use dispatch::{call_of, call_of_with};
+pub use place::Place;
+pub use routes::Routes;

@@ -3,8 +3,8 @@ ghost use Rattle.std.specs.Prelude.{◌≡◌};
 ghost use Rattle.std.specs.Str.{bytes_eq};
 ghost use Rattle.disco_calls.specs.Methods.{allow_of, lists_method, method_of};
 
+use crate::place::Place;
 use disco_message::Allow;
-use disco_routes::Place;
 
 /// A method that some path has, or another one.
 #[derive(Clone, Copy, Debug, PartialEq, Eq)]

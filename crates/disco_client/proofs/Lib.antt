@@ -1,5 +1,5 @@
+pub mod KnownVersions
 mod Letters
-pub mod Moves
-mod Numbers
-mod Overlaying
+mod Overlays
 mod Shown
+mod StatusCounts

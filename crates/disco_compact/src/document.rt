@@ -8,15 +8,14 @@ ghost use Rattle.disco_index.specs.Vips.{IsIndexOf};
 ghost use Rattle.disco_queue.specs.Queue.{KeepsHistory};
 ghost use Rattle.disco_queue.specs.Timed.{Timed, changes};
 ghost use Rattle.disco_registry.specs.State.{StandsFor};
-ghost use Rattle.disco_documents.specs.Documents.{IsWritten};
-ghost use Rattle.disco_query.specs.Query.{is_delta};
+ghost use Rattle.disco_wire.specs.Documents.{IsWritten};
+ghost use Rattle.disco_values.specs.Query.{is_delta};
 ghost use Rattle.disco_writer.specs.Kept.{AreKept};
 
 use disco_index::{Counts, VipIndex};
-use disco_query::Query;
 use disco_queue::ChangedQueue;
 use disco_registry::Registry;
-use disco_values::{Fault, Form};
+use disco_values::{Fault, Form, Query};
 use disco_writer::{Texts, write_document};
 use std::alloc::Global;
 

@@ -1,10 +1,10 @@
-mod Expiring
 mod Asks
-mod Following
-mod Ids
+mod Expiries
+mod KeptTexts
+mod KeptVips
 mod Loads
 mod Marks
 mod Renewals
 pub mod Runs
-mod Staying
+mod SameAnswer
 mod Ties

@@ -2,10 +2,10 @@
 use Rattle.std.proofs.Common.{◌≡◌, ◌≤◌, ℕ, true, false, List, length, Some, Ok, refl, sym, ap, subst, ◌∙◌, arith}
 use Rattle.std.proofs.Math.Seq.{take-length}
 use Rattle.disco_history.specs.Change.{Entry, prefix}
-use Rattle.disco_documents.specs.Documents.{IsWritten, meaning_for, text_for}
-use Rattle.disco_query.specs.Query.{is_delta}
+use Rattle.disco_wire.specs.Documents.{IsWritten, meaning_for, text_for}
+use Rattle.disco_values.specs.Query.{is_delta}
 use Rattle.disco_cache.specs.Payloads.{IsTrue}
-use Rattle.disco_query.specs.declared.key.DocKey.{DocKey}
+use Rattle.disco_values.specs.declared.doc_key.DocKey.{DocKey}
 use Rattle.disco_cache.specs.declared.payload.Payload.{Payload}
 
 abbrev pub made : DocKey → ℕ → ℕ → ℕ → List ℕ → Payload

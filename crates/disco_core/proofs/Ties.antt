@@ -30,7 +30,7 @@ use Rattle.disco_core.specs.Moves.{Moves, lease_by}
 use Rattle.disco_core.specs.State.{AddsAny, HasVipPlaces}
 use Rattle.disco_core.specs.Tied.{AreLeased, IsTied}
 use Rattle.disco_core.specs.Written.{AreWritten, IsSameWritten, KeptTexts, none_written}
-use Rattle.disco_core.proofs.Following.{none_are, same_are}
+use Rattle.disco_core.proofs.KeptTexts.{none_are, same_are}
 
 abbrev lasts : Option Lease → Option ℕ
 lasts o = option_map (λ l. l.duration_secs) o

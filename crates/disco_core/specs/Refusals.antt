@@ -10,11 +10,11 @@ use Rattle.disco_values.specs.declared.key.Key.{Key}
 use Rattle.disco_history.specs.Change.{Entry}
 use Rattle.disco_history.specs.Query.{by_id, is_absent}
 use Rattle.disco_history.specs.Registry.{registry_of}
-use Rattle.disco_query.specs.declared.key.DocKey.{DocKey}
-use Rattle.disco_documents.specs.Documents.{asked_by}
-use Rattle.disco_query.specs.Query.{is_delta}
-use Rattle.disco_query.specs.declared.query.Query.{Query}
-use Rattle.disco_query.specs.declared.query.Query.TheVariants.{Instance}
+use Rattle.disco_values.specs.declared.doc_key.DocKey.{DocKey}
+use Rattle.disco_wire.specs.Documents.{asked_by}
+use Rattle.disco_values.specs.Query.{is_delta}
+use Rattle.disco_values.specs.declared.query.Query.{Query}
+use Rattle.disco_values.specs.declared.query.Query.TheVariants.{Instance}
 
 -- why a document isn't served after a history, if it isn't, where deltas are on or off
 abbrev pub refusal_of : Bool → Query → List Entry → Option Fault

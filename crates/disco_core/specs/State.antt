@@ -17,7 +17,7 @@ use Rattle.disco_registry.specs.Accept.{Limits, accepts, limits_of}
 use Rattle.disco_registry.specs.Op.{OpView, op_key, renew}
 use Rattle.disco_core.specs.Past.{Past, history}
 use Rattle.disco_core.specs.Written.{HasTextsFor, IsSameWritten, OpensNoText, KeptTexts}
-use Rattle.disco_settings.specs.declared.settings.Settings.{Settings}
+use Rattle.disco_values.specs.declared.settings.Settings.{Settings}
 
 -- the number of the run, the registry, beside it the vips, the leases and the texts with their places, the recent changes, how long these are kept,
 -- and whether deltas are served

@@ -4,9 +4,9 @@
 mod counts;
 mod leases;
 mod recent;
-mod registered;
+mod state;
 mod texts;
 mod vips;
 
 pub use disco_writer::Room;
-pub use registered::{Core, Ready};
+pub use state::{Core, Ready};

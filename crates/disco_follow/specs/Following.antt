@@ -6,7 +6,7 @@ use Rattle.disco_options.specs.Options.{AreMatches, flag_given, number_given, po
 use Rattle.disco_options.specs.declared.subcommand.Subcommand.TheVariants.{Follow}
 use Rattle.disco_reconcile.specs.State.{ClientState}
 use Rattle.disco_reconcile.specs.declared.kept.Kept.TheVariants.{Certified}
-use Rattle.disco_telling.specs.Following.{Follows, turns_of}
+use Rattle.disco_follow.specs.Follows.{Follows, turns_of}
 use Rattle.disco_values.specs.declared.form.Form.{Form}
 use Rattle.disco_values.specs.declared.form.Form.TheVariants.{Full, Compact}
 

@@ -2,10 +2,18 @@
 //! registry. [`connect`] and [`fetcher`] make the connections of clients.
 #![tactic(auto)]
 
-mod connecting;
-mod following;
+mod changes;
+mod connection;
+mod equality;
+mod follow_command;
 mod line;
+mod lines;
 mod plan;
+mod refreshes;
+mod tell;
+mod told;
 
-pub use connecting::{Connected, connect, fetcher};
-pub use following::follow;
+pub use connection::{Connected, connect, fetcher};
+pub use equality::are_same;
+pub use follow_command::follow;
+pub use refreshes::follow_client;

@@ -1,13 +1,12 @@
 //! A client's line to a server.
 ghost use Rattle.std.specs.Prelude.{◌≡◌, ◌≢◌, ◌≤◌, ◌⊎◌};
 ghost use Rattle.disco_values.specs.declared.fault.Fault.TheVariants.{OutOfMemory};
-ghost use Rattle.disco_query.specs.declared.query.Query.TheVariants.{Apps, Delta};
-ghost use Rattle.disco_reader.specs.Causes.{Raises};
+ghost use Rattle.disco_values.specs.declared.query.Query.TheVariants.{Apps, Delta};
+ghost use Rattle.disco_http.specs.Causes.{Raises};
 
-use crate::connecting::{Connected, connect, fetcher};
-use disco_query::DocKey;
+use crate::connection::{Connected, connect, fetcher};
 use disco_reconcile::{Fetch, Fetched};
-use disco_values::Fault;
+use disco_values::{DocKey, Fault};
 use std::alloc::Global;
 use std::marker::Model;
 use std::net::{Net, SocketAddr, TcpStream};

@@ -7,7 +7,7 @@ use Rattle.std.proofs.lemmas.Int.Digits.{all_below_base_digits_of, same_from_dig
 use Rattle.disco_values.specs.declared.status.Status.{Status}
 use Rattle.disco_values.specs.declared.status.Status.TheVariants.{Up, Down, Starting, OutOfService, Unknown}
 use Rattle.disco_history.specs.Hash.{then_piece, hash_by, count_of}
-use Rattle.disco_digits.specs.Digits.{digits}
+use Rattle.disco_values.specs.Digits.{digits}
 use Rattle.disco_history.specs.Laws.{HashLaw}
 
 same_head : (x y : ℕ) (xs ys : List ℕ) → x ∷ xs ≡ y ∷ ys → x ≡ y

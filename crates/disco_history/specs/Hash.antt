@@ -1,6 +1,6 @@
 -- The hash code: how many records have each status (Eureka's apps__hashcode).
 use Rattle.std.specs.Prelude.{ℕ, ◌==◌, List, [], ◌∷◌, ◌++◌, count_by, if◌then◌else◌}
-use Rattle.disco_digits.specs.Digits.{digits}
+use Rattle.disco_values.specs.Digits.{digits}
 use Rattle.disco_instance.specs.Row.{Row}
 use Rattle.disco_values.specs.Status.{is_same, status_name}
 use Rattle.disco_values.specs.declared.status.Status.{Status}

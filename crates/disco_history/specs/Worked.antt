@@ -10,7 +10,7 @@ use Rattle.disco_values.specs.declared.status.Status.TheVariants.{Up, Down, Unkn
 use Rattle.disco_history.specs.Change.{Entry, prefix}
 use Rattle.disco_history.specs.Forms.{default_lease, formed}
 use Rattle.disco_history.specs.Hash.{hash}
-use Rattle.disco_digits.specs.Digits.{digits}
+use Rattle.disco_values.specs.Digits.{digits}
 use Rattle.disco_history.specs.Mentions.{delta, mention_of, overlay}
 use Rattle.disco_history.specs.Query.{of_app, of_vip, restrict, vips}
 use Rattle.disco_history.specs.Registry.{registry_of, mentions_of}

@@ -1,4 +1,14 @@
-pub mod Answering
+pub mod AnsweredRequests
 pub mod Appended
-pub mod Breaking
-pub mod Stopping
+pub mod BrokenWrites
+pub mod Chunking
+pub mod Coming
+pub mod EmptyLines
+pub mod Heads
+pub mod Known
+pub mod Messages
+pub mod Refusals
+pub mod Slices
+pub mod StoppedBetween
+pub mod Taken
+pub mod Written

@@ -1,3 +1,12 @@
+pub mod Bodies
+pub mod Causes
+pub mod Chunks
 pub mod Exchanges
+pub mod Found
+pub mod Parts
+pub mod Replies
+pub mod Requests
 pub mod Served
 pub mod Sinks
+pub mod Streams
+pub mod Writes

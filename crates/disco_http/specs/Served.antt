@@ -8,12 +8,12 @@ use Rattle.disco_message.specs.declared.limits.Limits.{Limits}
 use Rattle.disco_message.specs.RequestView as message
 use Rattle.disco_message.specs.ReplyText.{ReplyView, reply_text}
 use Rattle.disco_message.specs.StatusLine.{refusal}
-use Rattle.disco_reader.specs.Requests.{HasNone, TakesRequest, Refused}
-use Rattle.disco_reader.specs.Streams.{Came, ahead, source_of}
-use Rattle.disco_reader.specs.declared.reader.Reader.{Reader}
-use Rattle.disco_http.specs.declared.serving.End.{End}
-use Rattle.disco_http.specs.declared.serving.End.TheVariants.{Closed, Asked, Limit, Fault}
-use Rattle.disco_http.specs.declared.serving.Served.{Served}
+use Rattle.disco_http.specs.Requests.{HasNone, TakesRequest, Refused}
+use Rattle.disco_http.specs.Streams.{Came, ahead, source_of}
+use Rattle.disco_http.specs.declared.reader.Reader.{Reader}
+use Rattle.disco_http.specs.declared.session.End.{End}
+use Rattle.disco_http.specs.declared.session.End.TheVariants.{Closed, Asked, Limit, Fault}
+use Rattle.disco_http.specs.declared.session.Served.{Served}
 use Rattle.disco_http.specs.Sinks.{AppendsProperFront}
 
 -- how a connection ends behind a request, if it does

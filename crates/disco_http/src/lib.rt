@@ -2,14 +2,28 @@
 //! written. The reading is that of `disco_reader`.
 #![tactic(auto)]
 
+mod chunks;
+mod fill;
+mod parsing;
+mod reader;
+mod reading;
+mod replies;
 mod replying;
 mod service;
-mod serving;
+mod session;
+mod source;
+mod taking;
+mod whole;
 mod writer;
+mod writing;
 
 pub use disco_message::Limits;
-pub use disco_reader::{Counted, Reader, Sink, Source};
+pub use reader::Reader;
+pub use replies::ReceivedReply;
 pub use replying::write_reply;
 pub use service::Service;
-pub use serving::{End, Served, serve};
+pub use session::{End, Served, serve};
+pub use source::{Counted, Failed, Sink, Source, Stage};
+pub use whole::read_all;
 pub use writer::Writer;
+pub use writing::write_all;

@@ -3,12 +3,12 @@ ghost use Rattle.std.specs.Prelude.{◌≡◌, is_err, IfErr, IsFalse, OnOk, OnE
 ghost use Rattle.std.specs.Io.KnownBytes.{Appends};
 ghost use Rattle.disco_values.specs.declared.fault.Fault.TheVariants.{WriteFailed};
 ghost use Rattle.disco_message.specs.ReplyText.{reply_view, reply_text, reply_body};
-ghost use Rattle.disco_reader.specs.Causes.{Raises};
+ghost use Rattle.disco_http.specs.Causes.{Raises};
 ghost use Rattle.disco_http.specs.Sinks.{AppendsProperFront, is_writer_spent, sink_of};
 
+use crate::source::{Failed, Sink};
 use crate::writer::{SMALL_BODY, Writer};
 use disco_message::{Document, Reply, StatusLine};
-use disco_reader::{Failed, Sink};
 use disco_values::Fault;
 
 /// Writes all of these bytes.

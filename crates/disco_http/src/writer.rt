@@ -4,8 +4,8 @@ ghost use Rattle.std.specs.Vec.{vec_capacity};
 ghost use Rattle.disco_values.specs.declared.fault.Fault.TheVariants.{WriteFailed};
 
 use crate::replying::write_all;
+use crate::source::{Failed, Sink};
 use disco_message::{Allow, HEAD_ROOM, StatusLine, push_bytes, push_head};
-use disco_reader::{Failed, Sink};
 use disco_values::{Cert, Fault};
 use std::alloc::{AllocError, Global};
 
@@ -24,7 +24,7 @@ pub struct Writer<W> {
 
 impl<W: Drop> Writer<W> {
     ghost use Rattle.std.specs.Prelude.{◌≡◌, IfOk, IsFalse};
-    ghost use Rattle.disco_http.specs.Sinks.{is_writer_spent, sink_of};
+    ghost use Rattle.disco_http.specs.Sinks.{is_writer_spent, sink_of, AppendsProperFront};
 
     /// Room in front of a sink, with nothing written.
     ///
@@ -65,8 +65,7 @@ impl<W: Sink> Writer<W> {
     ghost use Rattle.std.specs.Prelude.{◌≡◌, ◌++◌, length, is_err, IfErr, IsFalse, IsTrue, OnOk, OnErr};
     ghost use Rattle.std.specs.Io.KnownBytes.{Appends};
     ghost use Rattle.disco_message.specs.ReplyText.{reply_head};
-    ghost use Rattle.disco_reader.specs.Causes.{Raises};
-    ghost use Rattle.disco_http.specs.Sinks.{AppendsProperFront, is_writer_spent, sink_of};
+    ghost use Rattle.disco_http.specs.Causes.{Raises};
 
     /// Whether a write failed, or the connection has ended. Then nothing more is written.
     pub fn is_spent(&self) -> bool

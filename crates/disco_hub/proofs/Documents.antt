@@ -24,18 +24,18 @@ use Rattle.disco_history.proofs.Untouched.{untouched_law}
 use Rattle.disco_queue.specs.Timed.{Timed}
 use Rattle.disco_registry.specs.Op.{OpView}
 use Rattle.disco_registry.specs.State as registry
-use Rattle.disco_documents.specs.Documents.{IsTrueFor, MeansFor, asked_by, hash_of, if_many, kind, meaning_for, mentioned, told}
-use Rattle.disco_query.specs.Query.{is_delta}
-use Rattle.disco_documents.specs.Rows.{mentions_in}
-use Rattle.disco_query.specs.declared.query.Query.{Query}
-use Rattle.disco_query.specs.declared.query.Query.TheVariants as query
-use Rattle.disco_documents.proofs.Texts.{same_text}
+use Rattle.disco_wire.specs.Documents.{IsTrueFor, MeansFor, asked_by, hash_of, if_many, kind, meaning_for, mentioned, told}
+use Rattle.disco_values.specs.Query.{is_delta}
+use Rattle.disco_wire.specs.Rows.{mentions_in}
+use Rattle.disco_values.specs.declared.query.Query.{Query}
+use Rattle.disco_values.specs.declared.query.Query.TheVariants as query
+use Rattle.disco_wire.proofs.Texts.{same_text}
 use Rattle.disco_cache.specs.Docs.{Docs}
-use Rattle.disco_query.specs.Keys.{doc_cmp, same_doc}
+use Rattle.disco_values.specs.Keys.{doc_cmp, same_doc}
 use Rattle.disco_cache.specs.Payloads.{IsTrue}
-use Rattle.disco_query.specs.declared.key.DocKey.{DocKey}
+use Rattle.disco_values.specs.declared.doc_key.DocKey.{DocKey}
 use Rattle.disco_cache.specs.declared.payload.Payload.{Payload}
-use Rattle.disco_query.proofs.Orders.{docs_total, exact_docs}
+use Rattle.disco_values.proofs.Orders.{docs_total, exact_docs}
 use Rattle.disco_core.specs.Past.{Past, history, with_done}
 use Rattle.disco_core.specs.Refusals.{refusal_of}
 use Rattle.disco_core.specs.State as core

@@ -4,21 +4,19 @@ use Rattle.std.specs.FinMap.{empty, insert, len, remove}
 use Rattle.disco_history.specs.Change.{Entry}
 use Rattle.disco_history.specs.Query.{is_absent}
 use Rattle.disco_history.specs.Registry.{registry_of}
-use Rattle.disco_documents.specs.Documents.{asked_by}
-use Rattle.disco_query.specs.declared.key.DocKey.{DocKey}
+use Rattle.disco_wire.specs.Documents.{asked_by}
+use Rattle.disco_values.specs.declared.doc_key.DocKey.{DocKey}
 use Rattle.disco_core.specs.Past.{Past, history, nothing}
 use Rattle.disco_core.specs.State as core
 use Rattle.disco_hub.specs.Levels.{AreLevels}
-use Rattle.disco_rounds.specs.Press.{put_copy}
-use Rattle.disco_rounds.specs.Press.{Edition, IsLegal, IsPressed, IsPublishable, Note, begin, change, copied_in, doc, edition_of, gone, note_of}
-use Rattle.disco_rounds.specs.Rounds.{Advances, Begins, Ends, Round, Rounds, kept_keys, round_keys}
+use Rattle.disco_hub.specs.Press.{put_copy, Edition, IsLegal, IsPressed, IsPublishable, Note, begin, change, copied_in, doc, edition_of, gone, note_of, is_doc}
+use Rattle.disco_hub.specs.Rounds.{Advances, Begins, Ends, Round, Rounds, kept_keys, round_keys}
 use Rattle.disco_hub.specs.State.{AreServable, IsCopied, HubState, HubStandsFor}
-use Rattle.disco_rounds.specs.Press.{is_doc}
-use Rattle.disco_rounds.specs.declared.copied.Copied.{Copied}
-use Rattle.disco_rounds.specs.declared.copied.Copied.TheVariants as copied
-use Rattle.disco_rounds.proofs.InStep.{publishable_law, shown_len}
-use Rattle.disco_rounds.proofs.Notes.{changes-doc, changes-gone, copied-begin, copied-change, copied-doc, copied-gone}
-use Rattle.disco_rounds.proofs.Pressed.{IsNoted, begun_pressed, copied_pressed, first_pressed, plain_pressed, published_pressed}
+use Rattle.disco_hub.specs.declared.copied.Copied.{Copied}
+use Rattle.disco_hub.specs.declared.copied.Copied.TheVariants as copied
+use Rattle.disco_hub.proofs.InStep.{publishable_law, shown_len}
+use Rattle.disco_hub.proofs.Notes.{changes-doc, changes-gone, copied-begin, copied-change, copied-doc, copied-gone}
+use Rattle.disco_hub.proofs.Pressed.{IsNoted, begun_pressed, copied_pressed, first_pressed, plain_pressed, published_pressed}
 
 -- ---- the levels, one event on
 

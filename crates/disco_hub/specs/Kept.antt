@@ -5,12 +5,12 @@ use Rattle.disco_instance.specs.Row.{Row}
 use Rattle.disco_values.specs.declared.key.Key.{Key}
 use Rattle.disco_history.specs.Change.{Entry, key_of}
 use Rattle.disco_history.specs.Query.{is_named}
-use Rattle.disco_documents.specs.Documents.{asked_by}
+use Rattle.disco_wire.specs.Documents.{asked_by}
 use Rattle.disco_cache.specs.Docs.{Docs, Drops}
-use Rattle.disco_query.specs.declared.key.DocKey.{DocKey}
+use Rattle.disco_values.specs.declared.doc_key.DocKey.{DocKey}
 use Rattle.disco_cache.specs.declared.payload.Payload.{Payload}
-use Rattle.disco_rounds.specs.declared.copied.Copied.{Copied}
-use Rattle.disco_rounds.specs.declared.copied.Copied.TheVariants.{Doc, Drop}
+use Rattle.disco_hub.specs.declared.copied.Copied.{Copied}
+use Rattle.disco_hub.specs.declared.copied.Copied.TheVariants.{Doc, Drop}
 use Rattle.disco_hub.specs.State.{is_cached}
 
 -- just the documents that a change names are dropped, if there is one: by the record of its key before it, and by its own

@@ -1,6 +1,11 @@
 pub mod Cancelling
 pub mod Expiry
 pub mod Kept
+pub mod Laws
 pub mod Levels
+pub mod Press
+pub mod Rounds
+pub mod Shown
 pub mod State
+pub mod Stored
 pub mod Transitions

@@ -3,21 +3,21 @@ use Rattle.std.specs.Prelude.{◌≡◌, ◌≤◌, ℕ, Bool, true, false, Opti
 use Rattle.std.specs.FinMap.{FinMap, empty, get}
 use Rattle.disco_history.specs.Query.{is_absent}
 use Rattle.disco_history.specs.Registry.{registry_of}
-use Rattle.disco_documents.specs.Documents.{asked_by}
-use Rattle.disco_query.specs.Query.{is_delta}
-use Rattle.disco_query.specs.declared.query.Query.{Query}
-use Rattle.disco_query.specs.declared.query.Query.TheVariants as query
+use Rattle.disco_wire.specs.Documents.{asked_by}
+use Rattle.disco_values.specs.Query.{is_delta}
+use Rattle.disco_values.specs.declared.query.Query.{Query}
+use Rattle.disco_values.specs.declared.query.Query.TheVariants as query
 use Rattle.disco_cache.specs.Docs.{Docs}
-use Rattle.disco_query.specs.Keys.{doc_cmp}
+use Rattle.disco_values.specs.Keys.{doc_cmp}
 use Rattle.disco_cache.specs.Payloads.{IsTrue}
-use Rattle.disco_query.specs.declared.key.DocKey.{DocKey}
+use Rattle.disco_values.specs.declared.doc_key.DocKey.{DocKey}
 use Rattle.disco_cache.specs.declared.payload.Payload.{Payload}
 use Rattle.disco_core.specs.Past.{Past, history, nothing}
 use Rattle.disco_core.specs.State as core
-use Rattle.disco_rounds.specs.Rounds.{Round, Rounds}
-use Rattle.disco_rounds.specs.declared.copied.Copied.{Copied}
-use Rattle.disco_rounds.specs.declared.copied.Copied.TheVariants.{Doc, Drop}
-use Rattle.disco_settings.specs.declared.settings.Settings.{Settings}
+use Rattle.disco_hub.specs.Rounds.{Round, Rounds}
+use Rattle.disco_hub.specs.declared.copied.Copied.{Copied}
+use Rattle.disco_hub.specs.declared.copied.Copied.TheVariants.{Doc, Drop}
+use Rattle.disco_values.specs.declared.settings.Settings.{Settings}
 
 pub record HubState : Type 0 where
   pub core : core.CoreState

@@ -9,11 +9,11 @@ use Rattle.disco_history.specs.Registry.{registry_of}
 use Rattle.disco_registry.specs.Accept.{MayRefuse, accepts}
 use Rattle.disco_registry.specs.Op.{OpView}
 use Rattle.disco_lease.specs.declared.minute.Minute.{Minute}
-use Rattle.disco_query.specs.declared.key.DocKey.{DocKey}
+use Rattle.disco_values.specs.declared.doc_key.DocKey.{DocKey}
 use Rattle.disco_cache.specs.declared.payload.Payload.{Payload}
-use Rattle.disco_rounds.specs.Press.{is_doc}
-use Rattle.disco_rounds.specs.Rounds.{Advances, Begins, Ends, round_keys}
-use Rattle.disco_rounds.specs.declared.copied.Copied.{Copied}
+use Rattle.disco_hub.specs.Press.{is_doc}
+use Rattle.disco_hub.specs.Rounds.{Advances, Begins, Ends, round_keys}
+use Rattle.disco_hub.specs.declared.copied.Copied.{Copied}
 use Rattle.disco_core.specs.Past.{Past, cleaned, history, minute_closed, with_done}
 use Rattle.disco_core.specs.Refusals.{doc_of_id, refusal_of, refusal_of_id}
 use Rattle.disco_core.specs.State.{AddsNoPlaces, IsSweptAfter}

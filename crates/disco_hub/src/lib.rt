@@ -1,14 +1,20 @@
 //! One state behind all documents, with the documents that are kept until a change names them.
 #![tactic(auto)]
 
-mod cancelling;
+mod cancels;
+mod copied;
 mod expiry;
 mod hub;
-mod keeping;
+mod kept;
+mod keys;
+pub mod laws;
+mod round;
+mod rounds;
 
-pub use cancelling::{Cancel, cancel_all};
+pub use cancels::{Cancel, cancel_all};
+pub use copied::Copied;
 pub use disco_core::{Ready, Room};
-pub use disco_rounds::Copied;
-pub use disco_settings::Settings;
+pub use disco_values::Settings;
 pub use expiry::Expired;
 pub use hub::Hub;
+pub use rounds::Rounds;

@@ -8,7 +8,7 @@ use Rattle.disco_values.specs.Status.{status_name}
 use Rattle.disco_values.specs.declared.status.Status.{Status}
 use Rattle.disco_values.specs.declared.status.Status.TheVariants.{Up, Down, Starting, OutOfService, Unknown}
 use Rattle.disco_history.specs.Hash.{hash_by, then_piece}
-use Rattle.disco_digits.specs.Digits.{digits}
+use Rattle.disco_values.specs.Digits.{digits}
 use Rattle.disco_index.proofs.Texts.{pieces_hash, pushed}
 use Rattle.disco_index.specs.Behind.{behind}
 

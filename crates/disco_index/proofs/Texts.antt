@@ -6,7 +6,7 @@ use Rattle.disco_values.specs.Status.{status_name}
 use Rattle.disco_values.specs.declared.status.Status.{Status}
 use Rattle.disco_values.specs.declared.status.Status.TheVariants.{Up, Down, Starting, OutOfService, Unknown}
 use Rattle.disco_history.specs.Hash.{hash_by, then_piece}
-use Rattle.disco_digits.specs.Digits.{digits}
+use Rattle.disco_values.specs.Digits.{digits}
 
 joined : (name ds rest : List ℕ) (b : Bool) → cond b rest (name ++ 95 ∷ (ds ++ 95 ∷ rest)) ≡ cond b [] (name ++ 95 ∷ (ds ++ 95 ∷ [])) ++ rest
 joined name ds rest true = refl

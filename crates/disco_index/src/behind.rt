@@ -3,7 +3,7 @@ ghost use Rattle.std.specs.Prelude.{◌≡◌, ◌∷◌, []};
 ghost use Rattle.std.specs.Option.{option_copied};
 ghost use Rattle.disco_values.specs.Status.{status_name};
 ghost use Rattle.disco_history.specs.Hash.{then_piece};
-ghost use Rattle.disco_digits.specs.Digits.{digits};
+ghost use Rattle.disco_values.specs.Digits.{digits};
 ghost use Rattle.disco_index.specs.Behind.{behind};
 
 use disco_values::Status;

@@ -4,8 +4,7 @@ ghost use Rattle.std.specs.Vec.{vec_capacity};
 ghost use Rattle.disco_values.specs.Status.{status_name};
 ghost use Rattle.disco_history.specs.Hash.{then_piece};
 
-use disco_digits::push_digits;
-use disco_values::Status;
+use disco_values::{Status, push_digits};
 use std::alloc::{AllocError, Global};
 
 /// Writes the piece of a status behind a text.

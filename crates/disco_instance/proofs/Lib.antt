@@ -1,6 +1,6 @@
-mod Finding
-mod KeyLemmas
+mod FoundMembers
 pub mod Kept
+mod KeyLemmas
 pub mod Rows
 pub mod SameRow
 mod Statuses

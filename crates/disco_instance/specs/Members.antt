@@ -4,7 +4,7 @@ use Rattle.std.specs.Prelude.{option_and_then, option_map, unwrap_or}
 use Rattle.std.specs.Str.{bytes_eq}
 use Rattle.serde_json.specs.Data.{Data, null, boolean, number, string}
 use Rattle.serde_json.specs.Find.{get, as_str, as_u64}
-use Rattle.disco_digits.specs.Digits.{digits_number}
+use Rattle.disco_values.specs.Digits.{digits_number}
 use Rattle.disco_values.specs.Text.{in_upper_case}
 use Rattle.disco_values.specs.Status.{status_named}
 use Rattle.disco_values.specs.declared.status.Status.{Status}

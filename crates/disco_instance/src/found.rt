@@ -217,7 +217,7 @@ impl<'v, 'a> Found<'v, 'a> {
     }
 
     /// The value of a member, where it is there.
-    #[tactic(auto, using(crate::proofs::Finding::at_place))]
+    #[tactic(auto, using(crate::proofs::FoundMembers::at_place))]
     pub fn at(&self, member: Member) -> Option<&'v Tree<'a>>
         ensures { option_map (λ v. view v.now) result ≡ get (member_name member) (view self.now) }
     {

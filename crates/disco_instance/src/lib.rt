@@ -7,14 +7,14 @@
 mod data_center;
 mod details;
 mod found;
+mod from_value;
 mod known;
 mod lease;
 mod members;
 mod metadata;
-mod naming;
+mod names;
 mod parts;
 mod port;
-mod reading;
 mod record;
 mod shared_details;
 
@@ -24,10 +24,10 @@ pub use disco_values::{
     Action, Bytes, Entries, Fault, Field, Form, Key, Status, Text, status_of, upper,
 };
 pub use found::{Found, Member};
+pub use from_value::action_from_value;
 pub use known::well_formed;
 pub use lease::Lease;
 pub use members::{non_empty_member, text_member, whole};
 pub use port::Port;
-pub use reading::action_from_value;
 pub use record::Record;
 pub use shared_details::SharedDetails;

@@ -8,9 +8,8 @@ ghost use Rattle.disco_instance.specs.Members.{as_flag, as_whole, non_empty_at, 
 ghost use Rattle.disco_instance.specs.Seen.{flag_in, non_empty_in, number_or, port_or, seen, status_or, text_in};
 
 use crate::port::Port;
-use disco_digits::number_of_digits;
 use disco_json::Tree;
-use disco_values::{Status, Text, status_of, upper_text};
+use disco_values::{Status, Text, number_of_digits, status_of, upper_text};
 use std::alloc::{AllocError, Global};
 
 /// A whole number, given as a number or as a text of digits, up to 2^64 - 1.

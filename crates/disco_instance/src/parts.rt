@@ -12,7 +12,7 @@ use crate::details::Details;
 use crate::found::{Found, Member};
 use crate::members::{status_or, text_in, text_or_empty};
 use crate::metadata::entries_in;
-use crate::naming::{data_center_member, key_from_found};
+use crate::names::{data_center_member, key_from_found};
 use crate::shared_details::SharedDetails;
 use disco_values::{Entries, Fault, Key, Status, Text};
 use std::alloc::{AllocError, Global};

@@ -5,8 +5,8 @@
 #![tactic(auto)]
 
 mod number;
-mod reading;
+mod read;
 mod tree;
 
-pub use reading::read_tree;
+pub use read::read_tree;
 pub use tree::Tree;

@@ -1,6 +1,6 @@
 mod AnyDue
-mod Collecting
+mod CollectedKeys
 pub mod Due
 mod Entries
-mod Steps
 mod Ordered
+mod Steps

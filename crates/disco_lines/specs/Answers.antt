@@ -7,7 +7,7 @@ use Rattle.disco_values.specs.Fault.{fault_number, field_name}
 use Rattle.disco_values.specs.declared.fault.Fault.{Fault}
 use Rattle.disco_values.specs.declared.fault.Fault.TheVariants.{MissingField}
 use Rattle.disco_cache.specs.declared.payload.Payload.{Payload}
-use Rattle.disco_rounds.specs.declared.copied.Copied.TheVariants as copied
+use Rattle.disco_hub.specs.declared.copied.Copied.TheVariants as copied
 use Rattle.disco_values.specs.Status.{status_name}
 use Rattle.disco_world.specs.declared.instance_summary.InstanceSummary.{InstanceSummary}
 use Rattle.disco_world.specs.declared.event.Reply.{Reply}

@@ -1,6 +1,6 @@
-pub mod Words
+pub mod Answers
+pub mod Input
 pub mod Lines
 pub mod Loads
-pub mod Input
-pub mod Answers
 pub mod Steps
+pub mod Words

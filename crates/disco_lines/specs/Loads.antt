@@ -3,8 +3,8 @@ use Rattle.std.specs.Prelude.{ℕ, List, [], ◌∷◌, Option, Some, None, if�
 use Rattle.std.specs.Str.{bytes_eq}
 use Rattle.disco_values.specs.declared.form.Form.{Form}
 use Rattle.disco_values.specs.declared.form.Form.TheVariants.{Full, Compact}
-use Rattle.disco_query.specs.declared.query.Query.{Query}
-use Rattle.disco_query.specs.declared.query.Query.TheVariants.{Apps, Delta, App, Vip, Svip, Instance}
+use Rattle.disco_values.specs.declared.query.Query.{Query}
+use Rattle.disco_values.specs.declared.query.Query.TheVariants.{Apps, Delta, App, Vip, Svip, Instance}
 use Rattle.disco_world.specs.declared.event.Step.{Step}
 use Rattle.disco_world.specs.declared.event.Step.TheVariants.{Load, LoadById, Look, LookById}
 use Rattle.disco_operations.specs.Decoding.{decoded_text}

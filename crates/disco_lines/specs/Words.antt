@@ -2,7 +2,7 @@
 use Rattle.std.specs.Prelude.{ℕ, List, [], ◌∷◌, Option, Some, None, ◌==◌, if◌then◌else◌, option_and_then, nat_lt}
 use Rattle.std.specs.List.{join_with_byte, slice_split}
 use Rattle.disco_operations.specs.Decoding.{decoded_text}
-use Rattle.disco_digits.specs.Digits.{digits_number}
+use Rattle.disco_values.specs.Digits.{digits_number}
 
 -- the words of a line: what stands between its spaces, and before the first and behind the last
 abbrev pub words : List ℕ → List (List ℕ)

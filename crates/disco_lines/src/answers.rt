@@ -2,7 +2,7 @@
 ghost use Rattle.std.specs.Prelude.{◌≡◌, ◌⊎◌, ◌++◌, [], IfErr, OnErr, OnOk, codes, if◌then◌else◌};
 ghost use Rattle.disco_values.specs.declared.fault.Fault.TheVariants.{OutOfMemory, WriteFailed};
 ghost use Rattle.std.specs.Io.KnownBytes.{Appends, append_known};
-ghost use Rattle.disco_reader.specs.Causes.{Cause, Raises};
+ghost use Rattle.disco_http.specs.Causes.{Cause, Raises};
 ghost use Rattle.disco_lines.specs.Answers.{answer_line, answer_lines, document_line, summary_text, refusal_line};
 ghost use Rattle.disco_lines.specs.Steps.{document_front};
 ghost use Rattle.std.specs.List.{flat_map};
@@ -10,10 +10,9 @@ ghost use Rattle.disco_world.specs.declared.event.Reply.TheVariants as reply;
 ghost use Rattle.disco_world.specs.declared.event.Reply.TheVariants.{Taken, Certified, Changed, Held};
 
 use disco_cache::Payload;
-use disco_hub::Expired;
+use disco_http::{Failed, Sink, write_all};
+use disco_hub::{Copied, Expired};
 use disco_lease::Minute;
-use disco_rounds::Copied;
-use disco_streams::{Failed, Sink, write_all};
 use disco_values::Fault;
 use disco_world::{InstanceSummary, Reply};
 use itoa::Buffer;

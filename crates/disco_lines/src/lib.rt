@@ -6,12 +6,12 @@
 mod answers;
 mod find;
 mod line;
+mod line_buffer;
 mod lines;
 mod load;
 mod put;
-mod telling;
 mod words;
 
 pub use answers::write_answers;
+pub use line_buffer::answer_events;
 pub use lines::read_events;
-pub use telling::answer_events;

@@ -14,9 +14,8 @@ ghost use Rattle.disco_world.specs.declared.event.Step.TheVariants.{SetStatus};
 use crate::load::{load_of, look_for, target_of};
 use crate::put::{put_alone, put_found, put_found_step, put_step};
 use crate::words::Words;
-use disco_digits::number_of_digits;
 use disco_operations::{decoded, decoded_text, entries_of_query};
-use disco_values::{Bytes, Fault, Text};
+use disco_values::{Bytes, Fault, Text, number_of_digits};
 use disco_world::{Event, Step};
 use std::alloc::Global;
 

@@ -6,11 +6,11 @@ ghost use Rattle.disco_values.specs.declared.fault.Fault.TheVariants.{OutOfMemor
 ghost use Rattle.disco_lines.specs.Lines.{IsFirstBadLine, meanings};
 ghost use Rattle.disco_lines.specs.Steps.{is_feed};
 ghost use Rattle.disco_lines.specs.Input.{AreRead, NamesBadLine};
-ghost use Rattle.disco_reader.specs.Causes.{Cause};
+ghost use Rattle.disco_http.specs.Causes.{Cause};
 
 use crate::find::first_of;
 use crate::line::put_event_of;
-use disco_streams::{Source, read_all};
+use disco_http::{Source, read_all};
 use disco_values::Fault;
 use disco_world::Event;
 use std::alloc::Global;

@@ -6,8 +6,7 @@ ghost use Rattle.disco_operations.specs.Decoding.{decoded_text};
 
 use crate::words::Words;
 use disco_operations::{decoded, decoded_text};
-use disco_query::{DocKey, Query};
-use disco_values::{Fault, Form, Key, Text};
+use disco_values::{DocKey, Fault, Form, Key, Query, Text};
 use disco_world::Step;
 use std::alloc::Global;
 

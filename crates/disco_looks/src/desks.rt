@@ -1,7 +1,6 @@
 //! What the desk is asked.
-use disco_query::{DocKey, Query};
 use disco_registry::Op;
-use disco_values::{Fault, Form, Text};
+use disco_values::{DocKey, Fault, Form, Query, Text};
 use disco_wire::read_registration;
 use std::alloc::Global;
 

@@ -1,7 +1,6 @@
 //! Threads that look.
-use disco_editions::{Looked, Naming};
-use disco_press::Seat;
-use disco_query::DocKey;
+use disco_press::{Looked, Naming, Seat};
+use disco_values::DocKey;
 use std::sync::Wait;
 use std::sync::atomic::{AtomicU64, Ordering};
 

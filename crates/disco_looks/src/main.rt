@@ -14,8 +14,7 @@ mod publishing;
 mod timing;
 mod trial;
 
-use disco_editions::Naming;
-use disco_press::Opening;
+use disco_press::{Naming, Opening};
 use std::io;
 use std::marker::Brand;
 use std::process::ExitCode;

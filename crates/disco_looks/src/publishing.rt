@@ -1,7 +1,6 @@
 //! One thread that writes, loads and publishes.
 use crate::desks::{app, registration};
-use disco_editions::Naming;
-use disco_press::Desk;
+use disco_press::{Desk, Naming};
 use disco_values::Fault;
 use std::alloc::Global;
 use std::sync::atomic::{AtomicU64, Ordering};

@@ -1,6 +1,6 @@
 pub mod Digits
-pub mod Headings
-pub mod Reading
-pub mod Receiving
-pub mod Spelling
+pub mod KeptHeads
+pub mod ReplyHeads
+pub mod RequestHeads
+pub mod SpelledCertificate
 pub mod Written

@@ -23,7 +23,7 @@ use Rattle.disco_message.specs.declared.status_line.Allow.{Allow}
 use Rattle.disco_message.specs.declared.status_line.Allow.TheVariants.{Get, GetPost, GetPutDelete, PutDelete, Put}
 use Rattle.disco_message.specs.declared.status_line.StatusLine.{StatusLine}
 use Rattle.disco_message.specs.declared.status_line.StatusLine.TheVariants as status
-use Rattle.disco_message.proofs.Spelling.{cert_text, number_digits, number_some, first_digit, more_digits, parted, spelled_again}
+use Rattle.disco_message.proofs.SpelledCertificate.{cert_text, number_digits, number_some, first_digit, more_digits, parted, spelled_again}
 
 -- ---- the fields
 

@@ -1,7 +1,7 @@
 -- The certificate of a received document (this project's own rule).
 use Rattle.std.specs.Prelude.{ℕ, Bool, ◌==◌, List, [], ◌∷◌, Option, Some, None, codes}
 use Rattle.std.specs.List.{after_first, before_first}
-use Rattle.disco_digits.specs.Digits.{digits_number}
+use Rattle.disco_values.specs.Digits.{digits_number}
 use Rattle.disco_values.specs.declared.cert.Cert.{Cert}
 use Rattle.disco_message.specs.Fields.{values}
 

@@ -4,7 +4,7 @@ use Rattle.std.specs.Option.{option_map_or}
 use Rattle.std.specs.List.{list_all}
 use Rattle.std.specs.Str.{bytes_eq}
 use Rattle.http1.specs.Text.{eq_ignore_case}
-use Rattle.disco_digits.specs.Digits.{digits_number}
+use Rattle.disco_values.specs.Digits.{digits_number}
 use Rattle.disco_values.specs.declared.fault.Fault.{Fault}
 use Rattle.disco_values.specs.declared.fault.Fault.TheVariants.{BadRequest, UnsupportedCoding}
 use Rattle.disco_message.specs.Fields.{values}

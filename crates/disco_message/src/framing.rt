@@ -3,14 +3,13 @@ ghost use Rattle.std.specs.Prelude.{◌≡◌, ◌⊎◌, IfErr, ℕ, List, leng
 ghost use Rattle.std.specs.List.{list_all};
 ghost use Rattle.std.specs.Str.{bytes_eq};
 ghost use Rattle.httparse.specs.Spans.{IsHeaderWithin, header_bytes};
-ghost use Rattle.disco_digits.specs.Digits.{digits_number};
+ghost use Rattle.disco_values.specs.Digits.{digits_number};
 ghost use Rattle.disco_message.specs.Fields.{values};
 ghost use Rattle.disco_message.specs.Few.{FewAre};
 ghost use Rattle.disco_message.specs.Framing.{framing_of, has_host, stated, framed};
 
 use crate::fields::{Few, few_values, next_value};
-use disco_digits::number_of_digits;
-use disco_values::Fault;
+use disco_values::{Fault, number_of_digits};
 use http1::text::eq_ignore_case;
 use httparse::spans::HeaderSpan;
 

@@ -4,8 +4,7 @@ ghost use Rattle.std.specs.Vec.{vec_capacity};
 ghost use Rattle.disco_message.specs.ReplyText.{number_text, type_line, length_line, certificate_line, allow_line, close_line, body_lines, reply_head};
 
 use crate::status_line::{Allow, StatusLine};
-use disco_digits::push_digits;
-use disco_values::Cert;
+use disco_values::{Cert, push_digits};
 
 /// Room in which the head of any reply fits, in bytes.
 pub const HEAD_ROOM: usize = 256;

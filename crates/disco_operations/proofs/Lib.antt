@@ -1,2 +1,2 @@
 mod Names
-mod Spelling
+mod SpelledWords

@@ -3,12 +3,12 @@
 //! how names and queries are encoded.
 #![tactic(auto)]
 
-mod decoding;
 mod operations;
+mod percent;
 mod query;
 
-pub use decoding::{decoded, decoded_text};
 pub use operations::{
     add_metadata, cancel, drop_status, key_named, register, register_with, renew, set_status,
 };
+pub use percent::{decoded, decoded_text};
 pub use query::{entries_of_query, value_of};

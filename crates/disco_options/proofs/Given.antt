@@ -8,8 +8,8 @@ use Rattle.std.specs.Str.Parse.{IsNumeral, ParsesBool, ParsesUnsigned, digits_va
 use Rattle.std.proofs.lemmas.Slice.Eq.{bytes_eq-Decides}
 use Rattle.std.proofs.lemmas.Bool.Decides.{nat_tests}
 use Rattle.clap.specs.Words.{ReadsOne}
-use Rattle.disco_digits.specs.Digits.{digits_number}
-use Rattle.disco_digits.proofs.Parsed.{all_are_digits, own}
+use Rattle.disco_values.specs.Digits.{digits_number}
+use Rattle.disco_values.proofs.Parsed.{all_are_digits, own}
 
 split_on : (t : Bool) → (t ≡ true) ⊎ (t ≡ false)
 split_on true = inl refl

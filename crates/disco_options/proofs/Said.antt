@@ -1,8 +1,8 @@
 -- Lines of faults, and what stands in front of them.
 use Rattle.std.proofs.Common.{◌≡◌, ◌⊎◌, inl, inr, ◌-◌, ◌^◌, ◌<◌, ℕ, List, [], Option, Some, None, append-nil, arith, subst, sym}
 use Rattle.std.specs.Io.KnownBytes.{Appends}
-use Rattle.disco_reader.specs.Causes.{Raises}
-use Rattle.disco_streams.specs.Writes.{AppendsFront}
+use Rattle.disco_http.specs.Causes.{Raises}
+use Rattle.disco_http.specs.Writes.{AppendsFront}
 use Rattle.disco_values.specs.declared.fault.Fault.{Fault}
 use Rattle.disco_options.specs.Faults.{Says, SaysAny, report_line}
 

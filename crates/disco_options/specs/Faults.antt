@@ -6,8 +6,8 @@ use Rattle.std.specs.declared.io.ErrorKind.TheVariants as io
 use Rattle.clap.specs.Words.{IsAmong, Kinds}
 use Rattle.clap.specs.declared.error.kind.ErrorKind.{ErrorKind}
 use Rattle.clap.specs.declared.error.kind.ErrorKind.TheVariants as kind
-use Rattle.disco_reader.specs.Causes.{Raises}
-use Rattle.disco_streams.specs.Writes.{AppendsFront}
+use Rattle.disco_http.specs.Causes.{Raises}
+use Rattle.disco_http.specs.Writes.{AppendsFront}
 use Rattle.disco_values.specs.Fault.{fault_number}
 use Rattle.disco_values.specs.declared.fault.Fault.{Fault}
 use Rattle.disco_values.specs.declared.fault.Fault.TheVariants.{BadEvent}

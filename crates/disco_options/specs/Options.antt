@@ -10,9 +10,9 @@ use Rattle.clap.specs.Simple.{on_top}
 use Rattle.clap.specs.declared.builder.ArgAction.TheVariants.{Set, SetTrue}
 use Rattle.clap.specs.declared.builder.value_parser.ValueParser.TheVariants.{Unsigned}
 use Rattle.clap.specs.declared.error.kind.ErrorKind.TheVariants.{MissingSubcommand}
-use Rattle.disco_digits.specs.Digits.{digits_number}
-use Rattle.disco_settings.specs.Limits.{most_versions, most_instances, most_queue, most_entries, retention}
-use Rattle.disco_settings.specs.declared.settings.Settings.{Settings}
+use Rattle.disco_values.specs.Digits.{digits_number}
+use Rattle.disco_values.specs.Limits.{most_versions, most_instances, most_queue, most_entries, retention}
+use Rattle.disco_values.specs.declared.settings.Settings.{Settings}
 use Rattle.disco_options.specs.declared.subcommand.Subcommand.{Subcommand}
 use Rattle.disco_options.specs.declared.subcommand.Subcommand.TheVariants.{Replay, Serve, Fleet, Follow}
 

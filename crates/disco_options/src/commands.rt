@@ -12,7 +12,7 @@ use crate::options::{flag, needed, number, text, with_settings};
 use crate::subcommand::Subcommand;
 use clap::error::ErrorKind;
 use clap::{ArgMatches, Command, Error};
-use disco_settings::{MOST_INSTANCES, most_instances};
+use disco_values::{MOST_INSTANCES, most_instances};
 use std::alloc::{AllocError, Global};
 
 fn replay_command<'a>(alloc: Global) -> Result<Command<'a>, AllocError>

@@ -4,12 +4,12 @@ ghost use Rattle.std.specs.Io.KnownBytes.{Appends};
 ghost use Rattle.std.specs.IoError.{error_kind};
 ghost use Rattle.clap.specs.Words.{kind_of};
 ghost use Rattle.disco_options.specs.Faults.{AddsText, Says, SaysAny, report_line, status_of_kind, status_without_words};
-ghost use Rattle.disco_streams.specs.Writes.{WritesBytes};
+ghost use Rattle.disco_http.specs.Writes.{WritesBytes};
 ghost use Rattle.disco_values.specs.declared.fault.Fault.TheVariants.{OutOfMemory};
 
 use clap::Error;
 use clap::error::ErrorKind;
-use disco_streams::{Failed, Sink, write_all};
+use disco_http::{Failed, Sink, write_all};
 use disco_values::Fault;
 use itoa::Buffer;
 use std::alloc::Global;

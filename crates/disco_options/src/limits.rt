@@ -25,7 +25,7 @@ macro_rules! bounds_and_default {
 /// A port.
 macro_rules! most_port {
     ($with:ident $(, $text:literal)?) => {
-        disco_settings::$with!(65535 $(, $text)?)
+        disco_values::$with!(65535 $(, $text)?)
     };
 }
 
@@ -39,14 +39,14 @@ macro_rules! workers {
 /// Threads that register, and clients, of a fleet.
 macro_rules! most_threads {
     ($with:ident $(, $text:literal)?) => {
-        disco_settings::$with!(64 $(, $text)?)
+        disco_values::$with!(64 $(, $text)?)
     };
 }
 
 /// The pause between two refreshes, in milliseconds: that of Eureka's clients by default.
 macro_rules! pause {
     ($with:ident $(, $text:literal)?) => {
-        disco_settings::$with!(30000 $(, $text)?)
+        disco_values::$with!(30000 $(, $text)?)
     };
 }
 

@@ -5,7 +5,7 @@ ghost use Rattle.disco_options.specs.Options.{flag_given, flag_rule, number_give
 
 use clap::builder::ValueParser;
 use clap::{Arg, ArgAction, ArgMatches, Command};
-use disco_settings::{
+use disco_values::{
     MOST_ENTRIES, MOST_INSTANCES, MOST_QUEUE, MOST_VERSIONS, most_entries, most_instances,
     most_queue, most_versions, retention,
 };

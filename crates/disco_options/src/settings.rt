@@ -9,9 +9,7 @@ use crate::faults::status_of;
 use crate::options::{count, flag_given, number_given};
 use crate::subcommand::Subcommand;
 use clap::{ArgMatches, Error};
-use disco_settings::{
-    MOST_ENTRIES, MOST_INSTANCES, MOST_QUEUE, MOST_VERSIONS, RETENTION, Settings,
-};
+use disco_values::{MOST_ENTRIES, MOST_INSTANCES, MOST_QUEUE, MOST_VERSIONS, RETENTION, Settings};
 use std::alloc::Global;
 
 /// The settings that are given, with the default of each that isn't, which of the run is `run`.

@@ -1,3 +1,3 @@
+pub mod ByApp
 pub mod Lengths
-pub mod Nesting
 pub mod Stored

@@ -11,13 +11,13 @@ use Rattle.std.specs.FinMap.{get}
 use Rattle.disco_history.specs.Registry.{registry_of}
 use Rattle.disco_hub.specs.Kept.{Forgets}
 use Rattle.disco_hub.specs.Expiry.{cancel_of, cancelled}
-use Rattle.disco_rounds.specs.Press.{change}
+use Rattle.disco_hub.specs.Press.{change}
 use Rattle.disco_hub.specs.State.{HubStandsFor, rules_of}
 use Rattle.disco_hub.specs.Cancelling.{Cancels, HasCancelled}
 use Rattle.disco_hub.specs.Transitions.{Writes}
 use Rattle.disco_hub.proofs.Cancels.{at_history, left, says}
 use Rattle.disco_press.specs.Desks.{CountsByNone, DeskState, Notes, NotesCancels, note_done}
-use Rattle.disco_press.proofs.Keeping.{changes_done, history_done, noted_is}
+use Rattle.disco_press.proofs.KeptNotes.{changes_done, history_done, noted_is}
 
 -- ---- one cancel
 

@@ -1,2 +1,5 @@
 mod Cancels
-mod Keeping
+mod KeptNotes
+pub mod Publications
+mod Shows
+pub mod Steps

@@ -2,9 +2,9 @@
 use Rattle.std.specs.Prelude.{◌≡◌, ℕ, ◌+◌, List, [], ◌∷◌, ◌++◌, length, map, Option, Some, None}
 use Rattle.disco_history.specs.Change.{Entry}
 use Rattle.disco_core.specs.Past.{Past, history}
-use Rattle.disco_rounds.specs.Press.{IsPressed, Note, change}
+use Rattle.disco_hub.specs.Press.{IsPressed, Note, change}
 use Rattle.disco_hub.specs.State.{HubState, HubStandsFor, version_of}
-use Rattle.disco_editions.specs.Logs.{notes_in}
+use Rattle.disco_press.specs.Logs.{notes_in}
 
 -- what was published, publication by publication, what was noted since, the hub, and how many changes were made by seats and without one
 pub record DeskState : Type 0 where

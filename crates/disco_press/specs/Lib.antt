@@ -1,4 +1,8 @@
 pub mod Desks
+pub mod Editions
 pub mod Keeping
+pub mod Logs
+pub mod Looks
 pub mod Openings
+pub mod Rolls
 pub mod Seats

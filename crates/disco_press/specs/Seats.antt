@@ -1,7 +1,7 @@
 -- What a seat knows.
 use Rattle.std.specs.Prelude.{◌≡◌, ℕ, List}
-use Rattle.disco_rounds.specs.Press.{Note}
-use Rattle.disco_editions.specs.Logs.{notes_in}
+use Rattle.disco_hub.specs.Press.{Note}
+use Rattle.disco_press.specs.Logs.{notes_in}
 
 -- the publications that it has seen or been told of, all that it has been told was noted, and how many changes it has made
 pub record SeatState : Type 0 where

@@ -7,14 +7,14 @@ ghost use Rattle.disco_hub.specs.State.{IsEmptyHub, HubStandsFor, rules_of, vers
 ghost use Rattle.disco_hub.specs.Transitions.{Cleans, Closes, IsDocOf, IsDocOfId, Loads, Withholds, WithholdsId};
 ghost use Rattle.disco_press.specs.Desks.{IsValid, NotesNothing, notes_of};
 
+use crate::log::PublicationLog;
+use crate::published_log::Naming;
 use crate::seat::Seat;
+use crate::snapshot_writer::SnapshotWriter;
 use disco_cache::{Edition, Payload};
-use disco_editions::{Naming, PublicationLog, SnapshotWriter};
 use disco_hub::Hub;
 use disco_lease::Minute;
-use disco_query::DocKey;
-use disco_settings::Settings;
-use disco_values::{Fault, Form, Key};
+use disco_values::{DocKey, Fault, Form, Key, Settings};
 use std::alloc::Global;
 use std::marker::Model;
 use std::sync::ledger::Book;

@@ -2,16 +2,32 @@
 #![tactic(auto)]
 
 mod desk;
+mod entry;
+mod heard;
+mod log;
+mod look;
 mod opening;
+mod published_log;
 mod rounds;
+mod scroll;
 mod seat;
-mod seating;
-mod writing;
+mod seats;
+mod snapshot;
+mod snapshot_reader;
+mod snapshot_writer;
+mod writes;
 
 pub use desk::Desk;
 pub use disco_cache::Edition;
-pub use disco_editions::Looked;
 pub use disco_hub::Room;
+pub use entry::LogEntry;
+pub use heard::Heard;
+pub use log::PublicationLog;
+pub use look::Looked;
 pub use opening::Opening;
+pub use published_log::{LogPrefix, Naming, PublishedLog};
 pub use seat::Seat;
-pub use seating::open;
+pub use seats::open;
+pub use snapshot::Snapshot;
+pub use snapshot_reader::SnapshotReader;
+pub use snapshot_writer::SnapshotWriter;

@@ -1,8 +1,8 @@
 //! What names a desk before it is there.
 ghost use Rattle.std.specs.Prelude.{◌≡◌, []};
 
-use disco_editions::LogEntry;
-use scroll::Scroll;
+use crate::entry::LogEntry;
+use crate::scroll::Scroll;
 use std::sync::ledger::Blank;
 
 /// As many seats as a desk may have, and one part that is left.

@@ -1,19 +1,19 @@
 //! Rounds of a publisher.
 ghost use Rattle.std.specs.Prelude.{◌≡◌, [], ◌∷◌, ◌++◌, IfErr, IfNone, IfOk, IfSome, None, OnErr, OnOk};
 ghost use Rattle.std.specs.FinMap.{len};
-ghost use Rattle.disco_rounds.specs.Press as press;
-ghost use Rattle.disco_rounds.specs.Press.{edition_of, note_of};
-ghost use Rattle.disco_rounds.specs.Rounds.{StaysOpen};
+ghost use Rattle.disco_hub.specs.Press as press;
+ghost use Rattle.disco_hub.specs.Press.{edition_of, note_of};
+ghost use Rattle.disco_hub.specs.Rounds.{StaysOpen};
 ghost use Rattle.disco_hub.specs.State.{open_round};
 ghost use Rattle.disco_hub.specs.Transitions.{BeginsRound, CopiesOne, EndsRound, HasNoneLeft, RefusesCopy, RefusesRound};
 ghost use Rattle.disco_press.specs.Desks.{CountsNone, Notes, notes_of};
 
 use crate::desk::Desk;
+use crate::published_log::Naming;
+use crate::snapshot::Snapshot;
 use core::mem::replace;
 use disco_cache::Edition;
-use disco_editions::{Naming, Snapshot};
-use disco_hub::Room;
-use disco_rounds::Copied;
+use disco_hub::{Copied, Room};
 use disco_values::Fault;
 use std::sync::Wait;
 

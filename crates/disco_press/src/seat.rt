@@ -1,12 +1,15 @@
 //! Seats of readers.
 ghost use Rattle.std.specs.Prelude.{◌≡◌, ◌<◌, ◌≤◌, ◌+◌, ◌^◌};
 ghost use mathlib.Core.List.{IsPrefix};
-ghost use Rattle.disco_editions.specs.Looks.{Shows};
-ghost use Rattle.disco_editions.specs.Logs.{notes_in};
+ghost use Rattle.disco_press.specs.Looks.{Shows};
+ghost use Rattle.disco_press.specs.Logs.{notes_in};
 ghost use Rattle.disco_press.specs.Seats.{IsNew};
 
-use disco_editions::{Heard, Looked, Naming, PublishedLog, SnapshotReader};
-use disco_query::DocKey;
+use crate::heard::Heard;
+use crate::look::Looked;
+use crate::published_log::{Naming, PublishedLog};
+use crate::snapshot_reader::SnapshotReader;
+use disco_values::DocKey;
 use std::marker::Model;
 use std::sync::ledger::{Book, Share};
 

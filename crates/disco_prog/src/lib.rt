@@ -4,11 +4,15 @@
 //! and clients at work, and [`settings_of`] reads the options of a command.
 #![tactic(auto)]
 
-mod running;
+mod fleets;
+mod program;
+mod replay_command;
+mod serve_command;
+mod service;
 
-pub use disco_fleet::fleet;
 pub use disco_follow::follow;
 pub use disco_options::settings_of;
-pub use disco_replay::replay;
-pub use disco_serve::serve;
-pub use running::run;
+pub use fleets::{fleet, lines_of};
+pub use program::run;
+pub use replay_command::replay;
+pub use serve_command::serve;

@@ -2,7 +2,7 @@ mod Apps
 mod Fronts
 mod Histories
 mod LastChanges
-mod Numbering
+mod LastInOrder
+mod LastNumbers
 mod Places
-mod Superseding
-mod Walks
+mod Superseded

@@ -12,14 +12,13 @@ use Rattle.disco_history.specs.Registry.{registry_of}
 use Rattle.disco_history.proofs.FormLemmas.{copied_formed, overlay_formed}
 use Rattle.disco_history.proofs.Overlays.{copy_law, overlay_law}
 use Rattle.disco_history.proofs.Restrictions.{values-said_all}
-use Rattle.disco_wire.specs.Documents.{document_of}
+use Rattle.disco_wire.specs.Documents.{document_of, mentioned}
 use Rattle.disco_wire.specs.Meaning.{Meaning}
-use Rattle.disco_documents.specs.Documents.{mentioned}
-use Rattle.disco_documents.specs.Rows.{mentions_in}
-use Rattle.disco_query.specs.declared.query.Query.TheVariants as query
+use Rattle.disco_wire.specs.Rows.{mentions_in}
+use Rattle.disco_values.specs.declared.query.Query.TheVariants as query
 use Rattle.disco_client.specs.Tracks.{Histories, IsVersionIn, known_at, moved}
 use Rattle.disco_client.specs.declared.known.Known.{Known}
-use Rattle.disco_client.proofs.Moves.{Moves, Reaches, moves}
+use Rattle.disco_client.proofs.KnownVersions.{Moves, Reaches, moves}
 use Rattle.disco_reconcile.specs.State.{CopyRows}
 use Rattle.disco_reconcile.specs.Tracked.{MeansAt, Means, known_by}
 

@@ -1,8 +1,8 @@
+mod CertifiedCopies
 mod Exactness
-mod Failing
-mod Following
-mod Growing
-mod Refreshing
-mod Staying
+mod FailedFetches
+mod LongerHistories
+mod PlainCopies
+mod RefreshResults
 mod Steps
-mod Telling
+mod ToldFetches

@@ -9,14 +9,14 @@ use Rattle.disco_wire.specs.Documents.{document_of}
 use Rattle.disco_wire.specs.Meaning.{Meaning}
 use Rattle.disco_wire.specs.declared.wire.Shape.{Shape}
 use Rattle.disco_wire.specs.declared.wire.Shape.TheVariants.{Many, App, One}
-use Rattle.disco_query.specs.Query.{is_delta}
-use Rattle.disco_query.specs.declared.query.Query.{Query}
-use Rattle.disco_query.specs.declared.query.Query.TheVariants as query
-use Rattle.disco_query.specs.declared.key.DocKey.{DocKey}
+use Rattle.disco_values.specs.Query.{is_delta}
+use Rattle.disco_values.specs.declared.query.Query.{Query}
+use Rattle.disco_values.specs.declared.query.Query.TheVariants as query
+use Rattle.disco_values.specs.declared.doc_key.DocKey.{DocKey}
 use Rattle.disco_reconcile.specs.Courses.{Exchange, GoesOnAfterDelta, IsFull, IsRest, OfDelta, OfFull, exchange, outcome_of}
 use Rattle.disco_reconcile.specs.Steps.{GoesThrough, IsAsked, IsPut, IsStep, StepTo, TakesFull, following, told_document}
 use Rattle.disco_reconcile.specs.Told.{FetchAnswer, ToldDocument, agreed, of_shape, told_in_answer, told_of}
-use Rattle.disco_reconcile.specs.declared.asking.Document.{Document}
+use Rattle.disco_reconcile.specs.declared.document.Document.{Document}
 use Rattle.disco_reconcile.specs.declared.fetch.Fetched.{Fetched}
 use Rattle.disco_reconcile.specs.declared.refreshed.Refreshed.{Refreshed}
 use Rattle.disco_reconcile.specs.declared.refreshed.Refreshed.TheVariants.{Full, Delta, DeltaThenFull}

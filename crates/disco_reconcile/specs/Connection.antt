@@ -8,12 +8,12 @@ use Rattle.disco_values.specs.declared.form.Form.TheVariants.{Full, Compact}
 use Rattle.disco_message.specs.Certificate.{certificate_of}
 use Rattle.disco_message.specs.Received.{Received}
 use Rattle.disco_message.specs.declared.limits.Limits.{Limits}
-use Rattle.disco_query.specs.Query.{is_delta}
-use Rattle.disco_query.specs.declared.key.DocKey.{DocKey}
-use Rattle.disco_reader.specs.Causes.{Raises, is_of_reply}
-use Rattle.disco_reader.specs.Replies.{HasNoReply, ReplyRefused, TakesReply}
-use Rattle.disco_reader.specs.Streams as stream
-use Rattle.disco_reader.specs.declared.reader.Reader.{Reader}
+use Rattle.disco_values.specs.Query.{is_delta}
+use Rattle.disco_values.specs.declared.doc_key.DocKey.{DocKey}
+use Rattle.disco_http.specs.Causes.{Raises, is_of_reply}
+use Rattle.disco_http.specs.Replies.{HasNoReply, ReplyRefused, TakesReply}
+use Rattle.disco_http.specs.Streams as stream
+use Rattle.disco_http.specs.declared.reader.Reader.{Reader}
 use Rattle.disco_http.specs.Sinks.{sink_of}
 use Rattle.disco_http.specs.Sinks as sinks
 use Rattle.disco_http.specs.declared.writer.Writer.{Writer}

@@ -6,10 +6,10 @@ use Rattle.disco_values.specs.declared.fault.Fault.{Fault}
 use Rattle.disco_values.specs.declared.fault.Fault.TheVariants.{BadDocument, NotFetched}
 use Rattle.disco_values.specs.declared.form.Form.{Form}
 use Rattle.disco_history.specs.Mentions.{copied, overlay}
-use Rattle.disco_query.specs.Query.{is_delta}
-use Rattle.disco_query.specs.declared.query.Query.{Query}
-use Rattle.disco_query.specs.declared.query.Query.TheVariants as query
-use Rattle.disco_query.specs.declared.key.DocKey.{DocKey}
+use Rattle.disco_values.specs.Query.{is_delta}
+use Rattle.disco_values.specs.declared.query.Query.{Query}
+use Rattle.disco_values.specs.declared.query.Query.TheVariants as query
+use Rattle.disco_values.specs.declared.doc_key.DocKey.{DocKey}
 use Rattle.disco_client.specs.Copies.{hash_equal}
 use Rattle.disco_client.specs.Tracks.{gives_way, known_at, reaches}
 use Rattle.disco_client.specs.declared.certified.CertifiedCopy.{CertifiedCopy}

@@ -2,8 +2,8 @@
 use Rattle.std.specs.Prelude.{◌≢◌, ℕ, ◌≤◌, Result, Ok, Err}
 use Rattle.disco_values.specs.declared.fault.Fault.{Fault}
 use Rattle.disco_values.specs.declared.fault.Fault.TheVariants.{OutOfMemory}
-use Rattle.disco_query.specs.declared.key.DocKey.{DocKey}
-use Rattle.disco_reader.specs.Causes.{Raises}
+use Rattle.disco_values.specs.declared.doc_key.DocKey.{DocKey}
+use Rattle.disco_http.specs.Causes.{Raises}
 use Rattle.disco_reconcile.specs.declared.fetch.Fetched.{Fetched}
 
 -- a fetch failed, and not for want of memory

@@ -2,7 +2,7 @@
 use Rattle.std.specs.Prelude.{◌≡◌, ℕ, false, List, ◌++◌, Option}
 use Rattle.disco_values.specs.declared.form.Form.{Form}
 use Rattle.disco_history.specs.Change.{Entry}
-use Rattle.disco_documents.specs.Documents.{kind}
+use Rattle.disco_wire.specs.Documents.{kind}
 use Rattle.disco_cache.specs.Payloads.{IsTrue, cert_of}
 use Rattle.disco_cache.specs.declared.payload.Payload.{Payload}
 use Rattle.disco_client.specs.Tracks.{Histories}

@@ -4,8 +4,8 @@ use Rattle.disco_instance.specs.Mention.{Mention}
 use Rattle.disco_values.specs.declared.fault.Fault.{Fault}
 use Rattle.disco_values.specs.declared.form.Form.{Form}
 use Rattle.disco_history.specs.Mentions.{overlay}
-use Rattle.disco_query.specs.declared.key.DocKey.{DocKey}
-use Rattle.disco_reader.specs.Causes.{Raises}
+use Rattle.disco_values.specs.declared.doc_key.DocKey.{DocKey}
+use Rattle.disco_http.specs.Causes.{Raises}
 use Rattle.disco_reconcile.specs.Courses.{AreFetched, Exchange, IsCourse, certified_delta, certified_full, outcome_of, plain_delta, plain_full}
 use Rattle.disco_reconcile.specs.Failures.{Gave, IsFailure}
 use Rattle.disco_reconcile.specs.State.{CopyRows, ClientState}

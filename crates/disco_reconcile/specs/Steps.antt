@@ -5,13 +5,13 @@ use Rattle.disco_values.specs.declared.fault.Fault.{Fault}
 use Rattle.disco_values.specs.declared.fault.Fault.TheVariants.{OutOfMemory}
 use Rattle.disco_values.specs.declared.form.Form.{Form}
 use Rattle.disco_wire.specs.Wire.{wire_meaning}
-use Rattle.disco_query.specs.Query.{is_delta}
-use Rattle.disco_query.specs.declared.query.Query.{Query}
-use Rattle.disco_query.specs.declared.query.Query.TheVariants as query
-use Rattle.disco_query.specs.declared.key.DocKey.{DocKey}
+use Rattle.disco_values.specs.Query.{is_delta}
+use Rattle.disco_values.specs.declared.query.Query.{Query}
+use Rattle.disco_values.specs.declared.query.Query.TheVariants as query
+use Rattle.disco_values.specs.declared.doc_key.DocKey.{DocKey}
 use Rattle.disco_reconcile.specs.Courses.{AreFetched, Exchange, IsCourse, IsFetched, OfDelta, OfFull, exchange, full_by, doc_key_of, outcome_of}
 use Rattle.disco_reconcile.specs.Told.{FetchAnswer, ToldDocument, told_in_answer}
-use Rattle.disco_reconcile.specs.declared.asking.Document.{Document}
+use Rattle.disco_reconcile.specs.declared.document.Document.{Document}
 use Rattle.disco_reconcile.specs.declared.fetch.Fetched.{Fetched}
 use Rattle.disco_reconcile.specs.declared.refreshed.Refreshed.{Refreshed}
 use Rattle.disco_reconcile.specs.declared.refreshed.Refreshed.TheVariants.{Full, DeltaThenFull}

@@ -5,12 +5,11 @@ ghost use Rattle.disco_reconcile.specs.Courses.{certified_delta, certified_full}
 ghost use Rattle.disco_reconcile.specs.Failures.{Gave};
 ghost use Rattle.disco_reconcile.specs.Steps.{GoesThrough, IsOverlaid, IsPut, IsStep, TakesFull, told_document};
 
-use crate::asking::{Document, ask};
+use crate::document::{Document, ask};
 use crate::fetch::Fetch;
 use crate::refreshed::Refreshed;
 use disco_client::CertifiedCopy;
-use disco_query::Query;
-use disco_values::{Fault, Form};
+use disco_values::{Fault, Form, Query};
 use std::alloc::Global;
 
 /// Takes a document of all apps, which has to be certified, unless the copy doesn't give way to it.

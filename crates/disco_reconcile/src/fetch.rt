@@ -1,14 +1,13 @@
 //! What a client fetches by.
 ghost use Rattle.std.specs.Prelude.{◌≡◌, ◌≤◌, ◌⊎◌, ℕ, Result};
 ghost use Rattle.disco_values.specs.declared.fault.Fault.{Fault};
-ghost use Rattle.disco_query.specs.declared.query.Query.TheVariants.{Apps, Delta};
-ghost use Rattle.disco_query.specs.declared.key.DocKey.{DocKey};
-ghost use Rattle.disco_reader.specs.Causes.{Raises};
+ghost use Rattle.disco_values.specs.declared.query.Query.TheVariants.{Apps, Delta};
+ghost use Rattle.disco_values.specs.declared.doc_key.DocKey.{DocKey};
+ghost use Rattle.disco_http.specs.Causes.{Raises};
 ghost use Rattle.disco_reconcile.specs.Failures.{IsFailure};
 ghost use Rattle.disco_reconcile.specs.declared.fetch.Fetched.{Fetched};
 
-use disco_query::DocKey;
-use disco_values::{Bytes, Cert, Fault};
+use disco_values::{Bytes, Cert, DocKey, Fault};
 
 /// The answer to a request for a document.
 #[derive(Debug, Drop)]

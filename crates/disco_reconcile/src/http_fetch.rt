@@ -2,18 +2,16 @@
 ghost use Rattle.std.specs.Prelude.{◌≡◌, ◌≢◌, ◌≤◌, ℕ, List, Some, IfErr, IfOk, IfSome, OnOk, true, false};
 ghost use Rattle.std.specs.Io.KnownBytes.{Appends};
 ghost use Rattle.disco_values.specs.declared.fault.Fault.TheVariants.{OutOfMemory};
-ghost use Rattle.disco_query.specs.Query.{is_delta};
-ghost use Rattle.disco_reader.specs.Causes.{Raises};
-ghost use Rattle.disco_reader.specs.Replies.{TakesReply};
-ghost use Rattle.disco_reader.specs.Streams.{ahead, reader_limits};
+ghost use Rattle.disco_values.specs.Query.{is_delta};
+ghost use Rattle.disco_http.specs.Causes.{Raises};
+ghost use Rattle.disco_http.specs.Replies.{TakesReply};
+ghost use Rattle.disco_http.specs.Streams.{ahead, reader_limits};
 ghost use Rattle.disco_http.specs.Sinks.{sink_of};
 ghost use Rattle.disco_reconcile.specs.Connection.{BreaksOff, Fails, FetchesBy, failures_of, is_fetch_spent, reader_of, request_text, writer_of};
 
 use crate::fetch::{Fetch, Fetched};
-use disco_http::Writer;
-use disco_query::DocKey;
-use disco_reader::{Reader, ReceivedReply, Sink, Source};
-use disco_values::{Bytes, Fault, Form};
+use disco_http::{Reader, ReceivedReply, Sink, Source, Writer};
+use disco_values::{Bytes, DocKey, Fault, Form};
 use std::alloc::Global;
 
 /// Fetches by `GET`s on one connection, which is kept open. After a reply that ends the connection,

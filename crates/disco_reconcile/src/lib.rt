@@ -6,9 +6,9 @@
 //! certificates of the documents alone.
 #![tactic(auto)]
 
-mod asking;
 mod certified;
 mod client;
+mod document;
 mod fetch;
 mod http_fetch;
 mod kept;

@@ -3,12 +3,11 @@ ghost use Rattle.disco_reconcile.specs.Courses.{plain_delta, plain_full};
 ghost use Rattle.disco_reconcile.specs.Failures.{Gave};
 ghost use Rattle.disco_reconcile.specs.Steps.{GoesThrough, IsStep, TakesFull};
 
-use crate::asking::ask;
+use crate::document::ask;
 use crate::fetch::Fetch;
 use crate::refreshed::Refreshed;
 use disco_client::Copy;
-use disco_query::Query;
-use disco_values::{Fault, Form};
+use disco_values::{Fault, Form, Query};
 use std::alloc::Global;
 
 /// Fetches all apps, which become the copy.

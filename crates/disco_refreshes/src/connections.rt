@@ -2,12 +2,10 @@
 ghost use Rattle.std.specs.Prelude.{◌≡◌};
 
 use crate::streams::{Given, Taking};
-use disco_http::Writer;
+use disco_http::{Counted, Reader, Writer};
 use disco_message::Limits;
-use disco_query::{DocKey, Query};
-use disco_reader::{Counted, Reader};
 use disco_reconcile::{Fetch, Fetched, HttpFetch};
-use disco_values::{Cert, Fault, Form};
+use disco_values::{Cert, DocKey, Fault, Form, Query};
 use std::alloc::Global;
 use std::io::Write;
 

@@ -2,9 +2,8 @@
 use crate::copies::has;
 use crate::samples::{GONE, NONE, ONE};
 use crate::streams::{Given, Taking};
-use disco_http::Writer;
+use disco_http::{Counted, Reader, Writer};
 use disco_message::Limits;
-use disco_reader::{Counted, Reader};
 use disco_reconcile::{Client, Fetch, HttpFetch, Refreshed};
 use disco_values::{Fault, Form};
 use std::alloc::{AllocError, Global};

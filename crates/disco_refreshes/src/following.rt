@@ -1,14 +1,13 @@
 //! Refreshes that are told as lines.
 ghost use Rattle.std.specs.Prelude.{◌≡◌, ◌≤◌, IfErr};
 ghost use Rattle.disco_values.specs.declared.fault.Fault.TheVariants.{NotFetched, OutOfMemory};
-ghost use Rattle.disco_reader.specs.Causes.{Raises};
+ghost use Rattle.disco_http.specs.Causes.{Raises};
 
 use crate::samples::{GONE, ONE};
-use disco_query::DocKey;
-use disco_reader::Counted;
+use disco_follow::follow_client;
+use disco_http::Counted;
 use disco_reconcile::{Client, Fetch, Fetched};
-use disco_telling::follow_client;
-use disco_values::{Bytes, Cert, Fault, Form, Text};
+use disco_values::{Bytes, Cert, DocKey, Fault, Form, Text};
 use std::alloc::Global;
 use std::rt::Clock;
 

@@ -1,11 +1,10 @@
 //! A fetcher that answers by a script.
 ghost use Rattle.std.specs.Prelude.{◌≡◌, ◌≤◌, IfErr};
 ghost use Rattle.disco_values.specs.declared.fault.Fault.TheVariants.{NotFetched, OutOfMemory};
-ghost use Rattle.disco_reader.specs.Causes.{Raises};
+ghost use Rattle.disco_http.specs.Causes.{Raises};
 
-use disco_query::DocKey;
 use disco_reconcile::{Fetch, Fetched};
-use disco_values::{Bytes, Cert, Fault};
+use disco_values::{Bytes, Cert, DocKey, Fault};
 use std::alloc::Global;
 use std::cell::Cell;
 

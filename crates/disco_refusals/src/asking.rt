@@ -1,11 +1,9 @@
 //! What is asked of a desk and of a seat.
 use crate::answers::Answer;
-use disco_editions::{Looked, Naming};
-use disco_press::{Desk, Seat};
-use disco_query::{DocKey, Query};
+use disco_hub::Copied;
+use disco_press::{Desk, Looked, Naming, Seat};
 use disco_registry::Op;
-use disco_rounds::Copied;
-use disco_values::{Fault, Form, Key, Text};
+use disco_values::{DocKey, Fault, Form, Key, Query, Text};
 use disco_wire::read_registration;
 use std::alloc::Global;
 use std::sync::Wait;

@@ -13,9 +13,8 @@ mod answers;
 mod asking;
 
 use asking::{ASKED, answer, look_at_all};
-use disco_editions::Naming;
-use disco_press::{Desk, Opening, Seat, open};
-use disco_settings::Settings;
+use disco_press::{Desk, Naming, Opening, Seat, open};
+use disco_values::Settings;
 use std::io;
 use std::marker::Brand;
 use std::process::ExitCode;

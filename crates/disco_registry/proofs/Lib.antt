@@ -1,4 +1,4 @@
 pub mod Histories
-mod Walking
+mod PlaceSteps
 mod Readies
-mod Placing
+mod RecordsByApp

@@ -2,16 +2,14 @@
 ghost use Rattle.disco_press.specs.Openings.{Opens};
 
 use crate::pieces::Pieces;
-use disco_editions::Naming;
-use disco_http::{Served, Service, Writer, serve};
+use disco_calls::Routes;
+use disco_http::{Counted, Reader, Served, Service, Writer, serve};
 use disco_hub::Hub;
 use disco_message::Limits;
-use disco_press::{Desk, Opening, Seat, open};
-use disco_reader::{Counted, Reader};
-use disco_routes::Routes;
+use disco_press::{Desk, Naming, Opening, Seat, open};
 use disco_server::{DeskService, HubService, Open, ServerContext};
-use disco_settings::Settings;
 use disco_ticks::Ticks;
+use disco_values::Settings;
 use std::alloc::{AllocError, Global};
 use std::io;
 use std::sync::{Mutex, Wait};

@@ -1,6 +1,6 @@
 //! The files of a row.
 use crate::settings::settings_of;
-use disco_settings::Settings;
+use disco_values::Settings;
 use std::io::ErrorKind;
 use std::rt::Files;
 use std::{fs, io};

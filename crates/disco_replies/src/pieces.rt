@@ -1,7 +1,7 @@
 //! Bytes that are read in pieces.
 ghost use Rattle.std.specs.Prelude.{◌<◌};
 
-use disco_reader::{Failed, Source};
+use disco_http::{Failed, Source};
 
 /// Bytes of which a read gives at most so many.
 #[derive(Drop)]

@@ -1,6 +1,5 @@
 //! The settings of a row.
-use disco_digits::number_of_digits;
-use disco_settings::{MOST_INSTANCES, MOST_QUEUE, Settings};
+use disco_values::{MOST_INSTANCES, MOST_QUEUE, Settings, number_of_digits};
 use std::io;
 use std::io::ErrorKind;
 

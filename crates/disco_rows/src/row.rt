@@ -2,10 +2,9 @@
 ghost use Rattle.disco_press.specs.Openings.{Opens};
 
 use crate::meanings::write_meanings;
-use disco_editions::Naming;
-use disco_press::Opening;
+use disco_http::Counted;
+use disco_press::{Naming, Opening};
 use disco_prog::run as run_program;
-use disco_streams::Counted;
 use disco_trials::Outcome;
 use std::alloc::Global;
 use std::io;

@@ -1,18 +1,17 @@
 //! One connection over a hub.
 ghost use Rattle.std.specs.Prelude.{◌≡◌, IfSome, IsFalse, IsTrue};
 ghost use Rattle.disco_values.specs.declared.fault.Fault.TheVariants.{ReadFailed, WriteFailed};
-ghost use Rattle.disco_reader.specs.Causes.{Raises};
-ghost use Rattle.disco_reader.specs.Streams.{ahead, is_spent, reader_limits, source_of};
+ghost use Rattle.disco_http.specs.Causes.{Raises};
+ghost use Rattle.disco_http.specs.Streams.{ahead, is_spent, reader_limits, source_of};
 ghost use Rattle.disco_http.specs.Served.{AnswersAll, left_by};
 ghost use Rattle.disco_http.specs.Sinks.{sink_of};
 ghost use Rattle.disco_http.specs.Sinks as sinks;
-ghost use Rattle.disco_http.specs.declared.serving.End.TheVariants as end;
+ghost use Rattle.disco_http.specs.declared.session.End.TheVariants as end;
 ghost use Rattle.disco_server.specs.Serving.{Serves};
 
+use crate::clock::Clock;
 use crate::service::HubService;
-use disco_http::{Served, Writer, serve};
-use disco_reader::{Reader, Sink, Source};
-use disco_timers::Clock;
+use disco_http::{Reader, Served, Sink, Source, Writer, serve};
 use std::alloc::Global;
 
 /// Answers the requests of a connection over a hub, one after another, until it ends. Then reader and

@@ -1,14 +1,13 @@
 //! A desk that answers the requests of a worker's connections.
 ghost use Rattle.std.specs.Prelude.{◌≡◌};
 
+use crate::clock::Clock;
 use crate::gate::{Gate, Point};
 use disco_answers::{Shared, answer_with};
-use disco_editions::Naming;
+use disco_calls::Routes;
 use disco_http::Service;
 use disco_message::{Reply, Request};
-use disco_press::{Desk, Seat};
-use disco_routes::Routes;
-use disco_timers::Clock;
+use disco_press::{Desk, Naming, Seat};
 use json::Scratch;
 use std::alloc::Global;
 use std::sync::{Mutex, Wait};

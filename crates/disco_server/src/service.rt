@@ -1,12 +1,12 @@
 //! A hub that answers requests by a clock.
 ghost use Rattle.std.specs.Prelude.{◌≡◌};
 
+use crate::clock::Clock;
 use disco_answers::{Shared, answer_hub};
+use disco_calls::Routes;
 use disco_http::Service;
 use disco_hub::Hub;
 use disco_message::{Reply, Request};
-use disco_routes::Routes;
-use disco_timers::Clock;
 use std::alloc::Global;
 
 /// A hub that answers requests, each at the moment that its clock says.

@@ -1,6 +1,6 @@
 //! The client's end of a connection.
+use disco_http::{Counted, Reader, ReceivedReply};
 use disco_message::Limits;
-use disco_reader::{Counted, Reader, ReceivedReply};
 use std::alloc::Global;
 use std::io;
 use std::io::{Read, Write};

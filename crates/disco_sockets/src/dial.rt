@@ -1,5 +1,5 @@
 //! A clock that is turned by hand.
-use disco_timers::Clock;
+use disco_server::Clock;
 use std::rt;
 use std::sync::atomic::{AtomicU64, Ordering};
 use std::thread::sleep;

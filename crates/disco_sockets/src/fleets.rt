@@ -1,9 +1,8 @@
 //! What a fleet says of clients whose copy isn't the registry.
 use disco_client::Copy;
-use disco_fleet::lines_of;
-use disco_query::DocKey;
+use disco_prog::lines_of;
 use disco_reconcile::{Client, Fetch, Fetched};
-use disco_values::{Bytes, Fault, Form};
+use disco_values::{Bytes, DocKey, Fault, Form};
 use disco_wire::read_document;
 use std::alloc::Global;
 

@@ -1,7 +1,7 @@
 //! The command `follow` of the program, beside a server.
 use crate::client::{hears, send, visit};
+use disco_http::Counted;
 use disco_prog::follow;
-use disco_streams::Counted;
 use std::alloc::Global;
 use std::io;
 use std::net::{Ipv4Addr, Net, SocketAddr, TcpListener, TcpStream};

@@ -3,10 +3,9 @@ ghost use Rattle.disco_press.specs.Openings.{Opens};
 
 use crate::client::{hears, is_at_end, send, visit};
 use crate::following::register_and_follow;
-use disco_editions::Naming;
-use disco_press::Opening;
+use disco_http::Counted;
+use disco_press::{Naming, Opening};
 use disco_prog::run;
-use disco_streams::Counted;
 use std::alloc::Global;
 use std::io;
 use std::io::Write;

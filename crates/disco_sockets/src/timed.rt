@@ -2,13 +2,10 @@
 ghost use Rattle.disco_press.specs.Openings.{Opens};
 
 use crate::dial::{Dial, Turned};
-use disco_editions::{Looked, Naming};
-use disco_press::{Desk, Opening, Seat, open};
-use disco_query::{DocKey, Query};
+use disco_press::{Desk, Looked, Naming, Opening, Seat, open};
 use disco_registry::Op;
-use disco_settings::Settings;
-use disco_timers::timers;
-use disco_values::{Fault, Form, Key, Text};
+use disco_server::timers;
+use disco_values::{DocKey, Fault, Form, Key, Query, Settings, Text};
 use disco_wire::read_registration;
 use std::alloc::Global;
 use std::rt;

@@ -1,9 +1,7 @@
 //! What is tried, each on connections of its own.
 use crate::client::{hears, is_at_end, send, visit};
-use disco_editions::{Looked, Naming};
-use disco_press::{Desk, Seat};
-use disco_query::{DocKey, Query};
-use disco_values::Form;
+use disco_press::{Desk, Looked, Naming, Seat};
+use disco_values::{DocKey, Form, Query};
 use std::alloc::Global;
 use std::net::{Net, Shutdown, SocketAddr, TcpStream};
 use std::sync::{Mutex, MutexGuard, Wait};

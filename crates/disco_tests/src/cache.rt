@@ -2,9 +2,8 @@
 use crate::given::{empty_hub, key, record, registration};
 use disco_cache::{DocCache, Payload};
 use disco_hub::Hub;
-use disco_query::{DocKey, Query};
 use disco_registry::Op;
-use disco_values::{Bytes, Fault, Form, Text};
+use disco_values::{Bytes, DocKey, Fault, Form, Query, Text};
 use std::alloc::Global;
 use std::sync::Arc;
 

@@ -3,8 +3,7 @@ use disco_hub::Hub;
 use disco_instance::Record;
 use disco_options::settings_of;
 use disco_registry::Op;
-use disco_settings::Settings;
-use disco_values::{Fault, Key, Text};
+use disco_values::{Fault, Key, Settings, Text};
 use disco_wire::read_registration;
 use std::alloc::{AllocError, Global};
 

@@ -2,10 +2,8 @@
 ghost use Rattle.disco_press.specs.Openings.{Opens};
 
 use crate::given::{cancel, defaults, refusal, registration};
-use disco_editions::{Looked, Naming};
-use disco_press::{Desk, Opening, Seat, open};
-use disco_query::{DocKey, Query};
-use disco_values::{Fault, Form};
+use disco_press::{Desk, Looked, Naming, Opening, Seat, open};
+use disco_values::{DocKey, Fault, Form, Query};
 use std::alloc::Global;
 use std::sync::{Mutex, MutexGuard, Wait};
 use std::thread::{Threads, join};

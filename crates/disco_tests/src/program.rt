@@ -1,7 +1,7 @@
 //! Runs of the program over streams that fail, and over more instances than it holds.
 use crate::given::strings;
-use disco_replay::replay;
-use disco_streams::Counted;
+use disco_http::Counted;
+use disco_prog::replay;
 use disco_trials::difference;
 use disco_values::Fault;
 use std::alloc::{AllocError, Global};

@@ -1,9 +1,7 @@
 //! Rounds of a publisher, by the calls that no event reaches alone.
 use crate::given::{empty_hub, refusal};
-use disco_hub::Hub;
-use disco_query::{DocKey, Query};
-use disco_rounds::Copied;
-use disco_values::{Fault, Form};
+use disco_hub::{Copied, Hub};
+use disco_values::{DocKey, Fault, Form, Query};
 use std::alloc::Global;
 
 /// How the calls of a round are answered, of which one is left before a key is copied, and another one

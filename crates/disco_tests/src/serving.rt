@@ -1,7 +1,6 @@
 //! Connections of which one read or one write fails, each in turn.
-use disco_http::{End, Served, Service, Writer, serve};
+use disco_http::{Counted, End, Reader, Served, Service, Writer, serve};
 use disco_message::{Document, Limits, Reply, Request, StatusLine};
-use disco_reader::{Counted, Reader};
 use disco_values::Fault;
 use std::alloc::{AllocError, Global};
 use std::io;

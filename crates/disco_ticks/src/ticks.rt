@@ -1,5 +1,5 @@
 //! The clock of trials.
-use disco_timers::Clock;
+use disco_server::Clock;
 
 /// A clock that is later each time that it is asked, as far as was said.
 #[derive(Clone, Copy, Debug)]

@@ -1,4 +1,7 @@
 mod Fronts
 mod InUpperCase
 mod Merged
+pub mod Orders
+pub mod Parsed
+pub mod Printed
 mod Puts

@@ -1,10 +1,14 @@
 pub mod Action
+pub mod Digits
 pub mod Entries
 pub mod Fault
 pub mod Front
 pub mod Key
+pub mod Keys
+pub mod Limits
 pub mod Padded
 pub mod Places
+pub mod Query
 pub mod Status
 pub mod Storage
 pub mod Text

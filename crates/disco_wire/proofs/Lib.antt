@@ -1,3 +1,7 @@
+mod Again
+pub mod Back
+pub mod Documents
 pub mod One
-pub mod Telling
+pub mod Texts
+pub mod ToldLists
 pub mod Trees

@@ -2,6 +2,8 @@ pub mod Documents
 pub mod Laws
 pub mod Meaning
 pub mod Registration
+pub mod Rows
 pub mod Steps
 pub mod Tree
+pub mod Trees
 pub mod Wire

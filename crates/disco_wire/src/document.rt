@@ -129,7 +129,7 @@ fn version_of(applications: &Tree<'_>) -> Option<u64>
     }
 }
 
-#[tactic(auto, using(crate::proofs::Telling::step, crate::proofs::Telling::stop))]
+#[tactic(auto, using(crate::proofs::ToldLists::step, crate::proofs::ToldLists::stop))]
 fn push_apps(alloc: Global, out: &mut Vec<Mention>, values: &[Tree<'_>]) -> Result<(), Fault>
     ensures { Gives (λ _. tell_all out.new.items) result (told_on (tell_all out.old.items) (all_told told_item (map view values.now))) }
 {
@@ -168,7 +168,7 @@ fn push_app(alloc: Global, out: &mut Vec<Mention>, app: &Tree<'_>) -> Result<(),
     }
 }
 
-#[tactic(auto, using(crate::proofs::Telling::step, crate::proofs::Telling::stop))]
+#[tactic(auto, using(crate::proofs::ToldLists::step, crate::proofs::ToldLists::stop))]
 fn push_instances(
     alloc: Global,
     out: &mut Vec<Mention>,

@@ -6,10 +6,10 @@ use Rattle.std.specs.declared.alloc.Global.{Global}
 use Rattle.std.specs.declared.sync.Arc.{Arc}
 use Rattle.std.proofs.lemmas.Bool.{eqb-true}
 use Rattle.std.proofs.lemmas.Option.{same_Some}
-use Rattle.disco_query.specs.Query.{is_delta}
-use Rattle.disco_query.specs.declared.key.DocKey.{DocKey}
+use Rattle.disco_values.specs.Query.{is_delta}
+use Rattle.disco_values.specs.declared.doc_key.DocKey.{DocKey}
 use Rattle.disco_cache.specs.declared.payload.Payload.{Payload}
-use Rattle.disco_rounds.specs.Press.{edition_of}
+use Rattle.disco_hub.specs.Press.{edition_of}
 use Rattle.disco_core.specs.Past.{history}
 use Rattle.disco_core.specs.State.{Rules}
 use Rattle.disco_client.specs.Tracks.{Histories}
@@ -25,11 +25,11 @@ use Rattle.disco_world.specs.declared.event.Event.TheVariants.{Step, Take, Certi
 use Rattle.disco_world.specs.declared.event.Step.TheVariants.{Minute}
 use Rattle.disco_world.specs.declared.event.Reply.{Reply}
 use Rattle.disco_world.specs.declared.event.Reply.TheVariants.{Doc}
-use Rattle.disco_world.proofs.Certifying.{IsExact, Rises, given_exact, given_rises, rises_alone}
+use Rattle.disco_world.proofs.CertifiedTakes.{IsExact, Rises, given_exact, given_rises, rises_alone}
 use Rattle.disco_world.proofs.Editions.{Sees, ShowsFresh, sees_at}
 use Rattle.disco_world.proofs.Histories.{Place, below, at, beyond, get_front, get_last, get_past, place_of}
-use Rattle.disco_world.proofs.Growing.{AreNumbered, between, grows, now_is, numbered_at}
-use Rattle.disco_world.proofs.Performing.{certified_are, clients_are}
+use Rattle.disco_world.proofs.LongerHistories.{AreNumbered, between, grows, now_is, numbered_at}
+use Rattle.disco_world.proofs.EffectParts.{certified_are, clients_are}
 use Rattle.disco_world.proofs.Known.{IsOf, at_on, delta_means, full_means, means_on, of_now, of_on, readable}
 
 -- ---- what is true after each event

@@ -7,21 +7,21 @@ use Rattle.std.specs.Ordering.{is_eq}
 use Rattle.std.specs.declared.cmp.Ordering.{Ordering}
 use Rattle.std.specs.declared.cmp.Ordering.TheVariants.{Less, Equal, Greater}
 use Rattle.disco_history.specs.Change.{Entry}
-use Rattle.disco_query.specs.Keys.{doc_cmp, same_doc}
-use Rattle.disco_query.specs.declared.key.DocKey.{DocKey}
+use Rattle.disco_values.specs.Keys.{doc_cmp, same_doc}
+use Rattle.disco_values.specs.declared.doc_key.DocKey.{DocKey}
 use Rattle.disco_cache.specs.declared.payload.Payload.{Payload}
-use Rattle.disco_query.proofs.Orders.{docs_total, exact_docs}
+use Rattle.disco_values.proofs.Orders.{docs_total, exact_docs}
 use Rattle.disco_core.specs.State.{Rules}
-use Rattle.disco_rounds.specs.Press.{Edition, IsPublishable, begin, change, copied_in, doc, edition_of, gone}
+use Rattle.disco_hub.specs.Press.{Edition, IsPublishable, begin, change, copied_in, doc, edition_of, gone}
 use Rattle.disco_hub.specs.State.{MayServe}
-use Rattle.disco_rounds.specs.declared.copied.Copied.TheVariants as copied
-use Rattle.disco_rounds.proofs.Notes.{copied-begin, copied-doc, copied-gone}
+use Rattle.disco_hub.specs.declared.copied.Copied.TheVariants as copied
+use Rattle.disco_hub.proofs.Notes.{copied-begin, copied-doc, copied-gone}
 use Rattle.disco_world.specs.Answers.{AreAnswers, IsAnswer}
 use Rattle.disco_world.specs.Events.{Effect, World, begins, copies, publishes, restarts, after, after_at, effect, world}
 use Rattle.disco_world.specs.Steps.{changes_since, is_plain, past_after}
 use Rattle.disco_world.specs.Rounds.{Press, all_of, press_from}
 use Rattle.disco_world.specs.declared.event.Event.{Event}
-use Rattle.disco_world.proofs.Performing.{press_is}
+use Rattle.disco_world.proofs.EffectParts.{press_is}
 use Rattle.disco_hub.proofs.Levels.{copied_changes}
 use Rattle.disco_world.specs.declared.event.Reply.{Reply}
 use Rattle.disco_world.specs.declared.event.Reply.TheVariants.{Begun, Copied, Published, Restarted}

@@ -7,11 +7,11 @@ use Rattle.std.proofs.lemmas.Option.{slice_get-get_or, same_Some}
 use Rattle.disco_cache.specs.declared.payload.Payload.{Payload}
 use Rattle.disco_core.specs.State.{Rules}
 use Rattle.disco_core.specs.Past.{history, nothing}
-use Rattle.disco_rounds.specs.Press.{IsPublishable}
-use Rattle.disco_rounds.specs.Rounds.{KeySet, Round, Rounds}
+use Rattle.disco_hub.specs.Press.{IsPublishable}
+use Rattle.disco_hub.specs.Rounds.{KeySet, Round, Rounds}
 use Rattle.disco_hub.specs.State.{MayServe, HubStandsFor, rules_of}
 use Rattle.disco_hub.proofs.Levels.{first_levels}
-use Rattle.disco_rounds.proofs.Pressed.{first_pressed}
+use Rattle.disco_hub.proofs.Pressed.{first_pressed}
 use Rattle.std.specs.FinMap.{empty}
 use Rattle.disco_world.specs.Answers.{AreAnswers, AreServed, IsAnswer, IsFirstBadEvent, IsPressState, IsServed, key_asked}
 use Rattle.disco_world.specs.Caching.{AreCached, Cache, Caches, new_cache}
@@ -19,10 +19,10 @@ use Rattle.disco_world.specs.Levels.{AreLevelsOf, AnswersEvent}
 use Rattle.disco_world.specs.declared.levels.CacheLevels.{CacheLevels}
 use Rattle.disco_world.proofs.Rooms.{room_stays}
 use Rattle.disco_world.proofs.Editions.{Sees, ShowsFresh, sees_at}
-use Rattle.disco_world.proofs.Performing.{certified_are, clients_are}
+use Rattle.disco_world.proofs.EffectParts.{certified_are, clients_are}
 use Rattle.disco_values.specs.declared.fault.Fault.{Fault}
 use Rattle.disco_values.specs.declared.fault.Fault.TheVariants.{BadEvent}
-use Rattle.disco_query.specs.declared.key.DocKey.{DocKey}
+use Rattle.disco_values.specs.declared.doc_key.DocKey.{DocKey}
 use Rattle.disco_world.specs.Events.{Effect, World, writes, loads, cleans, closes, expires, begins, copies, publishes, looks, takes, certifies, shows, shows_certified, restarts, bad, after, after_at, effect, new_world, world}
 use Rattle.disco_world.specs.Steps.{AreHeld, Holders, cache_of}
 use Rattle.disco_world.specs.declared.event.Event.{Event}

@@ -16,18 +16,17 @@ use Rattle.disco_history.proofs.Overlays.{copy_law, overlay_law}
 use Rattle.std.proofs.lemmas.List.{length-append, take-append-le, take-take, take_all}
 use Rattle.disco_history.specs.Query.{all}
 use Rattle.disco_history.proofs.Restrictions.{values-said_all}
-use Rattle.disco_wire.specs.Documents.{document_of}
+use Rattle.disco_wire.specs.Documents.{document_of, IsTrueFor, MeansFor, meaning_for, mentioned, kind}
 use Rattle.disco_wire.specs.Meaning.{Meaning}
-use Rattle.disco_documents.specs.Documents.{IsTrueFor, MeansFor, meaning_for, mentioned, kind}
-use Rattle.disco_query.specs.Query.{is_delta}
-use Rattle.disco_documents.specs.Rows.{mentions_in}
-use Rattle.disco_query.specs.declared.query.Query.{Query}
-use Rattle.disco_query.specs.declared.query.Query.TheVariants as query
+use Rattle.disco_values.specs.Query.{is_delta}
+use Rattle.disco_wire.specs.Rows.{mentions_in}
+use Rattle.disco_values.specs.declared.query.Query.{Query}
+use Rattle.disco_values.specs.declared.query.Query.TheVariants as query
 use Rattle.disco_cache.specs.Payloads.{IsTrue, cert_of}
 use Rattle.disco_cache.specs.declared.payload.Payload.{Payload}
 use Rattle.disco_client.specs.Tracks.{Histories, IsVersionIn, known_at, moved}
 use Rattle.disco_client.specs.declared.known.Known.{Known}
-use Rattle.disco_client.proofs.Moves.{Moves, moves}
+use Rattle.disco_client.proofs.KnownVersions.{Moves, moves}
 use Rattle.disco_world.specs.Clients.{MeansVersion, client_after, taken_by}
 use Rattle.disco_world.specs.Events.{for_clients}
 use Rattle.disco_world.specs.Steps.{IsReadable}

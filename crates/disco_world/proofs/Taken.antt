@@ -5,7 +5,7 @@ use Rattle.disco_values.specs.declared.fault.Fault.{Fault}
 use Rattle.disco_values.specs.declared.fault.Fault.TheVariants.{OutOfMemory}
 use Rattle.disco_wire.specs.Documents.{document_of}
 use Rattle.disco_wire.specs.Meaning.{Meaning}
-use Rattle.disco_query.specs.Query.{is_delta}
+use Rattle.disco_values.specs.Query.{is_delta}
 use Rattle.disco_cache.specs.declared.payload.Payload.{Payload}
 use Rattle.disco_client.specs.declared.certified.CertifiedCopy.{CertifiedCopy}
 use Rattle.disco_client.specs.declared.known.Known.{Known}
@@ -18,7 +18,7 @@ use Rattle.disco_world.specs.Steps.{AreHeld, ClientIsGiven, ClientTakes, Holders
 use Rattle.disco_world.specs.declared.clients.Client.{Client}
 use Rattle.disco_world.specs.declared.instance_summary.InstanceSummary.{InstanceSummary}
 use Rattle.disco_world.specs.declared.event.Reply.TheVariants.{Refused}
-use Rattle.disco_world.proofs.Certifying.{none_given}
+use Rattle.disco_world.proofs.CertifiedTakes.{none_given}
 use Rattle.disco_world.proofs.Known.{taken_from}
 
 -- where a document leaves no copy there was none

@@ -9,7 +9,7 @@ use Rattle.disco_core.specs.Past.{Past, after_ask, history, with_done}
 use Rattle.disco_core.specs.State.{Rules}
 use Rattle.disco_hub.specs.State.{HubState, HubStandsFor, rules_of}
 use Rattle.disco_hub.specs.Transitions.{Declines, IsDocOf, Loads, Withholds, Writes}
-use Rattle.disco_query.specs.declared.key.DocKey.{DocKey}
+use Rattle.disco_values.specs.declared.doc_key.DocKey.{DocKey}
 use Rattle.disco_cache.specs.declared.payload.Payload.{Payload}
 use Rattle.std.specs.Option.{option_map_or}
 use Rattle.std.specs.declared.alloc.Global.{Global}
@@ -34,9 +34,9 @@ use Rattle.disco_hub.specs.Kept.{Forgets, IsAsKept}
 use Rattle.disco_world.specs.Caching.{Caches}
 use Rattle.disco_world.specs.Steps.{AreHeld, Performs, Holders, cache_of, certified_done, change_made, clients_done, is_plain, past_after, past_done, reply_of, reply_to, with_clients}
 use Rattle.disco_world.specs.declared.levels.CacheLevels.{CacheLevels}
-use Rattle.disco_world.proofs.Growing.{extends_so, goes_on, run_on}
-use Rattle.disco_world.proofs.Performing.{noted_to, past_is, press_is}
-use Rattle.disco_world.proofs.Turning.{plainly}
+use Rattle.disco_world.proofs.LongerHistories.{extends_so, goes_on, run_on}
+use Rattle.disco_world.proofs.EffectParts.{noted_to, past_is, press_is}
+use Rattle.disco_world.proofs.LevelEffects.{plainly}
 use Rattle.disco_world.specs.declared.event.Reply.TheVariants.{Refused}
 
 -- what a hub does is done after all that it stands for

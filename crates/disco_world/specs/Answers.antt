@@ -9,12 +9,11 @@ use Rattle.disco_history.specs.Change.{Entry}
 use Rattle.disco_hub.specs.Expiry.{IsExpired}
 use Rattle.disco_core.specs.Past.{cleaned, history, minute_closed, taken_in}
 use Rattle.disco_core.specs.State.{Rules}
-use Rattle.disco_rounds.specs.Press as press
-use Rattle.disco_rounds.specs.Press.{edition_of}
-use Rattle.disco_rounds.specs.Rounds.{KeySet, Round}
+use Rattle.disco_hub.specs.Press as press
+use Rattle.disco_hub.specs.Press.{edition_of, key_of_copy}
+use Rattle.disco_hub.specs.Rounds.{KeySet, Round}
 use Rattle.disco_hub.specs.State.{IsCopied, MayServe}
-use Rattle.disco_rounds.specs.Press.{key_of_copy}
-use Rattle.disco_query.specs.declared.key.DocKey.{DocKey}
+use Rattle.disco_values.specs.declared.doc_key.DocKey.{DocKey}
 use Rattle.disco_cache.specs.declared.payload.Payload.{Payload}
 use Rattle.disco_client.specs.Tracks.{IsVersionIn}
 use Rattle.disco_client.specs.declared.certified.CertifiedCopy.{CertifiedCopy}

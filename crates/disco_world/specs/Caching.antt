@@ -7,9 +7,9 @@ use Rattle.disco_history.specs.Registry.{registry_of}
 use Rattle.disco_cache.specs.Docs.{Docs}
 use Rattle.disco_core.specs.Past.{Past, history, taken_in}
 use Rattle.disco_core.specs.State.{Rules}
-use Rattle.disco_rounds.specs.Press.{is_doc, key_of_copy}
-use Rattle.disco_rounds.specs.Rounds.{Advances, Begins, Ends, Rounds, round_keys}
-use Rattle.disco_rounds.specs.declared.copied.Copied as copied
+use Rattle.disco_hub.specs.Press.{is_doc, key_of_copy}
+use Rattle.disco_hub.specs.Rounds.{Advances, Begins, Ends, Rounds, round_keys}
+use Rattle.disco_hub.specs.declared.copied.Copied as copied
 use Rattle.disco_hub.specs.Expiry.{ForgetsEach}
 use Rattle.disco_hub.specs.Kept.{Forgets, IsAsKept, IsCopiedAsKept, KeepsAtMost}
 use Rattle.disco_world.specs.Answers.{IsPressState}

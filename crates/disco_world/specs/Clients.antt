@@ -8,7 +8,7 @@ use Rattle.disco_instance.specs.Row.{Row}
 use Rattle.disco_history.specs.Mentions.{copied, overlay}
 use Rattle.disco_wire.specs.Documents.{document_of}
 use Rattle.disco_wire.specs.Meaning.{Meaning}
-use Rattle.disco_query.specs.Query.{is_delta}
+use Rattle.disco_values.specs.Query.{is_delta}
 use Rattle.disco_cache.specs.Payloads.{cert_of}
 use Rattle.disco_cache.specs.declared.payload.Payload.{Payload}
 use Rattle.disco_client.specs.Copies.{hash_equal}

@@ -10,15 +10,15 @@ use Rattle.disco_registry.specs.Accept.{accept_after}
 use Rattle.disco_registry.specs.Op.{OpView, cancel, renew, set_status, drop_status, add_metadata}
 use Rattle.disco_wire.specs.Registration.{registration_of}
 use Rattle.disco_operations.specs.Operations.{key_named, registers}
-use Rattle.disco_query.specs.declared.key.DocKey.{DocKey}
+use Rattle.disco_values.specs.declared.doc_key.DocKey.{DocKey}
 use Rattle.disco_hub.specs.Expiry.{cancelled}
-use Rattle.disco_rounds.specs.Press as press
-use Rattle.disco_rounds.specs.Press.{note_of}
+use Rattle.disco_hub.specs.Press as press
+use Rattle.disco_hub.specs.Press.{note_of}
 use Rattle.disco_core.specs.Past.{Past, after_ask, cleaned, history, minute_closed, nothing, taken_in}
 use Rattle.disco_core.specs.Refusals.{loaded, loaded_by_id}
 use Rattle.disco_core.specs.State.{Rules}
-use Rattle.disco_query.specs.declared.query.Query.{Query}
-use Rattle.disco_query.specs.declared.query.Query.TheVariants as query
+use Rattle.disco_values.specs.declared.query.Query.{Query}
+use Rattle.disco_values.specs.declared.query.Query.TheVariants as query
 use Rattle.disco_cache.specs.declared.payload.Payload.{Payload}
 use Rattle.disco_client.specs.Tracks.{Histories}
 use Rattle.disco_client.specs.declared.certified.CertifiedCopy.{CertifiedCopy}

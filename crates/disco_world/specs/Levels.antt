@@ -2,14 +2,13 @@
 use Rattle.std.specs.Prelude.{◌≡◌, length, Some, None, option_map}
 use Rattle.std.specs.FinMap.{get}
 use Rattle.disco_values.specs.declared.fault.Fault.TheVariants.{OutOfMemory}
-use Rattle.disco_query.specs.declared.key.DocKey.{DocKey}
+use Rattle.disco_values.specs.declared.doc_key.DocKey.{DocKey}
 use Rattle.disco_core.specs.State.{Rules}
 use Rattle.disco_hub.specs.Levels.{AreLevels}
-use Rattle.disco_rounds.specs.Press.{put_copy}
-use Rattle.disco_rounds.specs.Press.{Edition, edition_of}
+use Rattle.disco_hub.specs.Press.{put_copy, Edition, edition_of}
 use Rattle.disco_hub.specs.State.{HubState, rules_of}
 use Rattle.disco_hub.specs.Transitions.{CopiesOne}
-use Rattle.disco_rounds.specs.declared.copied.Copied.{Copied}
+use Rattle.disco_hub.specs.declared.copied.Copied.{Copied}
 use Rattle.disco_world.specs.Answers.{IsAnswer}
 use Rattle.disco_world.specs.Events.{Effect, World, after, effect, query_asked}
 use Rattle.disco_world.specs.Rounds.{left_in}

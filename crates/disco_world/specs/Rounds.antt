@@ -4,9 +4,9 @@ use Rattle.std.specs.FinMap.{get}
 use Rattle.std.specs.List.{flat_map}
 use Rattle.disco_values.specs.declared.fault.Fault.{Fault}
 use Rattle.disco_values.specs.declared.fault.Fault.TheVariants.{KeysLeft, NoRound}
-use Rattle.disco_query.specs.declared.key.DocKey.{DocKey}
+use Rattle.disco_values.specs.declared.doc_key.DocKey.{DocKey}
 use Rattle.disco_cache.specs.declared.payload.Payload.{Payload}
-use Rattle.disco_rounds.specs.Press.{Note, edition_of, step}
+use Rattle.disco_hub.specs.Press.{Note, edition_of, step}
 
 -- of the run that is running: the notes that were published, those since, how many keys the round has that began last, and how many events there were
 -- up to its beginning, and up to that of the round published last, or up to the run's where there is none

@@ -4,7 +4,7 @@ ghost use Rattle.std.specs.BTreeMap as tree;
 ghost use Rattle.std.specs.Ordering.{nat_cmp};
 ghost use Rattle.disco_values.specs.declared.fault.Fault.TheVariants.{OutOfMemory};
 ghost use Rattle.disco_wire.specs.Wire.{wire_meaning};
-ghost use Rattle.disco_query.specs.Query.{is_delta};
+ghost use Rattle.disco_values.specs.Query.{is_delta};
 ghost use Rattle.disco_cache.specs.Payloads.{cert_of};
 ghost use Rattle.disco_client.specs.Tracks.{reaches, same_form};
 ghost use Rattle.disco_world.specs.Steps.{ClientIsGiven, IsMeant, IsReadable, IsTurned};

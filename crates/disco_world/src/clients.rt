@@ -6,7 +6,7 @@ ghost use Rattle.disco_instance.specs.Row.{row};
 ghost use Rattle.disco_values.specs.declared.fault.Fault.TheVariants.{OutOfMemory};
 ghost use Rattle.disco_client.specs.Copies.{hash_equal};
 ghost use Rattle.disco_wire.specs.Wire.{wire_meaning};
-ghost use Rattle.disco_query.specs.Query.{is_delta};
+ghost use Rattle.disco_values.specs.Query.{is_delta};
 ghost use Rattle.disco_world.specs.Clients.{summaries};
 ghost use Rattle.disco_world.specs.Steps.{IsMeant, IsReadable, ClientTakes, summary_of};
 

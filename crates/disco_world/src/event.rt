@@ -1,11 +1,9 @@
 //! Events and their replies.
 use crate::instance_summary::InstanceSummaries;
 use disco_cache::Payload;
-use disco_hub::Expired;
+use disco_hub::{Copied, Expired};
 use disco_lease::Minute;
-use disco_query::DocKey;
-use disco_rounds::Copied;
-use disco_values::{Bytes, Entries, Fault, Form, Text};
+use disco_values::{Bytes, DocKey, Entries, Fault, Form, Text};
 use std::alloc::Global;
 use std::sync::Arc;
 

@@ -9,7 +9,7 @@ ghost use Rattle.disco_world.specs.Steps.{cache_of};
 
 use disco_cache::Edition;
 use disco_hub::Hub;
-use disco_settings::Settings;
+use disco_values::Settings;
 use json::Scratch;
 use std::alloc::Global;
 

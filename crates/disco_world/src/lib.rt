@@ -17,10 +17,10 @@ mod restarts;
 mod rounds;
 mod runs;
 mod steps;
-mod telling;
+mod tell;
 
 pub use event::{Event, Reply, Step};
 pub use instance_summary::{InstanceSummaries, InstanceSummary};
 pub use runs::run;
 pub use steps::Steps;
-pub use telling::{Finished, Tell, run_to};
+pub use tell::{Finished, Tell, run_to};

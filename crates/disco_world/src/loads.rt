@@ -11,8 +11,7 @@ use crate::event::Reply;
 use disco_cache::Payload;
 use disco_hub::Hub;
 use disco_operations::key_named;
-use disco_query::{DocKey, Query};
-use disco_values::{Fault, Form, Text, upper};
+use disco_values::{DocKey, Fault, Form, Query, Text, upper};
 use std::alloc::Global;
 use std::sync::Arc;
 

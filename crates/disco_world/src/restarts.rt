@@ -7,8 +7,7 @@ ghost use Rattle.disco_world.specs.Levels.{Turns};
 
 use crate::event::Reply;
 use crate::levels::CacheLevels;
-use disco_settings::Settings;
-use disco_values::Fault;
+use disco_values::{Fault, Settings};
 use std::alloc::Global;
 
 /// The same limits and choices in another run.

@@ -32,10 +32,8 @@ use crate::rounds::{begin, copy, look, publish};
 use disco_cache::Payload;
 use disco_hub::Hub;
 use disco_operations::register_with;
-use disco_query::Query;
 use disco_registry::{Applied, Op};
-use disco_settings::Settings;
-use disco_values::{Fault, Key};
+use disco_values::{Fault, Key, Query, Settings};
 use std::alloc::Global;
 
 /// Runs the events in order from an empty registry, in the run that the settings name, and answers

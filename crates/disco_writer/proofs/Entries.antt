@@ -7,7 +7,7 @@ use Rattle.json.specs.Tree.{members_tokens}
 use Rattle.serde_json.specs.Written.{members_outline}
 use Rattle.disco_writer.specs.Fields.{metadata_members}
 use Rattle.disco_writer.specs.Groups.{AppendsUtf8, entries_text, entry_member}
-use Rattle.disco_writer.proofs.Appending.{before, both, renamed}
+use Rattle.disco_writer.proofs.AppendedTexts.{before, both, renamed}
 
 one_entry : (name text rest : List ℕ) → (quoted name ++ (codes ":" ++ quoted text)) ++ rest ≡ (quoted name ++ codes ":") ++ (quoted text ++ rest)
 one_entry name text rest = append_assoc (quoted name) (codes ":" ++ quoted text) rest ∙ sym (append_assoc (quoted name) (codes ":") (quoted text ++ rest))

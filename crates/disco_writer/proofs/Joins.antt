@@ -17,11 +17,11 @@ use Rattle.disco_writer.specs.Joined.{text_of_entry, shown, Shown, AreTextsOf, i
 use Rattle.disco_wire.specs.Documents.{document_of}
 use Rattle.disco_wire.specs.Meaning.{meant}
 use Rattle.disco_wire.specs.declared.wire.Shape.TheVariants.{Many, App, One}
-use Rattle.disco_documents.specs.Rows.{AreWellFormed, mentions_in}
-use Rattle.disco_documents.proofs.Documents.{document_law, app_law, one_law}
+use Rattle.disco_wire.specs.Rows.{AreWellFormed, mentions_in}
+use Rattle.disco_wire.proofs.Documents.{document_law, app_law, one_law}
 use Rattle.disco_writer.proofs.Readable.{text_again, document_again, app_document_again, instance_document_again}
 use Rattle.disco_writer.proofs.Plain.{read_again, document_depth, app_document_depth, instance_document_depth}
-use Rattle.disco_documents.specs.Trees.{instance_tree, app_tree, by_app, with_first, document_tree, app_document, instance_document}
+use Rattle.disco_wire.specs.Trees.{instance_tree, app_tree, by_app, with_first, document_tree, app_document, instance_document}
 
 abbrev Groups : Type 0
 Groups = List (List ℕ × List Entry)

@@ -1,8 +1,8 @@
-mod Appending
+mod AppendedTexts
 mod Apps
 mod Entries
 mod Escapes
-mod Grouping
+mod GroupTexts
 mod Joins
 pub mod KeptLaws
 mod Keyed

@@ -11,14 +11,13 @@ use Rattle.disco_history.specs.Query.{Selector, all, is_absent, may_be_empty, re
 use Rattle.disco_history.specs.Registry.{registry_of}
 use Rattle.disco_history.proofs.Restrictions.{len-restrict, values-restrict, values-said_all}
 use Rattle.disco_history.proofs.Sets.{values-reg}
-use Rattle.disco_wire.specs.Documents.{document_of}
+use Rattle.disco_wire.specs.Documents.{document_of, IsWritten, asked_by, hash_of, if_many, kind, mentioned, told}
 use Rattle.disco_wire.specs.Meaning.{meant}
 use Rattle.disco_wire.specs.declared.wire.Shape.TheVariants.{Many}
-use Rattle.disco_documents.specs.Documents.{IsWritten, asked_by, hash_of, if_many, kind, mentioned, told}
-use Rattle.disco_query.specs.Query.{is_delta}
-use Rattle.disco_documents.specs.Rows.{mentions_in, rows_in}
-use Rattle.disco_documents.specs.Trees.{document_tree, tree_of}
-use Rattle.disco_query.specs.declared.query.Query.{Query}
+use Rattle.disco_values.specs.Query.{is_delta}
+use Rattle.disco_wire.specs.Rows.{mentions_in, rows_in}
+use Rattle.disco_wire.specs.Trees.{document_tree, tree_of}
+use Rattle.disco_values.specs.declared.query.Query.{Query}
 
 is_some_number : (n : ℕ) → 0 < n → (n == 0) ≡ false
 is_some_number n some = grind (arith, nat_tests, some)

@@ -7,11 +7,11 @@ ghost use Rattle.disco_queue.specs.Latest.{AreOfKeys, latest_key};
 ghost use Rattle.disco_queue.specs.Queue.{KeepsHistory};
 ghost use Rattle.disco_queue.specs.Timed.{Timed, changes};
 ghost use Rattle.disco_registry.specs.State.{StandsFor};
-ghost use Rattle.disco_documents.specs.Documents.{IsWritten};
+ghost use Rattle.disco_wire.specs.Documents.{IsWritten};
 ghost use Rattle.disco_writer.specs.InOrder.{AreTheirs};
 ghost use Rattle.disco_writer.specs.Joined.{AreJoinedTexts, IsJoinedText, IsToldText, shown_by, shown_one, texts_by, told_by, told_one};
 ghost use Rattle.disco_writer.specs.Kept.{AreKept};
-ghost use Rattle.disco_query.specs.declared.query.Query.TheVariants as query;
+ghost use Rattle.disco_values.specs.declared.query.Query.TheVariants as query;
 
 use crate::in_order::{KeyedText, text_from, texts_beside};
 use crate::join::join_many;

@@ -10,16 +10,15 @@ ghost use Rattle.disco_index.specs.Vips.{IsIndexOf};
 ghost use Rattle.disco_queue.specs.Queue.{KeepsHistory};
 ghost use Rattle.disco_queue.specs.Timed.{Timed, changes};
 ghost use Rattle.disco_registry.specs.State.{StandsFor};
-ghost use Rattle.disco_wire.specs.Documents.{document_of};
+ghost use Rattle.disco_wire.specs.Documents.{document_of, IsWritten};
 ghost use Rattle.disco_wire.specs.Meaning.{meant};
 ghost use Rattle.disco_wire.specs.declared.wire.Shape.TheVariants.{Many};
-ghost use Rattle.disco_documents.specs.Documents.{IsWritten};
-ghost use Rattle.disco_query.specs.Query.{is_delta};
-ghost use Rattle.disco_documents.specs.Rows.{held_entries, mentions_in, rows_in};
-ghost use Rattle.disco_documents.specs.Trees.{document_tree};
+ghost use Rattle.disco_values.specs.Query.{is_delta};
+ghost use Rattle.disco_wire.specs.Rows.{held_entries, mentions_in, rows_in};
+ghost use Rattle.disco_wire.specs.Trees.{document_tree};
 ghost use Rattle.disco_writer.specs.Joined.{AllAgree};
 ghost use Rattle.disco_writer.specs.Kept.{AreKept};
-ghost use Rattle.disco_query.specs.declared.query.Query.TheVariants as query;
+ghost use Rattle.disco_values.specs.declared.query.Query.TheVariants as query;
 
 use crate::delta::write_delta;
 use crate::join::join_many;
@@ -28,10 +27,9 @@ use crate::selected::{count, held_under_svip, held_under_vip};
 use crate::texts::Texts;
 use disco_history::Held;
 use disco_index::{Counts, VipIndex};
-use disco_query::Query;
 use disco_queue::ChangedQueue;
 use disco_registry::Registry;
-use disco_values::{Fault, Form, Key, Text};
+use disco_values::{Fault, Form, Key, Query, Text};
 use std::alloc::Global;
 
 /// The document that a query asks for in a form, as compact JSON; `None` exactly where the query is

@@ -22,7 +22,7 @@ mod selected;
 mod text_buffer;
 mod texts;
 
-pub use disco_query::Query;
+pub use disco_values::Query;
 pub use document::{write_document, write_full};
 pub use instance::{text_full, write_text, write_texts};
 pub use room::{Room, room_for};

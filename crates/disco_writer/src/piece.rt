@@ -3,7 +3,7 @@ ghost use Rattle.std.specs.Prelude.{◌≡◌, IfErr, IfOk, None};
 ghost use Rattle.disco_values.specs.declared.fault.Fault.TheVariants.{OutOfMemory};
 ghost use Rattle.disco_instance.specs.Row.{row};
 ghost use Rattle.disco_history.specs.Held.{entry_of};
-ghost use Rattle.disco_documents.specs.Rows.{held_entries};
+ghost use Rattle.disco_wire.specs.Rows.{held_entries};
 ghost use Rattle.disco_writer.specs.Joined.{AreJoinedTexts, IsJoinedText, IsToldText, bytes_of, shown_by, shown_one, texts_by, told_by, told_one};
 
 use crate::instance::write_text;

@@ -8,10 +8,9 @@ use crate::selected::{held_under_svip, held_under_vip};
 use crate::texts::Texts;
 use disco_history::Held;
 use disco_index::VipIndex;
-use disco_query::Query;
 use disco_queue::ChangedQueue;
 use disco_registry::Registry;
-use disco_values::{Form, Text};
+use disco_values::{Form, Query, Text};
 use std::alloc::{AllocError, Global};
 
 /// How many instances a document names at least for room to be made before it is written. What fewer

@@ -7,7 +7,7 @@ ghost use Rattle.disco_history.specs.Query.{asks_for, of_secure_vip};
 ghost use Rattle.disco_index.specs.Tally.{tally_of};
 ghost use Rattle.disco_index.specs.Vips.{under};
 ghost use Rattle.disco_history.specs.Held.{entry_of};
-ghost use Rattle.disco_documents.specs.Rows.{held_entries, rows_in};
+ghost use Rattle.disco_wire.specs.Rows.{held_entries, rows_in};
 
 use disco_history::Held;
 use disco_index::{Counts, VipIndex, has_vip};

@@ -2,10 +2,10 @@
 //! that its commands answer for.
 #![tactic(auto)]
 
+use disco_http::Counted;
 use disco_options::without_words;
 use disco_press::Opening;
 use disco_prog::run;
-use disco_streams::Counted;
 use std::marker::Brand;
 use std::process::ExitCode;
 use std::{env, io};

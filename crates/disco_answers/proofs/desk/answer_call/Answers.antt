@@ -4,8 +4,8 @@ use Rattle.disco_calls.specs.declared.call.Call.{Call}
 use Rattle.disco_message.specs.ReplyText.{reply_view}
 use Rattle.disco_answers.specs.Desks.{IsAnsweredOn}
 use Rattle.disco_answers.specs.Replies.{shared_text}
-use Rattle.disco_answers.proofs.Answering.{lacked}
-use Rattle.disco_answers.proofs.Noting.{quiet_on}
+use Rattle.disco_answers.proofs.HubAnswers.{lacked}
+use Rattle.disco_answers.proofs.DeskAnswers.{quiet_on}
 use Rattle.disco_answers.proofs.desk.answer_call.Goals as goal
 
 pub returns-in-Load-clause-answered : goal.returns-in-Load-clause-answered

@@ -1,4 +1,4 @@
-use Rattle.disco_answers.proofs.Noting.{call_on, refused_on}
+use Rattle.disco_answers.proofs.DeskAnswers.{call_on, refused_on}
 use Rattle.disco_answers.proofs.desk.answer_called.Goals as goal
 
 pub returns-in-Ok-clause-answered : goal.returns-in-Ok-clause-answered

@@ -1,7 +1,7 @@
 use Rattle.std.proofs.Common.{ap, sym, ◌∙◌}
 use Rattle.disco_press.specs.Desks.{DeskState, notes_of}
 use Rattle.disco_press.specs.Seats.{SeatState}
-use Rattle.disco_answers.proofs.Noting.{learnt}
+use Rattle.disco_answers.proofs.DeskAnswers.{learnt}
 use Rattle.disco_answers.proofs.desk.answer_read.Goals as goal
 
 pub returns-clause-answered : goal.returns-clause-answered

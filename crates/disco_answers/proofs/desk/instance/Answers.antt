@@ -1,4 +1,4 @@
-use Rattle.disco_answers.proofs.Answering.{instance_so}
+use Rattle.disco_answers.proofs.HubAnswers.{instance_so}
 use Rattle.disco_answers.proofs.desk.instance.Goals as goal
 
 pub returns : goal.returns

@@ -2,7 +2,7 @@ use Rattle.std.proofs.Common.{◌≡◌, Result, Ok, Err, OnErr, ap}
 use Rattle.disco_values.specs.declared.fault.Fault.{Fault}
 use Rattle.disco_press.specs.Desks.{DeskState}
 use Rattle.disco_hub.proofs.Rests.{loaded_stands}
-use Rattle.disco_answers.proofs.Answering.{load_so}
+use Rattle.disco_answers.proofs.HubAnswers.{load_so}
 use Rattle.disco_answers.proofs.desk.load.Goals as goal
 
 as_before : {A : Type 0} (old new : DeskState) (r : Result A Fault) → OnErr r (new ≡ old) → OnErr r (new.hub ≡ old.hub)

@@ -3,8 +3,8 @@ use Rattle.disco_message.specs.ReplyText.{reply_view}
 use Rattle.disco_message.specs.declared.status_line.StatusLine.{StatusLine}
 use Rattle.disco_registry.specs.Op.{op_view}
 use Rattle.disco_answers.specs.Replies.{plain, refusal_answer, shared_text}
-use Rattle.disco_answers.proofs.Answering.{changes_by, written}
-use Rattle.disco_answers.proofs.Noting.{counts, counts_too, notes}
+use Rattle.disco_answers.proofs.HubAnswers.{changes_by, written}
+use Rattle.disco_answers.proofs.DeskAnswers.{counts, counts_too, notes}
 use Rattle.disco_answers.proofs.desk.write.Goals as goal
 
 pub returns-clause-answered : goal.returns-clause-answered

@@ -3,7 +3,7 @@ use Rattle.disco_calls.specs.Calls.{call_view}
 use Rattle.disco_calls.specs.declared.call.Call.{Call}
 use Rattle.disco_message.specs.ReplyText.{reply_view}
 use Rattle.disco_answers.specs.Replies.{IsAnswered, shared_text}
-use Rattle.disco_answers.proofs.Answering.{lacked}
+use Rattle.disco_answers.proofs.HubAnswers.{lacked}
 use Rattle.disco_answers.proofs.hub.answer_call.Goals as goal
 
 pub returns-in-Lacks-clause-answered : goal.returns-in-Lacks-clause-answered

@@ -3,7 +3,7 @@ use Rattle.disco_values.specs.declared.fault.Fault.{Fault}
 use Rattle.disco_calls.specs.Calls.{CallView, call}
 use Rattle.disco_message.specs.ReplyText.{reply_view}
 use Rattle.disco_answers.specs.Replies.{IsAnswered, shared_text}
-use Rattle.disco_answers.proofs.Answering.{answered_so, refused_so}
+use Rattle.disco_answers.proofs.HubAnswers.{answered_so, refused_so}
 use Rattle.disco_answers.proofs.hub.answer_hub.Goals as goal
 
 pub returns-in-Ok-clause-answered : goal.returns-in-Ok-clause-answered

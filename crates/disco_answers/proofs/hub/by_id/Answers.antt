@@ -2,7 +2,7 @@ use Rattle.std.proofs.Common.{ℕ, List, Ok, subst}
 use Rattle.disco_calls.specs.Calls.{shows_id}
 use Rattle.disco_message.specs.ReplyText.{reply_view}
 use Rattle.disco_answers.specs.Replies.{IsAnswered, shared_text}
-use Rattle.disco_answers.proofs.Answering.{by_id_so}
+use Rattle.disco_answers.proofs.HubAnswers.{by_id_so}
 use Rattle.disco_answers.proofs.hub.by_id.Goals as goal
 
 pub returns-clause-answered : goal.returns-clause-answered

@@ -1,5 +1,5 @@
 use Rattle.disco_hub.proofs.Rests.{loaded_stands}
-use Rattle.disco_answers.proofs.Answering.{load_so}
+use Rattle.disco_answers.proofs.HubAnswers.{load_so}
 use Rattle.disco_answers.proofs.hub.load.Goals as goal
 
 pub returns-clause-answered : goal.returns-clause-answered

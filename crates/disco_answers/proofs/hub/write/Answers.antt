@@ -4,7 +4,7 @@ use Rattle.disco_message.specs.ReplyText.{reply_view}
 use Rattle.disco_message.specs.declared.status_line.StatusLine.{StatusLine}
 use Rattle.disco_registry.specs.Op.{op_view}
 use Rattle.disco_answers.specs.Replies.{plain, refusal_answer, shared_text}
-use Rattle.disco_answers.proofs.Answering.{answered_so, changes_by, written}
+use Rattle.disco_answers.proofs.HubAnswers.{answered_so, changes_by, written}
 use Rattle.disco_answers.proofs.hub.write.Goals as goal
 
 pub returns-clause-answered : goal.returns-clause-answered

@@ -1,5 +1,5 @@
 use Rattle.std.proofs.Common.{inr}
-use Rattle.disco_answers.proofs.Noting.{looked_before}
+use Rattle.disco_answers.proofs.DeskAnswers.{looked_before}
 use Rattle.disco_answers.proofs.locked.answer_called.Goals as goal
 
 pub returns-in-None-clause-told : goal.returns-in-None-clause-told

@@ -1,7 +1,7 @@
 use Rattle.std.proofs.Common.{List, subst, sym, ◌∙◌}
 use mathlib.Core.List.{IsPrefix}
-use Rattle.disco_rounds.specs.Press.{Note}
-use Rattle.disco_answers.proofs.Noting.{some_asked}
+use Rattle.disco_hub.specs.Press.{Note}
+use Rattle.disco_answers.proofs.DeskAnswers.{some_asked}
 use Rattle.disco_answers.proofs.locked.answer_locked.Goals as goal
 
 pub returns-clause-answered : goal.returns-clause-answered

@@ -3,10 +3,10 @@ use Rattle.std.proofs.lemmas.Fn.{always_returns_same}
 use Rattle.std.specs.declared.alloc.Global.{Global}
 use Rattle.std.specs.declared.sync.Arc.{Arc}
 use Rattle.disco_history.proofs.SortedBy.{found, absent}
-use Rattle.disco_query.specs.Keys.{doc_cmp}
+use Rattle.disco_values.specs.Keys.{doc_cmp}
 use Rattle.disco_cache.specs.Kept.{doc_key, payload_in}
 use Rattle.disco_cache.specs.declared.payload.Payload.{Payload}
-use Rattle.disco_query.proofs.Orders.{docs_total, exact_docs}
+use Rattle.disco_values.proofs.Orders.{docs_total, exact_docs}
 use Rattle.disco_cache.proofs.cache.place.Goals as goal
 
 pub returns-clause-found : goal.returns-clause-found

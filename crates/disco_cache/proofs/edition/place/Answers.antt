@@ -1,10 +1,10 @@
 use Rattle.std.proofs.Common.{rules, of_calls}
 use Rattle.std.proofs.lemmas.Fn.{always_returns_same}
 use Rattle.disco_history.proofs.SortedBy.{found, absent}
-use Rattle.disco_query.specs.Keys.{doc_cmp}
+use Rattle.disco_values.specs.Keys.{doc_cmp}
 use Rattle.disco_cache.specs.Shelved.{entry_key, entry_doc}
 use Rattle.disco_cache.specs.declared.entry.Entry.{Entry}
-use Rattle.disco_query.proofs.Orders.{docs_total, exact_docs}
+use Rattle.disco_values.proofs.Orders.{docs_total, exact_docs}
 use Rattle.disco_cache.proofs.edition.place.Goals as goal
 
 pub returns-clause-found : goal.returns-clause-found

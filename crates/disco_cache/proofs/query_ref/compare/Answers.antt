@@ -1,9 +1,9 @@
 use Rattle.std.proofs.Common.{sym}
 use Rattle.std.specs.Cmp.Lexicographic.{slice_cmp}
 use Rattle.std.specs.Ordering.{nat_cmp}
-use Rattle.disco_query.specs.Keys.{kind_of, names_in, place_of}
+use Rattle.disco_values.specs.Keys.{kind_of, names_in, place_of}
 use Rattle.disco_cache.specs.Kept.{query_of}
-use Rattle.disco_query.proofs.Orders.{then_then}
+use Rattle.disco_values.proofs.Orders.{then_then}
 use Rattle.disco_cache.proofs.query_ref.compare.Goals as goal
 
 pub returns : goal.returns

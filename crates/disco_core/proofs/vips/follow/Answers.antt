@@ -7,7 +7,7 @@ use Rattle.disco_history.specs.declared.held.Held.{Held}
 use Rattle.disco_history.specs.Registry.{put_of}
 use Rattle.disco_index.specs.Vips.{RemovesAny}
 use Rattle.disco_core.specs.Moves.{VipsStay}
-use Rattle.disco_core.proofs.Staying.{filled, index_stays}
+use Rattle.disco_core.proofs.KeptVips.{filled, index_stays}
 use Rattle.disco_core.proofs.Ties.{indexed_after, places_kept}
 use Rattle.disco_core.proofs.vips.follow.Goals as goal
 

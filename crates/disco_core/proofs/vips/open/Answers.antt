@@ -5,7 +5,7 @@ use Rattle.disco_history.specs.Held.{entry_of}
 use Rattle.disco_history.specs.declared.held.Held.{Held}
 use Rattle.disco_history.specs.Registry.{put_of}
 use Rattle.disco_core.specs.Moves.{VipsStay}
-use Rattle.disco_core.proofs.Staying.{others_stay, places_stay}
+use Rattle.disco_core.proofs.KeptVips.{others_stay, places_stay}
 use Rattle.disco_core.proofs.vips.open.Goals as goal
 
 pub returns-then-stay-clause-others : goal.returns-then-stay-clause-others

@@ -1,9 +1,9 @@
 use Rattle.std.proofs.Common.{◌≡◌, ◌∷◌, [], ◌+◌, ◌/◌, ◌%◌, None, Some, sym, ap, ◌∙◌, rules, arith}
 use Rattle.std.specs.Option.{option_copied}
-use Rattle.disco_digits.specs.Digits.{digits}
+use Rattle.disco_values.specs.Digits.{digits}
 use Rattle.disco_index.specs.Behind.{behind}
 use Rattle.disco_index.proofs.Stripped.{go_on, stop}
-use Rattle.disco_digits.proofs.Printed.{digits-step, digits-none}
+use Rattle.disco_values.proofs.Printed.{digits-step, digits-none}
 use Rattle.disco_index.proofs.behind.+behind_digits.Goals as goal
 
 pub returns-then-number-eq0 : goal.returns-then-number-eq0

@@ -1,7 +1,7 @@
 use Rattle.std.proofs.Common.{◌∷◌, [], sym, ap, ◌∙◌, arith}
 use Rattle.std.specs.Option.{option_copied}
 use Rattle.disco_values.specs.Status.{status_name}
-use Rattle.disco_digits.specs.Digits.{digits}
+use Rattle.disco_values.specs.Digits.{digits}
 use Rattle.disco_index.specs.Behind.{behind}
 use Rattle.disco_index.proofs.Stripped.{behind-piece, then}
 use Rattle.disco_index.proofs.behind.behind_piece.Goals as goal

@@ -1,7 +1,7 @@
 use Rattle.std.proofs.Common.{length, ap, arith}
 use Rattle.disco_values.specs.Status.{status_name}
 use Rattle.disco_index.proofs.Texts.{pushed, not_pushed}
-use Rattle.disco_digits.proofs.Printed.{length-digits-le}
+use Rattle.disco_values.proofs.Printed.{length-digits-le}
 use Rattle.disco_index.proofs.pieces.push_piece.Goals as goal
 
 pub push_digits-requires : goal.push_digits-requires

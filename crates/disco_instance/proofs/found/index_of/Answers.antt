@@ -1,5 +1,5 @@
 use Rattle.std.proofs.Common.{subst, sym}
-use Rattle.disco_instance.proofs.Finding.{IsWithin, name_within}
+use Rattle.disco_instance.proofs.FoundMembers.{IsWithin, name_within}
 use Rattle.disco_instance.proofs.found.index_of.Goals as goal
 
 pub returns-clause-none : goal.returns-clause-none

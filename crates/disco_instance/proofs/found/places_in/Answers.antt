@@ -6,7 +6,7 @@ use Rattle.serde_json.specs.Data.{no_members, put}
 use Rattle.disco_json.specs.View.{view, with_members}
 use Rattle.disco_json.proofs.Trees.{seen}
 use Rattle.disco_instance.specs.Found.{HoldMembers}
-use Rattle.disco_instance.proofs.Finding.{none_found, none_yet, one_found}
+use Rattle.disco_instance.proofs.FoundMembers.{none_found, none_yet, one_found}
 use Rattle.disco_instance.proofs.found.places_in.Goals as goal
 use Rattle.disco_instance.proofs.found.places_in.Goals.{in-Some, in_default}
 

@@ -6,7 +6,7 @@ use Rattle.std.proofs.lemmas.Bool.{lt-ltb}
 use Rattle.disco_values.specs.declared.key.Key.{Key}
 use Rattle.disco_lease.specs.Due.{due_cmp}
 use Rattle.disco_lease.specs.Seen.{at_pair, seen_due}
-use Rattle.disco_lease.proofs.Collecting.{get_more, pair_is}
+use Rattle.disco_lease.proofs.CollectedKeys.{get_more, pair_is}
 use Rattle.disco_lease.proofs.overdue.add.Goals as goal
 
 pub returns-in_ok-insert : goal.returns-in_ok-insert

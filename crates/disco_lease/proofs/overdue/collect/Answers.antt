@@ -6,7 +6,7 @@ use Rattle.std.specs.Option.{option_or}
 use Rattle.disco_places.specs.KeyMaps.{of_apps}
 use Rattle.disco_lease.specs.Due.{due_cmp}
 use Rattle.disco_lease.specs.Seen.{ids_with_app, pairs, seen_due}
-use Rattle.disco_lease.proofs.Collecting.{all_there, app_more, none_yet}
+use Rattle.disco_lease.proofs.CollectedKeys.{all_there, app_more, none_yet}
 use Rattle.disco_lease.proofs.overdue.collect.Goals as goal
 
 pub loop-app-init : goal.loop-app-init

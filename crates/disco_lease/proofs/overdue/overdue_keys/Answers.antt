@@ -2,7 +2,7 @@ use Rattle.std.proofs.Common.{ℕ, map, ap, ◌∙◌}
 use Rattle.std.specs.FinMap.{FinMap, keys}
 use Rattle.disco_values.specs.declared.key.Key.{Key}
 use Rattle.disco_lease.specs.Due.{due_cmp}
-use Rattle.disco_lease.proofs.Collecting.{keys_due}
+use Rattle.disco_lease.proofs.CollectedKeys.{keys_due}
 use Rattle.disco_lease.proofs.overdue.overdue_keys.Goals as goal
 
 pub returns : goal.returns

@@ -1,5 +1,5 @@
 use Rattle.std.proofs.Common.{take}
-use Rattle.disco_message.proofs.Reading.{copied}
+use Rattle.disco_message.proofs.RequestHeads.{copied}
 use Rattle.disco_message.proofs.received.copy.Goals as goal
 
 pub returns-clause-fields : goal.returns-clause-fields

@@ -1,5 +1,5 @@
 use Rattle.std.proofs.Common.{arith}
-use Rattle.disco_digits.proofs.Printed.{length-digits-le}
+use Rattle.disco_values.proofs.Printed.{length-digits-le}
 use Rattle.disco_message.proofs.reply_head.push_number.Goals as goal
 
 pub push_digits-requires : goal.push_digits-requires

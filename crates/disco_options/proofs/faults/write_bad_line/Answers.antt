@@ -1,8 +1,8 @@
 use Rattle.std.proofs.Common.{ℕ, List, ◌≡◌, ◌++◌, ◌∙◌, Option, Result, ap, append_assoc, codes, subst, sym}
 use Rattle.std.proofs.lemmas.Result.{err_from_is_err_and}
 use Rattle.std.specs.Fmt.{decimal}
-use Rattle.disco_streams.specs.Writes.{WritesBytes}
-use Rattle.disco_streams.proofs.Written.{not_written, then_written}
+use Rattle.disco_http.specs.Writes.{WritesBytes}
+use Rattle.disco_http.proofs.Written.{not_written, then_written}
 use Rattle.disco_options.proofs.faults.write_bad_line.Goals as goal
 
 apart : (x l n f : List ℕ) → x ++ (l ++ n ++ f) ≡ x ++ l ++ n ++ f

@@ -1,7 +1,7 @@
 use Rattle.std.proofs.Common.{◌++◌, codes}
 use Rattle.std.proofs.lemmas.Result.{err_from_is_err_and}
 use Rattle.std.specs.Fmt.{decimal}
-use Rattle.disco_streams.proofs.Written.{not_written, then_written}
+use Rattle.disco_http.proofs.Written.{not_written, then_written}
 use Rattle.disco_options.proofs.faults.write_end.Goals as goal
 
 pub returns-in_err-write_number : goal.returns-in_err-write_number

@@ -2,7 +2,7 @@ use Rattle.std.proofs.Common.{ap, ◌∙◌, option_and_then}
 use Rattle.std.specs.Str.Parse.{ExplainsUnsignedError, HasUnsignedDigitsIfOk, ParsesUnsigned, without_leading_plus}
 use Rattle.clap.specs.Words.{found_of}
 use Rattle.clap.proofs.WalkLemmas.{one_text-rows}
-use Rattle.disco_digits.specs.Digits.{digits_number}
+use Rattle.disco_values.specs.Digits.{digits_number}
 use Rattle.disco_options.proofs.Given.{number_read}
 use Rattle.disco_options.proofs.options.number_given.Goals as goal
 

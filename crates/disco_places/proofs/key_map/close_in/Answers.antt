@@ -1,7 +1,7 @@
 use Rattle.std.proofs.Common.{ap, ◌∙◌}
 use Rattle.disco_places.specs.KeyMaps.{by_key}
 use Rattle.disco_places.proofs.Stored.{lent}
-use Rattle.disco_places.proofs.Nesting.{none_out, taken_out}
+use Rattle.disco_places.proofs.ByApp.{none_out, taken_out}
 use Rattle.disco_places.proofs.key_map.close_in.Goals as goal
 
 pub returns-in-Some-clause-closed : goal.returns-in-Some-clause-closed

@@ -1,7 +1,7 @@
 use Rattle.std.proofs.Common.{◌≡◌, Some, subst}
 use Rattle.std.specs.FinMap.{empty, insert}
 use Rattle.disco_places.proofs.Stored.{Text, Updated, lent}
-use Rattle.disco_places.proofs.Nesting.{as_before, on_err, on_ok, opened_among, put_first}
+use Rattle.disco_places.proofs.ByApp.{as_before, on_err, on_ok, opened_among, put_first}
 use Rattle.disco_places.proofs.key_map.insert_in.Goals as goal
 
 pub returns-in-Some-clause-ok : goal.returns-in-Some-clause-ok

@@ -1,6 +1,6 @@
 use Rattle.std.proofs.Common.{sym, ap, ◌∙◌}
 use Rattle.disco_places.proofs.Stored.{lent}
-use Rattle.disco_places.proofs.Nesting.{at_id, get_by_key, nowhere, put_nowhere, put_there}
+use Rattle.disco_places.proofs.ByApp.{at_id, get_by_key, nowhere, put_nowhere, put_there}
 use Rattle.disco_places.proofs.key_map.swap_in.Goals as goal
 
 pub returns-in-Some-clause-before : goal.returns-in-Some-clause-before

@@ -1,4 +1,4 @@
-use Rattle.disco_places.proofs.Nesting.{bare_out}
+use Rattle.disco_places.proofs.ByApp.{bare_out}
 use Rattle.disco_places.specs.KeyMaps.{by_key}
 use Rattle.disco_places.proofs.key_map.take_out.Goals as goal
 

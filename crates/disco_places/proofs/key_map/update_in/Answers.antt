@@ -1,7 +1,7 @@
 use Rattle.std.proofs.Common.{Some, is_some, sym, ap, ◌∙◌}
 use Rattle.std.specs.Option.{option_flatten}
 use Rattle.disco_places.proofs.Stored.{lent}
-use Rattle.disco_places.proofs.Nesting.{as_before, at_id, get_by_key, opened_among}
+use Rattle.disco_places.proofs.ByApp.{as_before, at_id, get_by_key, opened_among}
 use Rattle.disco_places.proofs.key_map.update_in.Goals as goal
 
 pub returns-in-Some-clause-there : goal.returns-in-Some-clause-there

@@ -5,8 +5,8 @@ use Rattle.disco_history.specs.Slots.{AltersAt}
 use Rattle.disco_queue.specs.Numbers.{number_kept}
 use Rattle.disco_queue.specs.Seen.{change_of}
 use Rattle.disco_queue.specs.Superseded.{AreSuperseded}
-use Rattle.disco_queue.proofs.Numbering.{followed_left, none_left, number_left}
-use Rattle.disco_queue.proofs.Superseding.{followed_more}
+use Rattle.disco_queue.proofs.LastNumbers.{followed_left, none_left, number_left}
+use Rattle.disco_queue.proofs.Superseded.{followed_more}
 use Rattle.disco_queue.proofs.queue.drop_front.Goals as goal
 
 pub returns-then-oldest-clause-numbers : goal.returns-then-oldest-clause-numbers

@@ -1,7 +1,7 @@
 use Rattle.std.proofs.Common.{ap, arith, ◌-◌}
 use Rattle.std.proofs.Math.Seq.{map-set_same}
 use Rattle.disco_queue.specs.Seen.{change_of, timed}
-use Rattle.disco_queue.proofs.Superseding.{superseded_set}
+use Rattle.disco_queue.proofs.Superseded.{superseded_set}
 use Rattle.disco_queue.proofs.queue.supersede.Goals as goal
 
 pub returns-in-Some-clause-changes : goal.returns-in-Some-clause-changes

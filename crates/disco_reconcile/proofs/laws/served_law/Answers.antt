@@ -1,4 +1,4 @@
-use Rattle.disco_reconcile.proofs.Growing.{served}
+use Rattle.disco_reconcile.proofs.LongerHistories.{served}
 use Rattle.disco_reconcile.proofs.laws.served_law.Goals as goal
 
 pub returns : goal.returns

@@ -2,7 +2,7 @@ use Rattle.std.proofs.Common.{ap, sym, ◌∙◌}
 use Rattle.std.specs.List.{find}
 use Rattle.disco_history.specs.Apps.{is_of_id}
 use Rattle.disco_places.specs.KeyMaps.{of_apps}
-use Rattle.disco_registry.proofs.Walking.{found_here, found_later, shown, shown_in}
+use Rattle.disco_registry.proofs.RecordsByApp.{found_here, found_later, shown, shown_in}
 use Rattle.disco_registry.proofs.records.first_of_id.Goals as goal
 
 pub returns-in-Some-first_in : goal.returns-in-Some-first_in

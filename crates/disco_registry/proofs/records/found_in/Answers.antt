@@ -2,8 +2,8 @@ use Rattle.std.proofs.Common.{Option, option_map, ap, ◌∙◌}
 use Rattle.std.specs.Option.{option_flatten}
 use Rattle.disco_history.specs.Held.{entry_of}
 use Rattle.disco_history.specs.declared.held.Held.{Held}
-use Rattle.disco_registry.proofs.Placing.{map_copied}
-use Rattle.disco_registry.proofs.Walking.{under_id}
+use Rattle.disco_registry.proofs.PlaceSteps.{map_copied}
+use Rattle.disco_registry.proofs.RecordsByApp.{under_id}
 use Rattle.disco_registry.proofs.records.found_in.Goals as goal
 
 pub returns-in-Some : goal.returns-in-Some

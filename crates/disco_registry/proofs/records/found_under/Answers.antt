@@ -3,7 +3,7 @@ use Rattle.std.specs.List.{find}
 use Rattle.disco_history.specs.Apps.{is_of_id}
 use Rattle.disco_places.specs.KeyMaps.{of_apps}
 use Rattle.disco_registry.specs.Records.{AreKeyed, AreKeyedById}
-use Rattle.disco_registry.proofs.Walking.{first_keyed, found_here, found_later, others_keyed, shown, shown_in}
+use Rattle.disco_registry.proofs.RecordsByApp.{first_keyed, found_here, found_later, others_keyed, shown, shown_in}
 use Rattle.disco_registry.proofs.records.found_under.Goals as goal
 
 pub found_in-requires : goal.found_in-requires

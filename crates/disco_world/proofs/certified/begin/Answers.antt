@@ -7,8 +7,8 @@ use Rattle.disco_client.specs.Tracks.{known_at}
 use Rattle.disco_client.specs.declared.certified.CertifiedCopy.{CertifiedCopy}
 use Rattle.disco_values.specs.declared.cert.Cert.{Cert}
 use Rattle.disco_world.specs.Certified.{given}
-use Rattle.disco_world.proofs.Certifying.{begins_copy, is_begun}
-use Rattle.disco_world.proofs.Taking.{with_now}
+use Rattle.disco_world.proofs.CertifiedTakes.{begins_copy, is_begun}
+use Rattle.disco_world.proofs.TakenDocuments.{with_now}
 use Rattle.disco_world.proofs.certified.begin.Goals as goal
 
 pub returns : goal.returns

@@ -1,9 +1,9 @@
 use Rattle.std.proofs.Common.{◌≡◌, Some, refl, sym, ap, ◌∙◌}
 use Rattle.std.specs.BTreeMap as tree
 use Rattle.std.specs.Ordering.{nat_cmp}
-use Rattle.disco_query.specs.Query.{is_delta}
+use Rattle.disco_values.specs.Query.{is_delta}
 use Rattle.disco_world.specs.Certified.{given, takes_it}
-use Rattle.disco_world.proofs.Taking.{is_some_by, with_now}
+use Rattle.disco_world.proofs.TakenDocuments.{is_some_by, with_now}
 use Rattle.disco_world.proofs.certified.give.Goals as goal
 
 pub returns : goal.returns

@@ -7,7 +7,7 @@ use Rattle.disco_cache.specs.Payloads.{cert_of}
 use Rattle.disco_client.specs.Tracks.{moved}
 use Rattle.disco_world.specs.Clients.{client_after}
 use Rattle.disco_world.specs.declared.clients.Client.{Client}
-use Rattle.disco_world.proofs.Taking.{is_some_by, told_delta, took_delta, with_now}
+use Rattle.disco_world.proofs.TakenDocuments.{is_some_by, told_delta, took_delta, with_now}
 use Rattle.disco_world.proofs.clients.overlay.Goals as goal
 
 pub returns : goal.returns

@@ -8,7 +8,7 @@ use Rattle.disco_world.specs.declared.clients.Client.{Client}
 use Rattle.disco_cache.specs.Payloads.{cert_of}
 use Rattle.disco_client.specs.Tracks.{known_at}
 use Rattle.disco_client.specs.declared.known.Known.{Known}
-use Rattle.disco_world.proofs.Taking.{told_full, took_full, with_now}
+use Rattle.disco_world.proofs.TakenDocuments.{told_full, took_full, with_now}
 use Rattle.disco_world.proofs.clients.replace.Goals as goal
 
 pub returns : goal.returns

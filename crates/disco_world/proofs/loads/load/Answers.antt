@@ -1,7 +1,7 @@
 use Rattle.std.proofs.Common.{subst, sym}
 use Rattle.disco_core.specs.Past.{history}
-use Rattle.disco_query.specs.declared.key.DocKey.{DocKey}
-use Rattle.disco_query.specs.declared.query.Query.{Query}
+use Rattle.disco_values.specs.declared.doc_key.DocKey.{DocKey}
+use Rattle.disco_values.specs.declared.query.Query.{Query}
 use Rattle.disco_hub.specs.State.{rules_of}
 use Rattle.disco_world.specs.Events.{loads, query_asked}
 use Rattle.disco_core.specs.Refusals.{loaded}

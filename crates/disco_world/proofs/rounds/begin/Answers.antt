@@ -1,5 +1,5 @@
 use Rattle.std.proofs.Common.{refl}
-use Rattle.disco_world.proofs.Turning.{begun_turns}
+use Rattle.disco_world.proofs.LevelEffects.{begun_turns}
 use Rattle.disco_world.proofs.rounds.begin.Goals as goal
 
 pub returns-in-Ok-clause-turns : goal.returns-in-Ok-clause-turns

@@ -1,5 +1,5 @@
 use Rattle.std.proofs.Common.{refl}
-use Rattle.disco_world.proofs.Turning.{copied_turns}
+use Rattle.disco_world.proofs.LevelEffects.{copied_turns}
 use Rattle.disco_world.proofs.rounds.copy.Goals as goal
 
 pub returns-in-Ok-Some-clause-turns : goal.returns-in-Ok-Some-clause-turns

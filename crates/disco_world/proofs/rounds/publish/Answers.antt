@@ -1,6 +1,6 @@
 use Rattle.std.proofs.Common.{ap}
 use Rattle.disco_hub.specs.State.{HubState}
-use Rattle.disco_world.proofs.Turning.{published_turns, refused_publish}
+use Rattle.disco_world.proofs.LevelEffects.{published_turns, refused_publish}
 use Rattle.disco_world.proofs.rounds.publish.Goals as goal
 
 pub returns-in-Ok-clause-turns : goal.returns-in-Ok-clause-turns

@@ -6,7 +6,7 @@ use Rattle.disco_world.specs.Steps.{holders, reply_to_give, reply_to_take}
 use Rattle.disco_hub.specs.State.{rules_of}
 use Rattle.disco_cache.specs.declared.payload.Payload.{Payload}
 use Rattle.disco_world.proofs.Taken.{gave, took}
-use Rattle.disco_world.proofs.Turning.{quiet_turns}
+use Rattle.disco_world.proofs.LevelEffects.{quiet_turns}
 use Rattle.disco_world.proofs.runs.answer.Goals as goal
 
 pub returns-in-Some-clause-does : goal.returns-in-Some-clause-does

@@ -9,7 +9,7 @@ use Rattle.disco_world.specs.Levels.{key_looked}
 use Rattle.disco_world.specs.Steps.{holders, reply_to_show}
 use Rattle.disco_hub.specs.State.{rules_of}
 use Rattle.disco_world.proofs.Taken.{showed, showed_certified}
-use Rattle.disco_world.proofs.Turning.{looked, quiet_turns}
+use Rattle.disco_world.proofs.LevelEffects.{looked, quiet_turns}
 use Rattle.disco_world.proofs.Writes.{with_hub, with_turn}
 use Rattle.disco_world.proofs.runs.answer_step.Goals as goal
 

@@ -9,7 +9,7 @@ use Rattle.disco_history.proofs.Sets.{values-reg}
 use Rattle.disco_index.specs.Tally.{rows_of}
 use Rattle.disco_queue.specs.Latest.{Latest}
 use Rattle.disco_queue.specs.Timed.{changes}
-use Rattle.disco_query.specs.declared.query.Query.TheVariants as query
+use Rattle.disco_values.specs.declared.query.Query.TheVariants as query
 use Rattle.disco_writer.specs.Joined.{AllAgree, AreTextsOf, Shown, shown_by}
 use Rattle.disco_writer.specs.Kept.{AreKept}
 use Rattle.disco_writer.proofs.Told.{delta_agree, told_are}

@@ -6,9 +6,9 @@ use Rattle.disco_history.specs.Hash.{hash}
 use Rattle.disco_history.specs.Query.{all}
 use Rattle.disco_history.proofs.Restrictions.{values-said_all}
 use Rattle.disco_index.specs.Tally.{rows_of}
-use Rattle.disco_documents.specs.Documents.{mentioned}
-use Rattle.disco_documents.specs.Rows.{rows_in}
-use Rattle.disco_query.specs.declared.query.Query.TheVariants as query
+use Rattle.disco_wire.specs.Documents.{mentioned}
+use Rattle.disco_wire.specs.Rows.{rows_in}
+use Rattle.disco_values.specs.declared.query.Query.TheVariants as query
 use Rattle.disco_writer.specs.Joined.{AreTextsOf, Shown, shown_by}
 use Rattle.disco_writer.proofs.Walk.{walked_are}
 use Rattle.disco_writer.proofs.Written.{all_there, code_is, some_written}

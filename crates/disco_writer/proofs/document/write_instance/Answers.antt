@@ -6,8 +6,8 @@ use Rattle.disco_history.specs.Change.{Entry, key_of}
 use Rattle.disco_history.specs.Query.{of_key}
 use Rattle.disco_history.proofs.Restrictions.{listed, values-said_key}
 use Rattle.disco_history.specs.Held.{entry_of}
-use Rattle.disco_documents.specs.Documents.{mentioned}
-use Rattle.disco_query.specs.declared.query.Query.TheVariants as query
+use Rattle.disco_wire.specs.Documents.{mentioned}
+use Rattle.disco_values.specs.declared.query.Query.TheVariants as query
 use Rattle.disco_writer.proofs.Told.{one_agrees}
 use Rattle.disco_writer.proofs.Written.{none_written, some_there, some_written}
 use Rattle.disco_writer.proofs.document.write_instance.Goals as goal

@@ -6,9 +6,9 @@ use Rattle.disco_history.specs.Change.{Entry}
 use Rattle.disco_history.specs.Query.{asks_for, of_secure_vip}
 use Rattle.disco_history.proofs.Restrictions.{values-said_restrict}
 use Rattle.disco_history.specs.Held.{entry_of}
-use Rattle.disco_documents.specs.Documents.{mentioned}
-use Rattle.disco_documents.specs.Rows.{held_entries}
-use Rattle.disco_query.specs.declared.query.Query.TheVariants as query
+use Rattle.disco_wire.specs.Documents.{mentioned}
+use Rattle.disco_wire.specs.Rows.{held_entries}
+use Rattle.disco_values.specs.declared.query.Query.TheVariants as query
 use Rattle.disco_writer.specs.Joined.{AllAgree}
 use Rattle.disco_writer.proofs.Told.{held_agree, passing_held, values_held}
 use Rattle.disco_writer.proofs.Written.{many_written}

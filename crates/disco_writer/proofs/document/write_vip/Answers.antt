@@ -12,9 +12,9 @@ use Rattle.disco_history.proofs.Sets.{first_of, get-said_reg}
 use Rattle.disco_index.specs.Vips.{under}
 use Rattle.disco_index.proofs.VipLaws.{under_vip_law}
 use Rattle.disco_history.specs.Held.{entry_of}
-use Rattle.disco_documents.specs.Documents.{mentioned}
-use Rattle.disco_documents.specs.Rows.{held_entries}
-use Rattle.disco_query.specs.declared.query.Query.TheVariants as query
+use Rattle.disco_wire.specs.Documents.{mentioned}
+use Rattle.disco_wire.specs.Rows.{held_entries}
+use Rattle.disco_values.specs.declared.query.Query.TheVariants as query
 use Rattle.disco_writer.specs.Joined.{AllAgree}
 use Rattle.disco_writer.proofs.Told.{found_held, held_agree}
 use Rattle.disco_writer.proofs.Written.{many_written}

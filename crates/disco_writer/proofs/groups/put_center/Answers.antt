@@ -1,6 +1,6 @@
 use Rattle.json.specs.Print.{escape_byte, print_from}
 use Rattle.disco_writer.specs.Groups.{group_text}
-use Rattle.disco_writer.proofs.Appending.{before}
+use Rattle.disco_writer.proofs.AppendedTexts.{before}
 use Rattle.disco_writer.proofs.groups.put_center.Goals as goal
 
 pub returns : goal.returns

@@ -1,4 +1,4 @@
-use Rattle.disco_writer.proofs.Appending.{before}
+use Rattle.disco_writer.proofs.AppendedTexts.{before}
 use Rattle.disco_writer.proofs.groups.put_done.Goals as goal
 
 pub returns-in_ok-put_action-in-Some : goal.returns-in_ok-put_action-in-Some

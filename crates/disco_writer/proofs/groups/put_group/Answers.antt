@@ -1,6 +1,6 @@
 use Rattle.json.specs.Print.{escape_byte, print_from}
 use Rattle.disco_writer.specs.Groups.{group_text}
-use Rattle.disco_writer.proofs.Appending.{last}
+use Rattle.disco_writer.proofs.AppendedTexts.{last}
 use Rattle.disco_writer.proofs.groups.put_group.Goals as goal
 
 pub returns-in-Country : goal.returns-in-Country

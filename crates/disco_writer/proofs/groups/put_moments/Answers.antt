@@ -1,6 +1,6 @@
 use Rattle.json.specs.Print.{escape_byte, print_from}
 use Rattle.disco_writer.specs.Groups.{group_text}
-use Rattle.disco_writer.proofs.Appending.{before, last}
+use Rattle.disco_writer.proofs.AppendedTexts.{before, last}
 use Rattle.disco_writer.proofs.groups.put_moments.Goals as goal
 
 pub returns : goal.returns

@@ -4,7 +4,7 @@ use Rattle.serde_json.specs.Data.{string}
 use Rattle.disco_values.specs.declared.action.Action.{Action}
 use Rattle.disco_writer.specs.Fields.{done_fields}
 use Rattle.disco_writer.specs.Groups.{done_text, group_text}
-use Rattle.disco_writer.proofs.Appending.{before, renamed}
+use Rattle.disco_writer.proofs.AppendedTexts.{before, renamed}
 use Rattle.disco_writer.proofs.groups.put_names.Goals as goal
 
 names : (o : Option Action) (app : List ℕ) → done_text o ++ quoted app ≡ 123 ∷ group_text (done_fields o ++ (codes "app", string app) ∷ [])

@@ -1,6 +1,6 @@
 use Rattle.json.specs.Print.{escape_byte, print_from}
 use Rattle.disco_writer.specs.Groups.{group_text}
-use Rattle.disco_writer.proofs.Appending.{before, renamed}
+use Rattle.disco_writer.proofs.AppendedTexts.{before, renamed}
 use Rattle.disco_writer.proofs.Entries.{entries_last}
 use Rattle.disco_writer.proofs.groups.put_terms.Goals as goal
 

@@ -1,4 +1,4 @@
-use Rattle.disco_writer.proofs.Grouping.{more}
+use Rattle.disco_writer.proofs.GroupTexts.{more}
 use Rattle.disco_writer.proofs.instance.add_back.Goals as goal
 
 pub returns-clause-full : goal.returns-clause-full

@@ -1,4 +1,4 @@
-use Rattle.disco_writer.proofs.Grouping.{first, more}
+use Rattle.disco_writer.proofs.GroupTexts.{first, more}
 use Rattle.disco_writer.proofs.instance.front.Goals as goal
 
 pub returns-clause-full : goal.returns-clause-full

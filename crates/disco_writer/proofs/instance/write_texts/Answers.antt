@@ -1,6 +1,6 @@
 use Rattle.std.proofs.Common.{IsUtf8, subst}
 use Rattle.disco_instance.specs.Row.{row}
-use Rattle.disco_writer.proofs.Grouping.{compact_ended, full_ended}
+use Rattle.disco_writer.proofs.GroupTexts.{compact_ended, full_ended}
 use Rattle.disco_writer.proofs.instance.write_texts.Goals as goal
 
 pub returns-clause-full : goal.returns-clause-full

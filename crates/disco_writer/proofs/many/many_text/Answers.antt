@@ -1,5 +1,5 @@
 use Rattle.std.proofs.Common.{List, subst, sym, ap, ◌∙◌}
-use Rattle.disco_documents.specs.Rows.{held_entries}
+use Rattle.disco_wire.specs.Rows.{held_entries}
 use Rattle.disco_writer.specs.Joined.{AreTextsOf, Shown, shown_by}
 use Rattle.disco_writer.proofs.Told.{told_are}
 use Rattle.disco_writer.proofs.many.many_text.Goals as goal

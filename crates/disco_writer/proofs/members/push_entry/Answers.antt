@@ -1,6 +1,6 @@
 use Rattle.std.proofs.Common.{◌++◌, codes}
 use Rattle.json.specs.Print.{quoted}
-use Rattle.disco_writer.proofs.Appending.{before, renamed}
+use Rattle.disco_writer.proofs.AppendedTexts.{before, renamed}
 use Rattle.disco_writer.proofs.members.push_entry.Goals as goal
 
 pub returns : goal.returns

@@ -1,6 +1,6 @@
 use Rattle.std.proofs.Common.{◌∙◌}
 use Rattle.json.proofs.Printed.Utf8.{IsUtf8-quoted}
-use Rattle.disco_writer.proofs.Appending.{appended}
+use Rattle.disco_writer.proofs.AppendedTexts.{appended}
 use Rattle.disco_writer.proofs.members.push_quoted.Goals as goal
 
 pub returns : goal.returns

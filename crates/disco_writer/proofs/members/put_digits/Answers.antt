@@ -1,6 +1,6 @@
 use Rattle.std.proofs.Common.{◌∙◌, ◌++◌, ap, sym}
 use Rattle.json.specs.Print.{escape, quoted}
-use Rattle.disco_writer.proofs.Appending.{before, renamed}
+use Rattle.disco_writer.proofs.AppendedTexts.{before, renamed}
 use Rattle.disco_writer.proofs.Escapes.{decimal_plain}
 use Rattle.disco_writer.proofs.members.put_digits.Goals as goal
 

@@ -1,5 +1,5 @@
 use Rattle.std.proofs.Common.{◌++◌}
-use Rattle.disco_writer.proofs.Appending.{before, renamed}
+use Rattle.disco_writer.proofs.AppendedTexts.{before, renamed}
 use Rattle.disco_writer.proofs.members.put_number.Goals as goal
 
 pub returns : goal.returns

@@ -1,6 +1,6 @@
 use Rattle.std.proofs.Common.{◌≡◌, ◌++◌, drop}
 use Rattle.disco_writer.specs.Joined.{shown_by, texts_by}
-use Rattle.disco_documents.specs.Rows.{held_entries}
+use Rattle.disco_wire.specs.Rows.{held_entries}
 use Rattle.disco_writer.proofs.Told.{AreSoFar}
 use Rattle.disco_writer.proofs.piece.pieces_of.Given as goal
 

@@ -3,7 +3,7 @@ use Rattle.std.specs.List.{filter_map}
 use Rattle.disco_history.specs.Held.{entry_of}
 use Rattle.disco_history.specs.Query.{asks_for, of_secure_vip}
 use Rattle.disco_history.specs.declared.held.Held.{Held}
-use Rattle.disco_documents.specs.Rows.{held_entries}
+use Rattle.disco_wire.specs.Rows.{held_entries}
 use Rattle.disco_writer.proofs.selected.add_under_svip.Given as goal
 
 abbrev pub invariant-loop-place : goal.invariant-loop-place

@@ -1,6 +1,6 @@
 use Rattle.std.proofs.Common.{◌≡◌, take}
 use Rattle.disco_index.specs.Tally.{tally_of}
-use Rattle.disco_documents.specs.Rows.{held_entries, rows_in}
+use Rattle.disco_wire.specs.Rows.{held_entries, rows_in}
 use Rattle.disco_writer.proofs.selected.count.Given as goal
 
 abbrev pub invariant-loop-one : goal.invariant-loop-one

@@ -1,7 +1,7 @@
 use Rattle.std.proofs.Common.{◌≡◌, ◌++◌, drop, map}
 use Rattle.std.specs.FinMap.{get}
 use Rattle.std.specs.List.{filter_map}
-use Rattle.disco_documents.specs.Rows.{held_entries}
+use Rattle.disco_wire.specs.Rows.{held_entries}
 use Rattle.disco_writer.proofs.selected.held_at.Given as goal
 
 abbrev pub invariant-loop-key : goal.invariant-loop-key

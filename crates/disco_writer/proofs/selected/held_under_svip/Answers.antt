@@ -3,7 +3,7 @@ use Rattle.std.specs.List.{filter_map}
 use Rattle.disco_history.specs.Held.{entry_of}
 use Rattle.disco_history.specs.Query.{asks_for, of_secure_vip}
 use Rattle.disco_history.specs.declared.held.Held.{Held}
-use Rattle.disco_documents.specs.Rows.{held_entries}
+use Rattle.disco_wire.specs.Rows.{held_entries}
 use Rattle.disco_places.specs.KeyMaps.{of_apps}
 use Rattle.disco_values.specs.declared.key.Key.{Key}
 use Rattle.disco_writer.proofs.Apps.{held_more}

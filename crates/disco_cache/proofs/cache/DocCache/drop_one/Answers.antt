@@ -3,7 +3,7 @@ use Rattle.std.specs.FinMap as map
 use Rattle.disco_history.proofs.SortedBy.{removed_at, remove_gap}
 use Rattle.disco_cache.specs.Docs.{Docs}
 use Rattle.disco_cache.specs.Kept.{doc_of, doc_key, docs_map, query_of, payload_in}
-use Rattle.disco_query.proofs.Orders.{docs_total, exact_docs}
+use Rattle.disco_values.proofs.Orders.{docs_total, exact_docs}
 use Rattle.disco_cache.proofs.cache.DocCache.drop_one.Goals as goal
 
 pub invariant_of-self : goal.invariant_of-self

@@ -2,7 +2,7 @@ use Rattle.std.proofs.Common.{ℕ, List, false, true, ap, subst, ◌∙◌}
 use Rattle.disco_instance.specs.Row.{row}
 use Rattle.disco_instance.specs.declared.details.Details.{Details}
 use Rattle.disco_history.specs.Query.{vips}
-use Rattle.disco_query.specs.declared.query.Query.TheVariants as query
+use Rattle.disco_values.specs.declared.query.Query.TheVariants as query
 use Rattle.disco_cache.specs.Docs.{Drops}
 use Rattle.disco_cache.specs.Kept.{is_of, is_of_any}
 use Rattle.disco_cache.proofs.Drops.{alike, asked, is_asked, then}

@@ -6,7 +6,7 @@ use Rattle.disco_history.proofs.SortedBy.{get_at, get_gap}
 use Rattle.disco_cache.specs.Docs.{Docs}
 use Rattle.disco_cache.specs.Kept.{doc_key, payload_in}
 use Rattle.disco_cache.specs.declared.payload.Payload.{Payload}
-use Rattle.disco_query.proofs.Orders.{docs_total, exact_docs}
+use Rattle.disco_values.proofs.Orders.{docs_total, exact_docs}
 use Rattle.disco_cache.proofs.cache.DocCache.get.Goals as goal
 
 pub returns-in-Ok-clause-found : goal.returns-in-Ok-clause-found

@@ -5,7 +5,7 @@ use Rattle.disco_history.proofs.SortedBy.{len_of}
 use Rattle.disco_cache.specs.Docs.{Docs}
 use Rattle.disco_cache.specs.Kept.{doc_key, payload_in}
 use Rattle.disco_cache.proofs.Drops.{none_there, one_of_both, then}
-use Rattle.disco_query.proofs.Orders.{docs_total, exact_docs}
+use Rattle.disco_values.proofs.Orders.{docs_total, exact_docs}
 use Rattle.disco_cache.proofs.cache.DocCache.invalidate.Goals as goal
 
 pub returns-then-is_empty : goal.returns-then-is_empty

@@ -3,7 +3,7 @@ use Rattle.std.specs.FinMap as finmap
 use Rattle.disco_history.proofs.SortedBy.{keys_of}
 use Rattle.disco_cache.specs.Docs.{Docs}
 use Rattle.disco_cache.specs.Kept.{doc_key, payload_in}
-use Rattle.disco_query.proofs.Orders.{docs_total, exact_docs}
+use Rattle.disco_values.proofs.Orders.{docs_total, exact_docs}
 use Rattle.disco_cache.proofs.cache.DocCache.keys.Goals as goal
 
 pub returns-clause-keys : goal.returns-clause-keys

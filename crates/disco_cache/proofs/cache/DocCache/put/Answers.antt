@@ -3,7 +3,7 @@ use Rattle.std.specs.FinMap as map
 use Rattle.disco_history.proofs.SortedBy.{inserted_at}
 use Rattle.disco_cache.specs.Docs.{Docs}
 use Rattle.disco_cache.specs.Kept.{doc_key, payload_in}
-use Rattle.disco_query.proofs.Orders.{docs_total, exact_docs}
+use Rattle.disco_values.proofs.Orders.{docs_total, exact_docs}
 use Rattle.disco_cache.proofs.Puts.{has_place, has_room, is_put, stays_sorted}
 use Rattle.disco_cache.proofs.cache.DocCache.put.Goals as goal
 

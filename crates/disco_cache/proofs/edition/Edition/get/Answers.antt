@@ -3,7 +3,7 @@ use Rattle.std.specs.FinMap as map
 use Rattle.disco_history.proofs.SortedBy.{get_at, get_gap}
 use Rattle.disco_cache.specs.Shelved.{entry_key, entry_doc}
 use Rattle.disco_cache.specs.declared.entry.Entry.{Entry}
-use Rattle.disco_query.proofs.Orders.{docs_total, exact_docs}
+use Rattle.disco_values.proofs.Orders.{docs_total, exact_docs}
 use Rattle.disco_cache.proofs.edition.Edition.get.Goals as goal
 
 pub returns-in-Ok-clause-found : goal.returns-in-Ok-clause-found

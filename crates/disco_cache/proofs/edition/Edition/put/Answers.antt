@@ -5,7 +5,7 @@ use Rattle.std.specs.declared.sync.Arc.{Arc}
 use Rattle.disco_history.proofs.SortedBy.{inserted_at, inserted_gap}
 use Rattle.disco_cache.specs.Shelved.{AreShelved, entry_key, entry_doc, entries_map}
 use Rattle.disco_cache.specs.declared.payload.Payload.{Payload}
-use Rattle.disco_query.proofs.Orders.{docs_total, exact_docs}
+use Rattle.disco_values.proofs.Orders.{docs_total, exact_docs}
 use Rattle.disco_cache.proofs.edition.Edition.put.Goals as goal
 
 pub invariant_of-self : goal.invariant_of-self

@@ -2,7 +2,7 @@ use Rattle.std.proofs.Common.{sym, ap, ◌∙◌}
 use Rattle.std.specs.FinMap as map
 use Rattle.disco_history.proofs.SortedBy.{removed_at, remove_gap}
 use Rattle.disco_cache.specs.Shelved.{entry_key, entry_doc, entries_map}
-use Rattle.disco_query.proofs.Orders.{docs_total, exact_docs}
+use Rattle.disco_values.proofs.Orders.{docs_total, exact_docs}
 use Rattle.disco_cache.proofs.edition.Edition.remove.Goals as goal
 
 pub invariant_of-self : goal.invariant_of-self

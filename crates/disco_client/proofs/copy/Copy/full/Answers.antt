@@ -4,7 +4,7 @@ use Rattle.disco_history.specs.Held.{entry_of}
 use Rattle.disco_wire.specs.Wire.{tell_all}
 use Rattle.disco_client.specs.Copies.{rows_by_key}
 use Rattle.disco_client.specs.Steps.{after_all}
-use Rattle.disco_client.proofs.Overlaying.{rows-copied}
+use Rattle.disco_client.proofs.Overlays.{rows-copied}
 use Rattle.disco_client.proofs.copy.Copy.full.Goals as goal
 
 pub returns-clause-copied : goal.returns-clause-copied

@@ -1,6 +1,6 @@
 use Rattle.std.proofs.Common.{sym, ap, ◌∙◌}
 use Rattle.std.specs.FinMap.{get}
-use Rattle.disco_client.proofs.Overlaying.{get-rows_in}
+use Rattle.disco_client.proofs.Overlays.{get-rows_in}
 use Rattle.disco_client.proofs.copy.Copy.get.Goals as goal
 
 pub returns : goal.returns

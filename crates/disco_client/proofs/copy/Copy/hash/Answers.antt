@@ -1,4 +1,4 @@
-use Rattle.disco_client.proofs.Overlaying.{values-rows_in}
+use Rattle.disco_client.proofs.Overlays.{values-rows_in}
 use Rattle.disco_client.proofs.copy.Copy.hash.Goals as goal
 
 pub returns-clause-hash : goal.returns-clause-hash

@@ -1,6 +1,6 @@
 use Rattle.std.proofs.Common.{sym, ap, ◌∙◌}
 use Rattle.std.specs.FinMap.{len}
-use Rattle.disco_client.proofs.Overlaying.{len-rows_in}
+use Rattle.disco_client.proofs.Overlays.{len-rows_in}
 use Rattle.disco_client.proofs.copy.Copy.len.Goals as goal
 
 pub returns : goal.returns

@@ -1,4 +1,4 @@
-use Rattle.disco_client.proofs.Overlaying.{rows-empty}
+use Rattle.disco_client.proofs.Overlays.{rows-empty}
 use Rattle.disco_client.proofs.copy.Copy.new.Goals as goal
 
 pub returns : goal.returns

@@ -4,7 +4,7 @@ use Rattle.disco_history.specs.Mentions.{overlay}
 use Rattle.disco_wire.specs.Wire.{tell_all}
 use Rattle.disco_client.specs.Copies.{rows_by_key}
 use Rattle.disco_client.specs.Steps.{after_all}
-use Rattle.disco_client.proofs.Overlaying.{rows-overlay}
+use Rattle.disco_client.proofs.Overlays.{rows-overlay}
 use Rattle.disco_client.proofs.copy.Copy.overlay.Goals as goal
 
 pub returns-clause-overlaid : goal.returns-clause-overlaid

@@ -1,7 +1,7 @@
 use Rattle.std.proofs.Common.{map, sym, ap, ◌∙◌}
 use Rattle.std.specs.FinMap.{values}
 use Rattle.disco_history.specs.Change.{Entry}
-use Rattle.disco_client.proofs.Overlaying.{values-rows_in}
+use Rattle.disco_client.proofs.Overlays.{values-rows_in}
 use Rattle.disco_client.proofs.Shown.{rows-entries}
 use Rattle.disco_client.proofs.copy.Copy.records.Goals as goal
 

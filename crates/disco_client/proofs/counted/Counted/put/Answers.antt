@@ -1,7 +1,7 @@
 use Rattle.std.proofs.Common.{ap, ◌∙◌}
 use Rattle.std.specs.FinMap.{len}
 use Rattle.disco_history.specs.Held.{entry_of}
-use Rattle.disco_client.proofs.Numbers.{fits}
+use Rattle.disco_client.proofs.StatusCounts.{fits}
 use Rattle.disco_client.proofs.counted.Counted.put.Goals as goal
 
 pub add-requires : goal.add-requires

@@ -1,6 +1,6 @@
 use Rattle.std.proofs.Common.{refl}
 use Rattle.disco_history.specs.Change.{change_view}
-use Rattle.disco_core.proofs.Following.{gone_follows, put_follows}
+use Rattle.disco_core.proofs.KeptTexts.{gone_follows, put_follows}
 use Rattle.disco_core.proofs.texts.BothTexts.follow.Goals as goal
 
 pub returns-in-Added : goal.returns-in-Added

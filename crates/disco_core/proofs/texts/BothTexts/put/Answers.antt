@@ -2,7 +2,7 @@ use Rattle.disco_core.specs.contracts.texts.BothTexts.{the_view}
 use Rattle.std.proofs.Common.{sym, subst}
 use Rattle.disco_core.specs.Written.{AreWritten, HasTexts, KeptTexts}
 use Rattle.std.proofs.Common.{Some}
-use Rattle.disco_core.proofs.Following.{put_are}
+use Rattle.disco_core.proofs.KeptTexts.{put_are}
 use Rattle.disco_core.proofs.texts.BothTexts.put.Goals as goal
 
 pub returns : goal.returns

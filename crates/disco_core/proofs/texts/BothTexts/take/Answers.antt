@@ -1,7 +1,7 @@
 use Rattle.disco_core.specs.contracts.texts.BothTexts.{the_view}
 use Rattle.std.proofs.Common.{sym, subst}
 use Rattle.disco_core.specs.Written.{AreWritten, KeptTexts}
-use Rattle.disco_core.proofs.Following.{gone_are}
+use Rattle.disco_core.proofs.KeptTexts.{gone_are}
 use Rattle.disco_core.proofs.texts.BothTexts.take.Goals as goal
 
 pub returns : goal.returns

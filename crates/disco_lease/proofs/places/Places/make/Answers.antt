@@ -1,4 +1,4 @@
-use Rattle.disco_places.proofs.Nesting.{on_ok}
+use Rattle.disco_places.proofs.ByApp.{on_ok}
 use Rattle.disco_lease.proofs.Entries.{seen_made}
 use Rattle.disco_lease.proofs.places.Places.make.Goals as goal
 

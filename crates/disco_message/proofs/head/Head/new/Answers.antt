@@ -3,7 +3,7 @@ use Rattle.httparse.specs.Spans.{span_bytes, header_bytes}
 use Rattle.disco_message.specs.Heading.{closes}
 use Rattle.disco_message.specs.Framing.{framed}
 use Rattle.disco_message.specs.Target.{path_of}
-use Rattle.disco_message.proofs.Headings.{heading_at, made, may_be_read}
+use Rattle.disco_message.proofs.KeptHeads.{heading_at, made, may_be_read}
 use Rattle.disco_message.proofs.head.Head.new.Goals as goal
 
 pub returns-in-Ok-clause-says : goal.returns-in-Ok-clause-says

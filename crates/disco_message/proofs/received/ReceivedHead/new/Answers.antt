@@ -2,7 +2,7 @@ use Rattle.std.proofs.Common.{◌≡◌, ◌∙◌, rules, map, take, Some, inl,
 use Rattle.httparse.specs.Spans.{header_bytes}
 use Rattle.disco_message.specs.Heading.{closes}
 use Rattle.disco_message.specs.Received.{body_extent}
-use Rattle.disco_message.proofs.Receiving.{received_at, made, may_be_read}
+use Rattle.disco_message.proofs.ReplyHeads.{received_at, made, may_be_read}
 use Rattle.disco_message.proofs.received.ReceivedHead.new.Goals as goal
 
 pub returns-in-Ok-clause-says : goal.returns-in-Ok-clause-says

@@ -1,5 +1,5 @@
 use Rattle.std.proofs.Common.{sym}
-use Rattle.disco_places.proofs.Nesting.{entries_by_key}
+use Rattle.disco_places.proofs.ByApp.{entries_by_key}
 use Rattle.disco_places.proofs.key_map.KeyMap.apps.Goals as goal
 
 pub returns : goal.returns

@@ -1,6 +1,6 @@
 use Rattle.std.proofs.Common.{sym, ap, ◌∙◌}
 use Rattle.disco_values.specs.declared.key.Key.{Key}
-use Rattle.disco_places.proofs.Nesting.{at_id, get_by_key}
+use Rattle.disco_places.proofs.ByApp.{at_id, get_by_key}
 use Rattle.disco_places.proofs.key_map.KeyMap.get_at.Goals as goal
 
 pub returns-in-Some : goal.returns-in-Some

@@ -1,5 +1,5 @@
 use Rattle.std.proofs.Common.{is_some, sym, ap, ◌∙◌}
-use Rattle.disco_places.proofs.Nesting.{at_id, get_by_key}
+use Rattle.disco_places.proofs.ByApp.{at_id, get_by_key}
 use Rattle.disco_places.proofs.key_map.KeyMap.has.Goals as goal
 
 pub returns-in-Some : goal.returns-in-Some

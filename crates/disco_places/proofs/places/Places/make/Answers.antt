@@ -1,5 +1,5 @@
 use Rattle.disco_places.proofs.Lengths.{made}
-use Rattle.disco_places.proofs.Nesting.{on_ok}
+use Rattle.disco_places.proofs.ByApp.{on_ok}
 use Rattle.disco_places.proofs.places.Places.make.Goals as goal
 
 pub returns-clause-ok : goal.returns-clause-ok

@@ -1,4 +1,4 @@
-use Rattle.disco_press.proofs.Keeping.{begun_kept}
+use Rattle.disco_press.proofs.KeptNotes.{begun_kept}
 use Rattle.disco_press.proofs.desk.Desk.begin.Goals as goal
 
 pub invariant_of-self-2 : goal.invariant_of-self-2

@@ -1,6 +1,6 @@
 use Rattle.std.proofs.Common.{refl}
 use Rattle.disco_core.specs.Past.{cleaned}
-use Rattle.disco_press.proofs.Keeping.{quiet_kept}
+use Rattle.disco_press.proofs.KeptNotes.{quiet_kept}
 use Rattle.disco_press.proofs.desk.Desk.clean.Goals as goal
 
 pub invariant_of-self : goal.invariant_of-self

@@ -1,4 +1,4 @@
-use Rattle.disco_press.proofs.Keeping.{copied_kept}
+use Rattle.disco_press.proofs.KeptNotes.{copied_kept}
 use Rattle.disco_press.proofs.desk.Desk.copy_one.Goals as goal
 
 pub invariant_of-self-2 : goal.invariant_of-self-2

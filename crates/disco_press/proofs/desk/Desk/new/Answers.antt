@@ -1,5 +1,5 @@
 use Rattle.std.proofs.Common.{◌+◌, arith}
-use Rattle.disco_press.proofs.Keeping.{new_kept}
+use Rattle.disco_press.proofs.KeptNotes.{new_kept}
 use Rattle.disco_press.proofs.desk.Desk.new.Goals as goal
 
 pub invariant_of-result : goal.invariant_of-result

@@ -1,10 +1,10 @@
 use Rattle.std.proofs.Common.{◌∙◌, ap, subst, sym}
 use Rattle.std.specs.FinMap.{len}
-use Rattle.disco_rounds.specs.Press.{Edition, edition_of}
+use Rattle.disco_hub.specs.Press.{Edition, edition_of}
 use Rattle.disco_press.specs.Desks.{DeskState, notes_of}
-use Rattle.disco_editions.specs.Editions.{IsEditionOf}
-use Rattle.disco_editions.specs.Logs.{Logged, publications}
-use Rattle.disco_press.proofs.Keeping.{edition_ended, ended_kept, ended_many}
+use Rattle.disco_press.specs.Editions.{IsEditionOf}
+use Rattle.disco_press.specs.Logs.{Logged, publications}
+use Rattle.disco_press.proofs.KeptNotes.{edition_ended, ended_kept, ended_many}
 use Rattle.disco_press.proofs.desk.Desk.publish.Goals as goal
 
 pub show-requires : goal.show-requires

@@ -6,7 +6,7 @@ use Rattle.disco_registry.specs.declared.op.Applied.{Applied}
 use Rattle.disco_hub.specs.State.{rules_of}
 use Rattle.disco_hub.specs.Transitions.{Writes}
 use Rattle.disco_press.specs.Keeping.{IsKept}
-use Rattle.disco_press.proofs.Keeping.{quiet_kept, same_kept, written_kept}
+use Rattle.disco_press.proofs.KeptNotes.{quiet_kept, same_kept, written_kept}
 use Rattle.disco_press.proofs.desk.Desk.write_as.Goals as goal
 
 pub invariant_of-self : goal.invariant_of-self

@@ -2,7 +2,7 @@ use Rattle.std.proofs.Common.{◌∙◌, map}
 use Rattle.std.proofs.lemmas.Result.{IfOk-weaker}
 use Rattle.disco_history.specs.Mentions.{delta}
 use Rattle.disco_queue.specs.Seen.{change_of}
-use Rattle.disco_queue.proofs.Walks.{met_keys, met_values, walked}
+use Rattle.disco_queue.proofs.LastInOrder.{met_keys, met_values, walked}
 use Rattle.disco_queue.proofs.numbers.Numbers.last_changes.Goals as goal
 
 pub returns-clause-last : goal.returns-clause-last

@@ -1,4 +1,4 @@
-use Rattle.disco_places.proofs.Nesting.{on_ok}
+use Rattle.disco_places.proofs.ByApp.{on_ok}
 use Rattle.disco_queue.proofs.Places.{place_opened}
 use Rattle.disco_queue.proofs.numbers.Numbers.open.Goals as goal
 

@@ -4,7 +4,7 @@ use Rattle.disco_queue.specs.Queue.{AreFilled}
 use Rattle.disco_queue.specs.Seen.{change_of}
 use Rattle.disco_queue.specs.contracts.queue.ChangedQueue.{the_view}
 use Rattle.disco_queue.proofs.LastChanges.{seen_changes}
-use Rattle.disco_queue.proofs.Numbering.{filled}
+use Rattle.disco_queue.proofs.LastNumbers.{filled}
 use Rattle.disco_queue.proofs.queue.ChangedQueue.check.Goals as goal
 
 pub returns : goal.returns

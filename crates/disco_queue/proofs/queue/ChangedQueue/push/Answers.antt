@@ -13,8 +13,8 @@ use Rattle.disco_queue.specs.Superseded.{AreSuperseded, IsFollowedAt}
 use Rattle.disco_queue.specs.declared.kept.Kept.{Kept}
 use Rattle.disco_queue.specs.contracts.queue.ChangedQueue.{the_view}
 use Rattle.disco_queue.proofs.Histories.{keeps_dropped, keeps_pushed}
-use Rattle.disco_queue.proofs.Numbering.{none_written, number_written}
-use Rattle.disco_queue.proofs.Superseding.{earlier_followed, superseded_more}
+use Rattle.disco_queue.proofs.LastNumbers.{none_written, number_written}
+use Rattle.disco_queue.proofs.Superseded.{earlier_followed, superseded_more}
 use Rattle.disco_queue.proofs.queue.ChangedQueue.push.Goals as goal
 use Rattle.disco_queue.proofs.queue.ChangedQueue.push.Goals.{then-is_full, else-is_full}
 

@@ -1,4 +1,4 @@
-use Rattle.disco_reconcile.proofs.Refreshing.{certified_refreshes, plain_refreshes}
+use Rattle.disco_reconcile.proofs.RefreshResults.{certified_refreshes, plain_refreshes}
 use Rattle.disco_reconcile.proofs.client.Client.refresh.Goals as goal
 
 pub returns-in-Plain : goal.returns-in-Plain

@@ -1,7 +1,7 @@
 use Rattle.std.proofs.Common.{ap, ◌∙◌}
 use Rattle.std.specs.FinMap.{values}
 use Rattle.disco_registry.specs.Records.{Contents}
-use Rattle.disco_registry.proofs.Walking.{all_shown}
+use Rattle.disco_registry.proofs.RecordsByApp.{all_shown}
 use Rattle.disco_registry.proofs.records.Records.apps.Goals as goal
 
 pub returns : goal.returns

@@ -3,7 +3,7 @@ use Rattle.std.specs.FinMap.{remove}
 use Rattle.disco_history.specs.declared.held.Held.{Held}
 use Rattle.disco_instance.specs.declared.record.Record.{Record}
 use Rattle.disco_registry.specs.Records.{AreInPlace, Contents, key_of_held}
-use Rattle.disco_registry.proofs.Placing.{forgotten_shown, placed-forgotten}
+use Rattle.disco_registry.proofs.PlaceSteps.{forgotten_shown, placed-forgotten}
 use Rattle.disco_registry.proofs.records.Records.forget.Goals as goal
 
 pub invariant_of-self : goal.invariant_of-self

@@ -2,7 +2,7 @@ use Rattle.std.proofs.Common.{is_some, option_map, sym, ap, ◌∙◌}
 use Rattle.std.specs.FinMap.{get}
 use Rattle.disco_history.specs.Held.{entry_of}
 use Rattle.disco_registry.specs.Records.{Contents}
-use Rattle.disco_registry.proofs.Placing.{at, copied_there, keys_at, left_held, map_copied, next_absent}
+use Rattle.disco_registry.proofs.PlaceSteps.{at, copied_there, keys_at, left_held, map_copied, next_absent}
 use Rattle.disco_registry.proofs.records.Records.held.Goals as goal
 
 pub returns-in-Some-clause-found : goal.returns-in-Some-clause-found

@@ -4,7 +4,7 @@ use Rattle.std.specs.Option.{option_flatten}
 use Rattle.disco_history.specs.declared.held.Held.{Held}
 use Rattle.disco_instance.specs.declared.record.Record.{Record}
 use Rattle.disco_registry.specs.Records.{AreInPlace, Contents, key_of_held}
-use Rattle.disco_registry.proofs.Placing.{made_shown, no_place, none_next, placed-made}
+use Rattle.disco_registry.proofs.PlaceSteps.{made_shown, no_place, none_next, placed-made}
 use Rattle.disco_registry.proofs.records.Records.make.Goals as goal
 
 pub invariant_of-self-2 : goal.invariant_of-self-2

@@ -1,6 +1,6 @@
 use Rattle.std.proofs.Common.{None, ap, ◌∙◌}
 use Rattle.disco_registry.specs.Records.{mentions_held}
-use Rattle.disco_registry.proofs.Placing.{none_shown, placed-new}
+use Rattle.disco_registry.proofs.PlaceSteps.{none_shown, placed-new}
 use Rattle.disco_registry.proofs.records.Records.new.Goals as goal
 
 pub invariant_of-result : goal.invariant_of-result

@@ -3,7 +3,7 @@ use Rattle.std.specs.FinMap.{values}
 use Rattle.disco_history.specs.Apps.{is_of_app}
 use Rattle.disco_history.specs.Held.{entry_of}
 use Rattle.disco_registry.specs.Records.{Contents}
-use Rattle.disco_registry.proofs.Walking.{app_shown, shown_in, shown_of}
+use Rattle.disco_registry.proofs.RecordsByApp.{app_shown, shown_in, shown_of}
 use Rattle.disco_registry.proofs.records.Records.of_app.Goals as goal
 
 pub returns-in_ok-shared_in-in-Some : goal.returns-in_ok-shared_in-in-Some

@@ -3,7 +3,7 @@ use Rattle.std.specs.FinMap.{values}
 use Rattle.std.specs.List.{find}
 use Rattle.disco_history.specs.Apps.{is_of_id}
 use Rattle.disco_registry.specs.Records.{Contents}
-use Rattle.disco_registry.proofs.Walking.{all_shown}
+use Rattle.disco_registry.proofs.RecordsByApp.{all_shown}
 use Rattle.disco_registry.proofs.records.Records.of_id.Goals as goal
 
 pub returns : goal.returns

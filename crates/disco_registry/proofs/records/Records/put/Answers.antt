@@ -2,7 +2,7 @@ use Rattle.std.proofs.Common.{◌≡◌, None, Some, option_map, sym, ap, ◌∙
 use Rattle.std.specs.FinMap.{get, insert}
 use Rattle.disco_history.specs.Held.{entry_of}
 use Rattle.disco_registry.specs.Records.{Contents, key_of_held, next_left, mentions_held}
-use Rattle.disco_registry.proofs.Placing.{has_place, placed-put, put_shown}
+use Rattle.disco_registry.proofs.PlaceSteps.{has_place, placed-put, put_shown}
 use Rattle.disco_registry.proofs.records.Records.put.Goals as goal
 
 pub invariant_of-self : goal.invariant_of-self

@@ -1,7 +1,7 @@
 use Rattle.std.proofs.Common.{is_some, ap, ◌∙◌}
 use Rattle.std.specs.FinMap.{get}
 use Rattle.disco_registry.specs.Records.{Contents}
-use Rattle.disco_registry.proofs.Placing.{held_there, sought_again, sought_held}
+use Rattle.disco_registry.proofs.PlaceSteps.{held_there, sought_again, sought_held}
 use Rattle.disco_registry.proofs.records.Records.seek.Goals as goal
 
 pub invariant_of-self : goal.invariant_of-self

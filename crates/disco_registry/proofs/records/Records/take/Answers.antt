@@ -2,7 +2,7 @@ use Rattle.std.proofs.Common.{Option, ap, subst, ◌∙◌}
 use Rattle.std.specs.FinMap.{remove}
 use Rattle.disco_history.specs.declared.held.Held.{Held}
 use Rattle.disco_registry.specs.Records.{AreInPlace, Contents}
-use Rattle.disco_registry.proofs.Placing.{none_next, placed-taken, taken_shown}
+use Rattle.disco_registry.proofs.PlaceSteps.{none_next, placed-taken, taken_shown}
 use Rattle.disco_registry.proofs.records.Records.take.Goals as goal
 
 pub invariant_of-self : goal.invariant_of-self

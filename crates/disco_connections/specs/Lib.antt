@@ -1,4 +1,0 @@
-pub mod Acceptors
-pub mod Draining
-pub mod Ending
-pub mod Waits

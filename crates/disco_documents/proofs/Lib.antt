@@ -1,4 +1,0 @@
-mod Again
-pub mod Back
-pub mod Documents
-pub mod Texts

@@ -1,5 +1,0 @@
-use Rattle.disco_documents.proofs.Documents.{document_law}
-use Rattle.disco_documents.proofs.laws.document_law.Goals as goal
-
-pub returns : goal.returns
-returns c = document_law

@@ -1,4 +1,0 @@
-pub mod Documents
-pub mod Laws
-pub mod Rows
-pub mod Trees

@@ -1,2 +1,0 @@
-pub mod Publications
-mod Shows

@@ -1,3 +1,0 @@
-pub mod Editions
-pub mod Logs
-pub mod Looks

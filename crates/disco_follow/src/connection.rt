@@ -1,0 +1,42 @@
+//! Connections of clients.
+use disco_http::{Counted, Reader, Writer};
+use disco_message::Limits;
+use disco_reconcile::HttpFetch;
+use std::alloc::{AllocError, Global};
+use std::io;
+use std::net::{Net, SocketAddr, TcpStream};
+use std::time::Duration;
+
+/// How long a client waits for bytes of a reply, in seconds.
+const PATIENCE: u64 = 60;
+
+/// Fetches over a connection.
+pub type Connected = HttpFetch<Counted<TcpStream>, Counted<TcpStream>>;
+
+/// A connection to an address, and once more the same. A read of it fails where nothing comes for a
+/// minute.
+///
+/// # Errors
+///
+/// What the host says where it refuses the connection.
+pub fn connect<N: Net<Stream = TcpStream>>(
+    rt: &N,
+    address: SocketAddr,
+) -> io::Result<(TcpStream, TcpStream)> {
+    let stream = TcpStream::connect(rt, address)?;
+    stream.set_nodelay(true)?;
+    stream.set_read_timeout(Some(Duration::from_secs(PATIENCE)))?;
+    let other = stream.try_clone()?;
+    Ok((stream, other))
+}
+
+/// Fetches over a connection, of which one stream is read and the other written.
+///
+/// # Errors
+///
+/// `AllocError` where memory is refused.
+pub fn fetcher(alloc: Global, source: TcpStream, sink: TcpStream) -> Result<Connected, AllocError> {
+    let reader = Reader::new(alloc, Counted::new(source), Limits::of_client())?;
+    let writer = Writer::new(alloc, Counted::new(sink))?;
+    Ok(HttpFetch::new(alloc, reader, writer))
+}

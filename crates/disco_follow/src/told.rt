@@ -1,0 +1,87 @@
+//! What was told of a client.
+ghost use Rattle.std.specs.Prelude.{◌≡◌, [], true, false};
+ghost use Rattle.std.specs.FinMap.{empty};
+ghost use Rattle.disco_values.specs.Fault.{fault_number};
+ghost use Rattle.disco_follow.specs.Telling.{is_news, is_told_last};
+
+use disco_client::Copy;
+use disco_values::{Bytes, Fault};
+use std::alloc::Global;
+use std::marker::Model;
+
+/// What was told last of a client: its copy, the line of the vip that is asked for, and the refusal
+/// that no copy was told behind.
+#[derive(Drop)]
+pub(crate) struct Told {
+    begun: bool,
+    pub(crate) copy: Copy,
+    pub(crate) up: Bytes,
+    /// The number of the refusal, 0 where there is none.
+    fault: u32,
+}
+
+impl Model for Told {
+    ghost use Rattle.std.specs.Coded.{codes};
+    ghost use Rattle.std.specs.FinMap.{code};
+    ghost use Rattle.disco_follow.specs.Telling.{Told as Seen};
+
+    ghost Value = { Seen };
+
+    ghost coded = { Prim.hlevel (codes, code) };
+
+    ghost view = { λ t. record { begun = t.begun; copy = t.copy; up = t.up; fault = t.fault } };
+}
+
+impl Told {
+    /// Nothing yet.
+    pub(crate) fn new(alloc: Global) -> Told
+        ensures { result ≡ record { begun = false; copy = empty; up = []; fault = 0 } }
+    {
+        Told {
+            begun: false,
+            copy: Copy::new(alloc),
+            up: Bytes::from_vec(Vec::new(alloc)),
+            fault: 0,
+        }
+    }
+}
+
+impl Told {
+    /// Whether a copy that changed so is to be told.
+    pub(crate) fn is_news(&self, changes: &[u8]) -> bool
+        ensures { result ≡ is_news self.now changes.now }
+    {
+        !(self.begun && (self.fault == 0 && changes.is_empty()))
+    }
+
+    /// Whether this refusal was told last.
+    pub(crate) fn is_told_last(&self, fault: &Fault) -> bool
+        ensures { result ≡ is_told_last self.now fault.now }
+    {
+        self.fault == fault.number()
+    }
+
+    /// What was told last where that is a copy, and the line of its vip.
+    pub(crate) fn of(copy: Copy, up: Bytes) -> Told
+        ensures { result ≡ record { begun = true; copy = copy; up = up; fault = 0 } }
+    {
+        Told {
+            begun: true,
+            copy,
+            up,
+            fault: 0,
+        }
+    }
+
+    /// A refusal was told.
+    pub(crate) fn refused(self, fault: &Fault) -> Told
+        ensures { result ≡ record self { fault = fault_number fault.now } }
+    {
+        Told {
+            begun: self.begun,
+            copy: self.copy,
+            up: self.up,
+            fault: fault.number(),
+        }
+    }
+}

@@ -1,0 +1,124 @@
+-- Only what code keeps: nothing here is to be believed.
+use Rattle.std.specs.Prelude.{◌≡◌, ℕ, ◌≤◌, ⊤, ◌⊎◌, IsOk, Bool, true, false, ◌==◌, ◌&&◌, ◌||◌, ◌++◌, List, [], ◌∷◌, length, drop, Option, Some, None}
+use Rattle.std.specs.Prelude.{Result, Ok, Err}
+use Rattle.std.specs.List.{concat, list_any}
+use Rattle.httparse.specs.Ascii.{carriage_return, line_feed}
+use Rattle.httparse.specs.Grammar.{ChunkLine, Field, LineEnd, print_section, ReadsSection}
+use Rattle.httparse.specs.Spans.{IsRequestWithin, IsRequestOf, IsResponseWithin, IsResponseOf, IsChunkLineAt}
+use Rattle.httparse.specs.declared.spans.HeaderSpan.{HeaderSpan}
+use Rattle.disco_values.specs.declared.fault.Fault.{Fault}
+use Rattle.disco_http.specs.declared.parsing.Found.{Found}
+use Rattle.disco_http.specs.declared.parsing.Found.TheVariants as found
+use Rattle.disco_http.specs.declared.parsing.Part.{Part}
+use Rattle.disco_http.specs.declared.parsing.Part.TheVariants as part
+use Rattle.disco_values.specs.declared.fault.Fault.TheVariants.{OutOfMemory, HeadTooLarge, BadRequest, ReadFailed}
+use Rattle.disco_message.specs.declared.limits.Limits.{Limits}
+use Rattle.disco_message.specs.declared.framing.Framing.{Framing}
+use Rattle.disco_message.specs.declared.received.Extent.{Extent}
+use Rattle.disco_message.specs.declared.received.Extent.TheVariants.{Framed, UntilEnd}
+use Rattle.disco_http.specs.Bodies.{ReadsBody}
+use Rattle.disco_http.specs.Chunks.{HasSize, LacksChunk, LineRefused, ReadsChunk, ReadsLast, ReadsPieces}
+use Rattle.disco_http.specs.Parts.{HasNo, BytesRefused, PartRefused}
+use Rattle.disco_http.specs.Replies.{BeginsReply}
+use Rattle.disco_http.specs.Requests.{BeginsWithHead}
+use Rattle.disco_message.specs.Heading.{Heading, heading}
+use Rattle.disco_message.specs.Received.{Received, received}
+
+-- an empty line stands behind a line in the bytes, the first of which follow none but CRs in their line, or not
+abbrev pub has_empty_line : Bool → List ℕ → Bool
+has_empty_line blank [] = false
+has_empty_line blank (b ∷ bytes) = (b == line_feed && blank) || has_empty_line (b == line_feed || (b == carriage_return && blank)) bytes
+
+-- the bytes have what a part ends with
+abbrev pub has_end : Part → List ℕ → Bool
+has_end part.SizeLine bytes = list_any (λ b. b == line_feed) bytes
+has_end part bytes = has_empty_line false bytes
+
+-- a line of this length and size stands at the front
+abbrev pub IsLine : List ℕ → ℕ → ℕ → Type 0
+IsLine bytes len size = (len ≤ length bytes) × ((line : ChunkLine) × IsChunkLineAt bytes len size line)
+
+-- so many fields at most, with the empty line, stand at the front
+abbrev pub IsTrailer : ℕ → List ℕ → ℕ → Type 0
+IsTrailer few bytes len = (len ≤ length bytes) × ((fields : List Field) × (last : LineEnd) × ReadsSection bytes fields last (drop len bytes)
+    × (len ≡ length (print_section fields last)) × (length fields ≤ few))
+
+-- the part that was found stands at the front
+abbrev pub IsFound : ℕ → Part → List ℕ → List HeaderSpan → Found → Type 0
+IsFound few part.RequestHead bytes spans (found.RequestHead line) = IsRequestWithin bytes spans line × IsRequestOf bytes spans line
+IsFound few part.ReplyHead bytes spans (found.ReplyHead line) = IsResponseWithin bytes spans line × IsResponseOf bytes spans line
+IsFound few part.SizeLine bytes spans (found.SizeLine len size) = IsLine bytes len size
+IsFound few part.Trailer bytes spans (found.Trailer len) = IsTrailer few bytes len
+IsFound few part bytes spans other = ⊥
+
+-- what a look at bytes answers
+abbrev pub Looked : ℕ → Part → List ℕ → List HeaderSpan → Result (Option Found) Fault → Type 0
+Looked few part bytes spans (Ok (Some found)) = IsFound few part bytes spans found
+Looked few part bytes spans (Ok None) = HasNo part bytes
+Looked few part bytes spans (Err fault) = BytesRefused few part fault bytes
+
+-- why no chunk's line is read from the input
+abbrev pub SizeRefused : Limits → Fault → List ℕ → Type 0
+SizeRefused limits ReadFailed input = ⊤
+SizeRefused limits BadRequest input = LineRefused limits input
+SizeRefused limits fault input = ⊥
+
+-- why the bytes of a chunk are refused
+abbrev pub DataRefused : ℕ → Fault → List ℕ → Type 0
+DataRefused size ReadFailed input = ⊤
+DataRefused size OutOfMemory input = ⊤
+DataRefused size BadRequest input = LacksChunk size input
+DataRefused size fault input = ⊥
+
+-- why the fields behind the last chunk are refused
+abbrev pub TrailerRefused : Limits → Fault → List ℕ → Type 0
+TrailerRefused limits ReadFailed input = ⊤
+TrailerRefused limits HeadTooLarge input = PartRefused limits part.Trailer HeadTooLarge input
+TrailerRefused limits BadRequest input = PartRefused limits part.Trailer BadRequest input
+TrailerRefused limits fault input = ⊥
+
+-- one turn: a chunk was appended to the body, or the line of size 0 was read
+abbrev pub Turn : Limits → Bool → List ℕ → List ℕ → List ℕ → Option (List ℕ) → Type 0
+Turn limits true old new input left = (piece : List ℕ) × (next : List ℕ) × ReadsChunk limits input piece next × (new ≡ old ++ piece) × (left ≡ Some next)
+Turn limits false old new input left = (next : List ℕ) × HasSize limits 0 input next × (new ≡ old) × (left ≡ Some next)
+
+-- the body so far is that of the chunks so far
+abbrev pub PiecesSoFar : Limits → List ℕ → List ℕ → Option (List ℕ) → Type 0
+PiecesSoFar limits body input left = (pieces : List (List ℕ)) × (next : List ℕ) × ReadsPieces limits input pieces next × (body ≡ concat pieces)
+    × (left ≡ Some next)
+
+-- no chunks up to the last, with the fields behind it, stand at the front of these bytes
+abbrev pub HasNoChunks : Limits → List ℕ → Type 0
+HasNoChunks limits bytes = (pieces : List (List ℕ)) (next rest : List ℕ) → ReadsPieces limits bytes pieces next → ReadsLast limits next rest → ⊥
+
+-- nor does a body
+abbrev pub HasNoBody : Limits → Framing → List ℕ → Type 0
+HasNoBody limits framing bytes = (body rest : List ℕ) → ReadsBody limits framing bytes body rest → ⊥
+
+-- the same of the body of a reply, unless it goes on to the end of the input
+abbrev pub HasNoExtent : Limits → Extent → List ℕ → Type 0
+HasNoExtent limits (Framed framing) bytes = HasNoBody limits framing bytes
+HasNoExtent limits UntilEnd bytes = ⊤
+
+-- the stream begins with a head that says this, and so much is left
+abbrev pub IsRead : {H S : Type 0} → (H → Result S Fault) → (List ℕ → H → List ℕ → Type 0) → List ℕ → S → Option (List ℕ) → Type 0
+IsRead {H} say begins stream says left = (h : H) × (after : List ℕ) × begins stream h after × (say h ≡ Ok says) × (left ≡ Some after)
+
+-- why no head is read that may be read on: none stands there, or one that is refused, or there was no memory
+abbrev pub IsNotRead : {H S : Type 0} → (H → Result S Fault) → (List ℕ → H → List ℕ → Type 0) → (Fault → List ℕ → Type 0) → Fault → List ℕ → Type 0
+IsNotRead {H} say begins none fault stream = none fault stream
+    ⊎ ((h : H) × (after : List ℕ) × begins stream h after × ((say h ≡ Err fault) ⊎ ((fault ≡ OutOfMemory) × IsOk (say h))))
+
+-- the same of the head of a request
+abbrev pub HeadRead : Limits → List ℕ → Heading → Option (List ℕ) → Type 0
+HeadRead limits stream says left = IsRead heading (BeginsWithHead limits) stream says left
+
+abbrev pub HeadRefused : Limits → Fault → List ℕ → Type 0
+HeadRefused limits fault stream = IsNotRead heading (BeginsWithHead limits) (PartRefused limits part.RequestHead) fault stream
+
+-- and of the head of a reply
+abbrev pub ReplyRead : Limits → List ℕ → Received → Option (List ℕ) → Type 0
+ReplyRead limits stream says left = IsRead received (BeginsReply limits) stream says left
+
+abbrev pub ReplyHeadRefused : Limits → Fault → List ℕ → Type 0
+ReplyHeadRefused limits fault stream = IsNotRead received (BeginsReply limits) (PartRefused limits part.ReplyHead) fault stream

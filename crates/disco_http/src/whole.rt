@@ -1,0 +1,56 @@
+//! Whole inputs that are read.
+ghost use Rattle.std.specs.Prelude.{◌≡◌, ◌++◌, ◌<◌, ◌^◌, ◌⊎◌, ℕ, List, IfOk, IfErr, IfSome, IsFalse, IsTrue, OnOk, length, vec_len};
+ghost use Rattle.std.specs.Io.KnownBytes.{Consumes, IsAtEnd};
+ghost use Rattle.disco_values.specs.declared.fault.Fault.TheVariants.{OutOfMemory, ReadFailed};
+ghost use Rattle.disco_http.specs.Causes.{Cause};
+
+use crate::source::{Failed, Source};
+use disco_values::Fault;
+use std::alloc::Global;
+
+/// Bytes of one read, at most.
+const PIECE: usize = 16_384;
+
+/// Reads once, and puts what came behind the bytes. False at the end of the input.
+fn read_more<R: Source>(
+    source: &mut R,
+    piece: &mut [u8],
+    bytes: &mut Vec<u8>,
+) -> Result<bool, Fault>
+    requires { 0 < length piece.old }
+    ensures more { OnOk result ((came : List ℕ) × (bytes.new.items ≡ bytes.old.items ++ came)
+        × Consumes (R.remaining source.old) (R.remaining source.new) came) }
+    ensures grown { IfOk result (λ some. IsTrue some → vec_len bytes.old < vec_len bytes.new) }
+    ensures bound { vec_len bytes.new < 2 ^ 64 }
+    ensures length { length piece.new ≡ length piece.old }
+    ensures end { IfOk result (λ some. IsFalse some → IsAtEnd (R.remaining source.new)) }
+    ensures fault { IfErr result (λ e. (e ≡ OutOfMemory) ⊎ (e ≡ ReadFailed)) }
+    ensures cause { Cause ReadFailed (R.failed source.old) (R.failed source.new) result }
+    ensures none_failed { OnOk result (R.failed source.new ≡ R.failed source.old) }
+{
+    match source.read(piece) {
+        Ok(count) => {
+            bytes.extend_from_slice(&piece[..count])?;
+            Ok(count > 0)
+        }
+        Err(Failed) => Err(Fault::ReadFailed),
+    }
+}
+
+/// All bytes that a source gives, up to its end.
+///
+/// # Errors
+///
+/// `ReadFailed` where a read fails, and `OutOfMemory`.
+pub fn read_all<R: Source>(alloc: Global, source: &mut R) -> Result<Vec<u8>, Fault>
+    ensures all { IfOk result (λ bytes. IfSome (R.remaining source.old) (λ given. bytes.items ≡ given)) }
+    ensures end { OnOk result (IsAtEnd (R.remaining source.new)) }
+    ensures fault { IfErr result (λ e. (e ≡ OutOfMemory) ⊎ (e ≡ ReadFailed)) }
+    ensures cause { Cause ReadFailed (R.failed source.old) (R.failed source.new) result }
+    ensures none_failed { OnOk result (R.failed source.new ≡ R.failed source.old) }
+{
+    let mut piece = [0u8; PIECE];
+    let mut bytes = Vec::new(alloc);
+    while read_more(source, &mut piece, &mut bytes)? {}
+    Ok(bytes)
+}

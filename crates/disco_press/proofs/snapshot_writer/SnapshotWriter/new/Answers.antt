@@ -1,0 +1,11 @@
+use Rattle.std.proofs.Common.{◌∙◌, ap}
+use Rattle.disco_press.specs.declared.scroll.Leaf.{Leaf}
+use Rattle.disco_press.specs.Logs.{publications}
+use Rattle.disco_press.specs.declared.entry.LogEntry.{LogEntry}
+use Rattle.disco_press.proofs.Shows.{new_edition}
+use Rattle.disco_press.proofs.snapshot_writer.SnapshotWriter.new.Goals as goal
+
+pub new-requires-3-clause-rule : goal.new-requires-3-clause-rule
+new-requires-3-clause-rule g c =
+    let same = c.again.ensures in
+    (ap (λ (l : Leaf LogEntry). l.name) same ∙ c.requires.empty.1, new_edition (publications c.again.result.leaf.items) c.new.result (ap (λ (l : Leaf LogEntry). publications l.items) same ∙ c.requires.empty.0) c.new.ensures)

@@ -1,0 +1,105 @@
+//! Writes, which note their changes.
+ghost use Rattle.std.specs.Prelude.{◌≡◌, ◌+◌, IfErr, IfOk, OnErr, length, true};
+ghost use Rattle.disco_registry.specs.Commit.{changes_properly, done_by};
+ghost use Rattle.disco_registry.specs.Op.{op_view};
+ghost use Rattle.disco_core.specs.Past.{taken_in};
+ghost use Rattle.disco_hub.specs.Expiry.{Expires, cancelled};
+ghost use Rattle.disco_hub.specs.State.{rules_of};
+ghost use Rattle.disco_hub.specs.Transitions.{Declines, KeepsRest, Writes};
+ghost use Rattle.disco_press.specs.Desks.{CountsByNone, CountsBySeat, Notes, NotesCancels, NotesNothing, note_done};
+
+use crate::desk::Desk;
+use crate::published_log::Naming;
+use crate::seat::Seat;
+use disco_hub::{Cancel, Expired, cancel_all};
+use disco_registry::{Applied, Op};
+use disco_values::{Fault, Key};
+
+impl<J: Naming> Desk<J> {
+    /// Does one operation at a moment in milliseconds, as [`disco_hub::Hub::write`] does, and notes
+    /// its change, if it makes one. No seat counts it.
+    ///
+    /// # Errors
+    ///
+    /// As of [`disco_hub::Hub::write`]: what the registry refuses the operation as, and
+    /// `OutOfMemory`. Nothing is noted then.
+    pub fn write(&mut self, op: Op, now: u64) -> Result<Applied, Fault>
+        ensures done { IfOk result (λ a. Writes self.old.hub self.new.hub (op_view op) now (done_by a)) }
+        ensures proper { IfOk result (λ a. changes_properly a ≡ true) }
+        ensures noted { IfOk result (λ a. Notes (note_done (done_by a)) self.old self.new) }
+        ensures counted { IfOk result (λ a. CountsByNone (length (note_done (done_by a))) self.old self.new) }
+        ensures refused { IfErr result (Declines self.old.hub self.new.hub (op_view op) now) }
+        ensures not_noted { OnErr result (NotesNothing self.old self.new) }
+        ensures rest { KeepsRest self.old.hub self.new.hub }
+    {
+        let applied = self.hub.write(op, now)?;
+        // For the proof alone: a version fits a u64.
+        let _version = self.hub.version();
+        match applied {
+            Applied::Changed(change) => {
+                self.by_none += 1;
+                Ok(Applied::Changed(self.log.change(change)))
+            }
+            Applied::Same => Ok(Applied::Same),
+        }
+    }
+
+    /// Does one operation as [`Desk::write`] does, for a seat, which counts its change, if it makes
+    /// one.
+    ///
+    /// # Errors
+    ///
+    /// What [`Desk::write`] is refused as. Nothing is noted then, and the seat is as it was.
+    pub fn write_as(&mut self, seat: &mut Seat<J>, op: Op, now: u64) -> Result<Applied, Fault>
+        ensures done { IfOk result (λ a. Writes self.old.hub self.new.hub (op_view op) now (done_by a)) }
+        ensures proper { IfOk result (λ a. changes_properly a ≡ true) }
+        ensures noted { IfOk result (λ a. Notes (note_done (done_by a)) self.old self.new) }
+        ensures counted { IfOk result (λ a. CountsBySeat (length (note_done (done_by a))) self.old self.new) }
+        ensures count { IfOk result (λ a. seat.new ≡ record seat.old { changes = seat.old.changes + length (note_done (done_by a)) }) }
+        ensures refused { IfErr result (Declines self.old.hub self.new.hub (op_view op) now) }
+        ensures not_noted { OnErr result (NotesNothing self.old self.new) }
+        ensures not_counted { OnErr result (seat.new ≡ seat.old) }
+        ensures rest { KeepsRest self.old.hub self.new.hub }
+    {
+        let applied = self.hub.write(op, now)?;
+        // For the proof alone: a version fits a u64.
+        let _version = self.hub.version();
+        match applied {
+            Applied::Changed(change) => {
+                seat.count(&mut self.book);
+                Ok(Applied::Changed(self.log.change(change)))
+            }
+            Applied::Same => Ok(Applied::Same),
+        }
+    }
+
+    /// Cancels the instances whose leases ran out, as [`disco_hub::Hub::expire`] does, and notes each
+    /// cancel. No seat counts them.
+    pub fn expire(&mut self, now: u64) -> Expired
+        ensures history { Expires self.old.hub self.new.hub now (λ p. taken_in p now) result.gone result.stopped }
+        ensures noted { NotesCancels self.old self.new (λ p. cancelled (rules_of self.old.hub) p now (taken_in p now) result.gone) }
+        ensures rest { KeepsRest self.old.hub self.new.hub }
+    {
+        match self.hub.due(now) {
+            Ok(keys) => cancel_all(self, keys.as_slice(), now),
+            Err(fault) => Expired {
+                gone: 0,
+                stopped: Some(fault),
+            },
+        }
+    }
+}
+
+impl<J: Naming> Cancel for Desk<J> {
+    ghost use Rattle.disco_press.specs.Desks.{NotesCancels};
+
+    ghost hub = { λ d. d.hub };
+
+    ghost noted = { NotesCancels };
+
+    fn cancel(&mut self, key: &Key, now: u64) -> Result<(), Fault> {
+        let key = key.clone()?;
+        self.write(Op::Cancel(key), now)?;
+        Ok(())
+    }
+}

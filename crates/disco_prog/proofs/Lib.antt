@@ -1,0 +1,2 @@
+mod Restarts
+mod Whole

@@ -1,0 +1,7 @@
+use Rattle.disco_prog.proofs.fleets.run_all.Given as goal
+
+abbrev pub ghosts-run-J-Naming : goal.ghosts-run-J-Naming
+ghosts-run-J-Naming g a = record { list = a.opening.marks.name }
+
+abbrev pub ghosts-run-J-Ledger : goal.ghosts-run-J-Ledger
+ghosts-run-J-Ledger g a = record { name = a.opening.blank.name; parts = a.opening.blank.parts }

@@ -1,0 +1,3 @@
+pub mod Fleets
+pub mod Replay
+pub mod Serving

@@ -1,0 +1,23 @@
+-- What the words of `serve` name, and what it writes.
+use Rattle.std.specs.Prelude.{◌≡◌, ℕ, List, Option, ◌++◌, codes, decimal, unwrap_or}
+use Rattle.std.specs.Io.KnownBytes.{Appends}
+use Rattle.clap.specs.Words.{Row, Text}
+use Rattle.disco_options.specs.Options.{AreGiven, AreMatches, number_given, port_in, within}
+use Rattle.disco_options.specs.declared.subcommand.Subcommand.TheVariants.{Serve}
+use Rattle.disco_prog.specs.declared.service.Service.{Service}
+
+-- the settings, of which the run is this one where none is given, the port, the workers (4 where none are given) and the connections (0, which is no
+-- end) are those given
+pub record IsServicePlan (run : ℕ) (rows : List Row) (s : Service) : Type 0 where
+  pub settings : AreGiven run rows s.settings
+  pub port : s.port ≡ port_in rows
+  pub workers : s.workers ≡ within 64 4 (number_given (codes "workers") rows)
+  pub connections : s.connections ≡ unwrap_or (number_given (codes "connections") rows) 0
+
+-- `listening 127.0.0.1:PORT`
+abbrev pub listening_line : ℕ → List ℕ
+listening_line port = codes "listening 127.0.0.1:" ++ decimal port ++ codes "\n"
+
+-- the words are `serve` and options, and it is said that connections are taken on the port that these give
+unfoldable pub SaysListening : List Text → Option (List ℕ) → Option (List ℕ) → Type 0
+SaysListening words old new = (rows : List Row) × AreMatches Serve words rows × Appends old new (listening_line (port_in rows))

@@ -1,0 +1,16 @@
+//! What is served.
+ghost use Rattle.std.specs.Prelude.{◌<◌, ◌≤◌};
+
+use disco_values::Settings;
+
+/// What is served, and for how long.
+#[derive(Clone, Copy, Debug)]
+pub(crate) struct Service {
+    pub(crate) settings: Settings,
+    pub(crate) port: u16,
+    pub(crate) workers: usize,
+    /// After how many connections it ends; 0 is no end.
+    pub(crate) connections: u64,
+    pub(crate) ghost some: { 0 < workers },
+    pub(crate) ghost few: { workers ≤ 64 },
+}

@@ -1,9 +1,0 @@
-pub mod Chunking
-pub mod Coming
-pub mod EmptyLines
-pub mod Heads
-pub mod Known
-pub mod Messages
-pub mod Refusals
-pub mod Slices
-pub mod Taken

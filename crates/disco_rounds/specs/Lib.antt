@@ -1,5 +1,0 @@
-pub mod Laws
-pub mod Press
-pub mod Rounds
-pub mod Shown
-pub mod Stored

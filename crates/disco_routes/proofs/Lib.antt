@@ -1,5 +1,0 @@
-mod Walk
-mod Named
-mod Routing
-mod Filling
-mod Rows

@@ -1,4 +1,0 @@
-pub mod Places
-pub mod Paths
-pub mod Table
-pub mod Worked

@@ -1,0 +1,114 @@
+//! Starts a server's workers.
+ghost use Rattle.std.specs.Prelude.{◌≡◌, ◌⊎◌, IfErr};
+ghost use Rattle.disco_values.specs.declared.fault.Fault.TheVariants.{OutOfMemory, ReadFailed};
+
+use crate::acceptor::{Acceptor, Refusal};
+use crate::clock::Clock;
+use crate::desk_service::ServerContext;
+use crate::gate::Gate;
+use crate::waits::Waits;
+use crate::worker::{Entrance, Worker, work};
+use crate::workers::Workers;
+use disco_message::Limits;
+use disco_press::{Desk, Naming, Seat};
+use disco_values::Fault;
+use std::alloc::{AllocError, Global};
+use std::net::{Net, TcpListener, TcpStream};
+use std::sync::{Mutex, Wait};
+use std::thread::Threads;
+use std::{rt, thread};
+
+/// A worker for each seat.
+fn workers_for<'a, J: Naming, R, C: Clock + Copy, G>(
+    context: &'a ServerContext<'a, J, R, G>,
+    seats: Vec<Seat<J>>,
+    limits: Limits,
+    clock: C,
+) -> Result<Vec<Worker<'a, J, R, C, G>>, AllocError> {
+    let mut workers = Vec::new(context.alloc);
+    for seat in seats {
+        let number = workers.len();
+        workers.push(Worker::new(context, number, seat, clock, limits)?)?;
+    }
+    Ok(workers)
+}
+
+/// Has each worker on a thread of its own take connections by the acceptor, and returns once all
+/// have ended.
+fn run<J, R, C, G>(
+    rt: &R,
+    alloc: Global,
+    entrance: Entrance<'_>,
+    workers: Vec<Worker<'_, J, R, C, G>>,
+)
+where
+    J: Naming + Send + Sync,
+    R: Net<Listener = TcpListener, Stream = TcpStream> + Threads + Wait + rt::Clock + Sync,
+    C: Clock + Copy + Send,
+    G: Gate + Sync,
+{
+    thread::scope(thread::scope_env(), rt, move |scope| {
+        // No connection is taken before all workers are there.
+        let mut entry = entrance.acceptor.lock(rt);
+        for worker in workers {
+            if scope
+                .spawn(move || work(rt, alloc, entrance, worker))
+                .is_err()
+            {
+                entry.refuse(Refusal::ByHost);
+                break;
+            }
+        }
+    });
+}
+
+/// Serves the connections of a listener, with a worker on a thread of its own for each seat. Each
+/// takes the next connection as soon as it is free. Returns after so many connections in all, and
+/// never where that is 0; with no seat none is taken.
+///
+/// A connection is waited for as a server does ([`Waits::of_server`]): one that has sent nothing of a
+/// next request gives way to one that waits while no worker is free.
+///
+/// # Errors
+///
+/// `OutOfMemory` and `ReadFailed`, once all workers have ended. Where the host refuses a worker, or
+/// there is no memory before they begin, none takes a connection. Where it refuses a connection for
+/// good, or one of them finds no memory or no descriptor for what it needs, no more is taken, and
+/// those that were taken are served to their end.
+pub fn start<'a, J, R, C, G>(
+    rt: &'a R,
+    alloc: Global,
+    listener: TcpListener,
+    desk: &'a Mutex<Desk<J>>,
+    seats: Vec<Seat<J>>,
+    limits: &Limits,
+    connections: u64,
+    clock: C,
+    gate: &'a G,
+) -> Result<(), Fault>
+where
+    J: Naming + Send + Sync,
+    R: Net<Listener = TcpListener, Stream = TcpStream> + Threads + Wait + rt::Clock + Sync,
+    C: Clock + Copy + Send,
+    G: Gate + Sync,
+    ensures { IfErr result (λ fault. (fault ≡ OutOfMemory) ⊎ (fault ≡ ReadFailed)) }
+{
+    let waits = Waits::of_server();
+    let context = ServerContext {
+        rt,
+        alloc,
+        desk,
+        gate,
+    };
+    let known = Workers::new(alloc, seats.len())?;
+    let workers = workers_for(&context, seats, *limits, clock)?;
+    let acceptor = Mutex::new(Acceptor::new(connections));
+    let entrance = Entrance {
+        listener: &listener,
+        acceptor: &acceptor,
+        workers: &known,
+        waits: &waits,
+    };
+    run(rt, alloc, entrance, workers);
+    acceptor.into_inner().outcome()
+}
