@@ -1,7 +1,6 @@
 pub mod Cancelling
 pub mod Expiry
 pub mod Kept
-pub mod Laws
 pub mod Levels
 pub mod Press
 pub mod Rounds

@@ -16,7 +16,6 @@ use Rattle.disco_hub.specs.Rounds.{Advances, Begins, Ends, round_keys}
 use Rattle.disco_hub.specs.declared.copied.Copied.{Copied}
 use Rattle.disco_core.specs.Past.{Past, cleaned, history, minute_closed, with_done}
 use Rattle.disco_core.specs.Refusals.{doc_of_id, refusal_of, refusal_of_id}
-use Rattle.disco_core.specs.State.{AddsNoPlaces, IsSweptAfter}
 use Rattle.disco_hub.specs.Kept.{Forgets, IsAsKept, IsCopiedAsKept, KeepsAtMost}
 use Rattle.disco_hub.specs.State.{IsCopied, MayServe, HubState, HubStandsFor, open_round, rules_of}
 
@@ -28,19 +27,17 @@ pub record KeepsRest (old new : HubState) : Type 0 where
   pub rounds : new.rounds ≡ old.rounds
   pub room : new.docs.max ≡ old.docs.max
 
--- an operation is accepted at a moment, with this change or none: it has happened then, no place of what it found stands empty, and just the kept
--- documents that it names are dropped
+-- an operation is accepted at a moment, with this change or none: it has happened then, and just the kept documents that it names are
+-- dropped
 pub record Writes (old new : HubState) (ask : OpView) (now : ℕ) (change : Option Entry) : Type 0 where
   pub accepted : accepts old.core.registry ask now ≡ Ok change
   pub docs : (p : Past) → HubStandsFor old p → Forgets (get (registry_of (history p))) change old.docs new.docs
   pub history : (p : Past) → HubStandsFor old p → HubStandsFor new (with_done (rules_of old).queue p now ask change)
-  pub swept : IsSweptAfter old.core.registry.held change new.core.vips new.core.leases
 
--- an operation is refused at a moment: nothing has happened, no place is there that was not, and what was kept is
+-- an operation is refused at a moment: nothing has happened, and what was kept is
 pub record Declines (old new : HubState) (ask : OpView) (now : ℕ) (e : Fault) : Type 0 where
   pub cause : MayRefuse old.core.registry ask now e
   pub history : (p : Past) → HubStandsFor old p → HubStandsFor new p
-  pub given_back : AddsNoPlaces old.core new.core
   pub docs : new.docs ≡ old.docs
 
 -- the recent changes that are older than the retention are forgotten, so that deltas start from this version, and nothing else is

@@ -3,7 +3,7 @@ ghost use Rattle.disco_hub.specs.Expiry.{Expires};
 ghost use Rattle.disco_core.specs.Past.{taken_in};
 ghost use Rattle.disco_hub.specs.Transitions.{KeepsRest};
 
-use crate::cancels::cancel_all;
+use crate::cancel::cancel_all;
 use crate::hub::Hub;
 use disco_values::Fault;
 

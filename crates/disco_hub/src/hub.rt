@@ -8,11 +8,10 @@ ghost use Rattle.disco_registry.specs.Op.{OpView, op_view, renew};
 ghost use Rattle.disco_registry.specs.State as registry;
 ghost use Rattle.disco_values.specs.Query.{is_delta};
 ghost use Rattle.disco_core.specs.Past.{Past, history, taken_in, with_done};
-ghost use Rattle.disco_queue.specs.Queue.{AddsNoneEmpty};
 ghost use Rattle.disco_history.specs.Registry.{registry_of};
 ghost use Rattle.std.specs.FinMap.{get};
 ghost use Rattle.disco_core.specs.Refusals.{doc_of_key};
-ghost use Rattle.disco_core.specs.State.{AddsNoPlaces, IsFor, IsCoreReady, IsSweptAfter};
+ghost use Rattle.disco_core.specs.State.{IsFor, IsCoreReady};
 ghost use Rattle.disco_hub.specs.Expiry.{Expires};
 ghost use Rattle.disco_hub.specs.Kept.{Forgets, IsCopiedAsKept};
 ghost use Rattle.disco_hub.specs.Transitions.{BeginsRound, Cleans, Closes, CopiesOne, Declines, EndsRound, HasNoneLeft, IsDocOf, IsDocOfId};
@@ -89,29 +88,24 @@ impl Hub {
     ///
     /// # Errors
     ///
-    /// What the operation is refused as, and `OutOfMemory`. Then no place of a vip, a lease, a text
-    /// or a recent change stays that was not there.
+    /// What the operation is refused as, and `OutOfMemory`.
     pub fn ready(&mut self, op: Op, now: u64) -> Result<Ready, Fault>
         ensures same { IsSameHub self.old self.new }
         ensures ready { IfOk result (λ r. accepts self.old.core.registry (op_view op) now ≡ Ok r.change × IsCoreReady self.new.core r) }
         ensures moment { IfOk result (λ r. r.moment ≡ now) }
         ensures asked { IfOk result (λ r. IsFor self.new.core r (op_view op)) }
         ensures refused { IfErr result (MayRefuse self.old.core.registry (op_view op) now) }
-        ensures given_back { OnErr result (AddsNoPlaces self.old.core self.new.core) }
     {
         self.core.ready(op, now)
     }
 
-    /// Does what is ready, which has to be of this hub as it is. Takes no memory, and gives back the
-    /// places of vips, of the lease and of a recent change that the change leaves empty. Just the kept
+    /// Does what is ready, which has to be of this hub as it is. Takes no memory. Just the kept
     /// documents that the change names are dropped.
     pub fn commit(&mut self, ready: Ready) -> Applied
         requires { IsCoreReady self.old.core ready }
         ensures change { done_by result ≡ ready.change }
         ensures proper { changes_properly result ≡ true }
         ensures takes { Takes self.old.core.registry ready.change self.new.core.registry }
-        ensures swept { IsSweptAfter self.old.core.registry.held ready.change self.new.core.vips self.new.core.leases }
-        ensures empty { AddsNoneEmpty self.old.core.queue self.new.core.queue }
         ensures docs { (p : Past) → HubStandsFor self.old p → Forgets (get (registry_of (history p))) ready.change self.old.docs self.new.docs }
         ensures history { (p : Past) (ask : OpView) → IsFor self.old.core ready ask → HubStandsFor self.old p
             → HubStandsFor self.new (with_done (rules_of self.old).queue p ready.moment ask (done_by result)) }
@@ -121,13 +115,11 @@ impl Hub {
         self.core.commit(ready)
     }
 
-    /// Does one operation at a moment in milliseconds, as the registry does it. Places of vips and
-    /// leases that it leaves empty are given back.
+    /// Does one operation at a moment in milliseconds, as the registry does it.
     ///
     /// # Errors
     ///
-    /// What the registry refuses the operation as, and `OutOfMemory`. Places of vips and leases
-    /// that it leaves empty are given back then too.
+    /// What the registry refuses the operation as, and `OutOfMemory`.
     pub fn write(&mut self, op: Op, now: u64) -> Result<Applied, Fault>
         ensures done { IfOk result (λ a. Writes self.old self.new (op_view op) now (done_by a)) }
         ensures proper { IfOk result (λ a. changes_properly a ≡ true) }

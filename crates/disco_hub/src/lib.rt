@@ -1,17 +1,16 @@
 //! One state behind all documents, with the documents that are kept until a change names them.
 #![tactic(auto)]
 
-mod cancels;
+mod cancel;
 mod copied;
 mod expiry;
 mod hub;
 mod kept;
 mod keys;
-pub mod laws;
 mod round;
 mod rounds;
 
-pub use cancels::{Cancel, cancel_all};
+pub use cancel::{Cancel, cancel_all};
 pub use copied::Copied;
 pub use disco_core::{Ready, Room};
 pub use disco_values::Settings;

@@ -1,5 +1,6 @@
 //! The registry.
-ghost use Rattle.std.specs.Prelude.{◌≡◌, ◌<◌, ◌^◌, ◌&&◌, ℕ, not, nat_lt, List, [], map, Err, IfOk, IfErr, IfSome, IsTrue, None, Some, Ok, OnOk, false, is_none, is_some};
+ghost use Rattle.std.specs.Prelude.{◌≡◌, ◌<◌, ◌^◌, ◌&&◌, ℕ, not, nat_lt, List, [], map, Err, IfOk, IfErr, IfSome, IsTrue, None, Some, Ok};
+ghost use Rattle.std.specs.Prelude.{OnOk, false, is_none, is_some};
 ghost use Rattle.std.specs.Prelude.{filter, option_map, true};
 ghost use Rattle.std.specs.FinMap.{get, len, values};
 ghost use Rattle.std.specs.List.{filter_map, find};

@@ -9,7 +9,7 @@ ghost use Rattle.disco_values.specs.Places.{IsNameAt, IsNameGap};
 ghost use Rattle.disco_values.specs.declared.fault.Fault.TheVariants.{OutOfMemory};
 
 use crate::fault::Fault;
-use crate::merged::merged;
+use crate::merge::merged;
 use crate::text::Text;
 use std::alloc::{AllocError, Global};
 use std::cmp::Ordering;

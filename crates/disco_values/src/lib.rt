@@ -1,5 +1,7 @@
 //! The values that a registry is made of: texts, names, keys, entries, statuses, actions, forms,
-//! certificates, and the faults that all of it is refused by. Every refusal of the library is a [`Fault`].
+//! certificates, queries and the keys of documents, numbers in digits, the limits of a registry
+//! ([`Settings`]), and the faults that all of it is refused by. Every refusal of the library is a
+//! [`Fault`].
 #![tactic(auto)]
 
 mod action;
@@ -14,7 +16,7 @@ mod front;
 mod inline_text;
 mod key;
 mod limits;
-mod merged;
+mod merge;
 mod query;
 mod settings;
 mod status;

@@ -12,7 +12,7 @@ use Rattle.disco_values.specs.Entries.{is_before, is_by_name}
 use Rattle.disco_values.specs.Text.{in_upper_case}
 use Rattle.disco_instance.specs.Members.{as_flag, not_empty}
 use Rattle.disco_instance.specs.Metadata.{kept_entries}
-use Rattle.disco_wire.specs.Trees.{in_order}
+use Rattle.disco_wire.specs.Written.{in_order}
 use Rattle.serde_json.specs.Data.{string}
 
 pub in_range : (low high default n : ℕ) → low ≤ n → n ≤ high → unwrap_or (cond (nat_le low n && nat_le n high) (Some n) None) default ≡ n

@@ -18,7 +18,7 @@ use Rattle.disco_values.specs.declared.form.Form.{Form}
 use Rattle.disco_values.specs.declared.form.Form.TheVariants.{Full, Compact}
 use Rattle.disco_history.specs.Change.{Entry}
 use Rattle.disco_history.specs.Forms.{default_lease, formed}
-use Rattle.disco_wire.specs.Trees.{instance_tree, port_tree, lease_tree}
+use Rattle.disco_wire.specs.Written.{instance_tree, port_tree, lease_tree}
 use Rattle.disco_wire.specs.Laws.{InstanceLaw}
 use Rattle.disco_wire.proofs.Again.{in_range, flag_again, status_again, action_again, text_again, entries_again}
 use Rattle.disco_values.proofs.Parsed.{digits_again}

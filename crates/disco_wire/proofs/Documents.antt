@@ -12,7 +12,7 @@ use Rattle.disco_values.specs.declared.form.Form.TheVariants.{Full, Compact}
 use Rattle.disco_history.specs.Change.{Entry}
 use Rattle.disco_history.specs.Forms.{mention_in}
 use Rattle.disco_instance.specs.Row.{IsWellFormed}
-use Rattle.disco_wire.specs.Trees.{instance_tree, app_tree, document_tree, by_app, with_first, app_document, instance_document}
+use Rattle.disco_wire.specs.Written.{instance_tree, app_tree, document_tree, by_app, with_first, app_document, instance_document}
 use Rattle.disco_history.specs.Mentions.{mention_of}
 use Rattle.disco_wire.specs.Laws.{DocumentLaw}
 use Rattle.disco_wire.specs.Rows.{AreWellFormed, mentions_in}

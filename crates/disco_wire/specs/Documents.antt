@@ -13,7 +13,7 @@ use Rattle.disco_wire.specs.Meaning.{Meaning, meaning_of}
 use Rattle.disco_wire.specs.declared.wire.Shape.{Shape}
 use Rattle.disco_wire.specs.declared.wire.Shape.TheVariants.{Many, App, One}
 use Rattle.disco_values.specs.Query.{is_delta}
-use Rattle.disco_wire.specs.Trees.{tree_of}
+use Rattle.disco_wire.specs.Written.{tree_of}
 use Rattle.disco_values.specs.declared.query.Query.{Query}
 use Rattle.disco_values.specs.declared.query.Query.TheVariants as query
 use Rattle.std.specs.Option.{ok_or}

@@ -1,4 +1,4 @@
--- Laws of what is written.
+-- Laws of what is written, and of what a document means.
 use Rattle.std.specs.Prelude.{◌≡◌, ℕ, ◌<◌, ◌^◌, List, [], ◌∷◌, Option, Some}
 use Rattle.disco_instance.specs.Row.{IsWellFormed}
 use Rattle.disco_values.specs.declared.form.Form.{Form}
@@ -8,7 +8,7 @@ use Rattle.disco_history.specs.Mentions.{mention_of}
 use Rattle.disco_wire.specs.Meaning.{told_in, meaning_of, meant}
 use Rattle.disco_wire.specs.declared.wire.Shape.TheVariants.{Many}
 use Rattle.disco_wire.specs.Rows.{AreWellFormed, mentions_in}
-use Rattle.disco_wire.specs.Trees.{instance_tree, document_tree}
+use Rattle.disco_wire.specs.Written.{instance_tree, document_tree}
 use Rattle.serde_json.specs.Data.{Data}
 use Rattle.disco_wire.specs.Wire.{wire_meaning}
 use Rattle.disco_wire.specs.declared.wire.Wire.{Wire}

@@ -5,5 +5,5 @@ pub mod Registration
 pub mod Rows
 pub mod Steps
 pub mod Tree
-pub mod Trees
+pub mod Written
 pub mod Wire

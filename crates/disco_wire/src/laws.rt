@@ -1,4 +1,4 @@
-//! Laws of what is written.
+//! Laws of what is written, and of what a document means.
 ghost use Rattle.disco_wire.specs.Laws.{InstanceLaw, DocumentLaw, OneMeaning};
 
 /// An instance's tree tells its row and its action, whatever stands round it.

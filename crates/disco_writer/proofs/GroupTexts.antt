@@ -17,7 +17,7 @@ use Rattle.serde_json.proofs.Texts.{print-outline}
 use Rattle.disco_values.specs.declared.action.Action.{Action}
 use Rattle.disco_values.specs.declared.form.Form.TheVariants.{Full, Compact}
 use Rattle.disco_instance.specs.Row.{Row}
-use Rattle.disco_wire.specs.Trees.{in_order, instance_tree, tree}
+use Rattle.disco_wire.specs.Written.{in_order, instance_tree, tree}
 use Rattle.disco_writer.specs.Fields.{Fields}
 use Rattle.disco_writer.specs.Kept.{mention_tree}
 use Rattle.disco_writer.specs.Groups.{AppendsUtf8, IsObjectFront, behind_comma, compact_groups, flat, full_groups, group_fields, group_text, member_tokens, object_front}

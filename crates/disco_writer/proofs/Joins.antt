@@ -21,7 +21,7 @@ use Rattle.disco_wire.specs.Rows.{AreWellFormed, mentions_in}
 use Rattle.disco_wire.proofs.Documents.{document_law, app_law, one_law}
 use Rattle.disco_writer.proofs.Readable.{text_again, document_again, app_document_again, instance_document_again}
 use Rattle.disco_writer.proofs.Plain.{read_again, document_depth, app_document_depth, instance_document_depth}
-use Rattle.disco_wire.specs.Trees.{instance_tree, app_tree, by_app, with_first, document_tree, app_document, instance_document}
+use Rattle.disco_wire.specs.Written.{instance_tree, app_tree, by_app, with_first, document_tree, app_document, instance_document}
 
 abbrev Groups : Type 0
 Groups = List (List ℕ × List Entry)

@@ -14,7 +14,7 @@ use Rattle.disco_wire.specs.Documents.{document_of}
 use Rattle.disco_wire.specs.Meaning.{Meaning, meaning_of}
 use Rattle.disco_wire.proofs.Trees.{tree_read}
 use Rattle.disco_writer.specs.Fields.{metadata_members}
-use Rattle.disco_wire.specs.Trees.{instance_tree, app_tree, by_app, document_tree, app_document, instance_document}
+use Rattle.disco_wire.specs.Written.{instance_tree, app_tree, by_app, document_tree, app_document, instance_document}
 
 metadata_depth : (es : List (List ℕ × List ℕ)) → members_depth (metadata_members es) ≡ 0
 metadata_depth [] = refl

@@ -25,7 +25,7 @@ use Rattle.disco_history.specs.Change.{Entry}
 use Rattle.disco_writer.specs.Fields.{Fields, center_fields, entry_fields, lease_fields, port_fields}
 use Rattle.disco_writer.specs.Groups.{compact_groups, flat, full_groups}
 use Rattle.disco_wire.specs.Rows.{AreWellFormed}
-use Rattle.disco_wire.specs.Trees.{in_order, tree, whole, data_center_tree, metadata_tree, port_tree, lease_tree, instance_tree, app_tree, by_app, document_tree, app_document, instance_document}
+use Rattle.disco_wire.specs.Written.{in_order, tree, whole, data_center_tree, metadata_tree, port_tree, lease_tree, instance_tree, app_tree, by_app, document_tree, app_document, instance_document}
 use Rattle.disco_writer.proofs.Metadata.{Pairs, put_all, all_put}
 use Rattle.disco_wire.proofs.Documents.{AreGroupsWellFormed, fit_by_app}
 

@@ -16,7 +16,7 @@ use Rattle.disco_wire.specs.Meaning.{meant}
 use Rattle.disco_wire.specs.declared.wire.Shape.TheVariants.{Many}
 use Rattle.disco_values.specs.Query.{is_delta}
 use Rattle.disco_wire.specs.Rows.{mentions_in, rows_in}
-use Rattle.disco_wire.specs.Trees.{document_tree, tree_of}
+use Rattle.disco_wire.specs.Written.{document_tree, tree_of}
 use Rattle.disco_values.specs.declared.query.Query.{Query}
 
 is_some_number : (n : ℕ) → 0 < n → (n == 0) ≡ false

@@ -8,7 +8,7 @@ use Rattle.disco_instance.specs.declared.data_center.DataCenter.{DataCenter}
 use Rattle.disco_instance.specs.declared.lease.Lease.{Lease}
 use Rattle.disco_instance.specs.declared.port.Port.{Port}
 use Rattle.disco_values.specs.declared.action.Action.{Action}
-use Rattle.disco_wire.specs.Trees.{in_order, truth, whole, digits_text, port_tree}
+use Rattle.disco_wire.specs.Written.{in_order, truth, whole, digits_text, port_tree}
 
 abbrev pub Fields : Type 0
 Fields = List (List ℕ × Data)

@@ -9,7 +9,7 @@ use Rattle.serde_json.specs.Written.{members_outline, outline}
 use Rattle.disco_values.specs.Action.{action_name}
 use Rattle.disco_values.specs.declared.action.Action.{Action}
 use Rattle.disco_instance.specs.Row.{Row}
-use Rattle.disco_wire.specs.Trees.{data_center_tree, lease_tree, metadata_tree, truth, whole}
+use Rattle.disco_wire.specs.Written.{data_center_tree, lease_tree, metadata_tree, truth, whole}
 use Rattle.disco_writer.specs.Fields.{Fields, done_fields, host_fields, metadata_members, moment_fields, state_fields}
 use Rattle.disco_writer.specs.declared.groups.Group.{Group}
 use Rattle.disco_writer.specs.declared.groups.Group.TheVariants as group

@@ -9,7 +9,7 @@ use Rattle.disco_values.specs.declared.form.Form.{Form}
 use Rattle.disco_values.specs.declared.key.Key.{Key}
 use Rattle.disco_history.specs.Change.{Entry, key_of}
 use Rattle.disco_history.specs.Mentions.{mention_of}
-use Rattle.disco_wire.specs.Trees.{instance_tree}
+use Rattle.disco_wire.specs.Written.{instance_tree}
 use Rattle.disco_writer.specs.Kept.{IsTextOf, Kept, kept_text_at}
 use Rattle.disco_writer.specs.declared.piece.Piece.{Piece}
 use Rattle.disco_writer.specs.declared.piece.Source.{Source}

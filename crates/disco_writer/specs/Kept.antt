@@ -13,7 +13,7 @@ use Rattle.disco_instance.specs.Mention.{Mention}
 use Rattle.disco_instance.specs.Row.{IsWellFormed}
 use Rattle.disco_history.specs.Change.{Entry}
 use Rattle.disco_history.specs.Mentions.{mention_of}
-use Rattle.disco_wire.specs.Trees.{instance_tree}
+use Rattle.disco_wire.specs.Written.{instance_tree}
 
 -- an object without its first member
 abbrev pub but_first : Data → Data

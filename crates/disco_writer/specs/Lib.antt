@@ -4,5 +4,4 @@ pub mod Groups
 pub mod InOrder
 pub mod Joined
 pub mod Kept
-pub mod Laws
 pub mod Named

@@ -15,7 +15,7 @@ ghost use Rattle.disco_wire.specs.Meaning.{meant};
 ghost use Rattle.disco_wire.specs.declared.wire.Shape.TheVariants.{Many};
 ghost use Rattle.disco_values.specs.Query.{is_delta};
 ghost use Rattle.disco_wire.specs.Rows.{held_entries, mentions_in, rows_in};
-ghost use Rattle.disco_wire.specs.Trees.{document_tree};
+ghost use Rattle.disco_wire.specs.Written.{document_tree};
 ghost use Rattle.disco_writer.specs.Joined.{AllAgree};
 ghost use Rattle.disco_writer.specs.Kept.{AreKept};
 ghost use Rattle.disco_values.specs.declared.query.Query.TheVariants as query;

@@ -12,7 +12,7 @@ ghost use Rattle.disco_writer.specs.Kept.{IsTextOf};
 ghost use Rattle.disco_writer.specs.Joined.{AreTextsOf, Pushes, after_last, app_close, app_joined, app_open, before_next, in_apps, in_commas};
 ghost use Rattle.disco_writer.specs.Joined.{many_close, many_joined, many_open, one_joined, shown_by};
 ghost use Rattle.disco_wire.specs.Rows.{mentions_in};
-ghost use Rattle.disco_wire.specs.Trees.{app_document, document_tree, instance_document};
+ghost use Rattle.disco_wire.specs.Written.{app_document, document_tree, instance_document};
 
 use crate::piece::Piece;
 use disco_values::Text;

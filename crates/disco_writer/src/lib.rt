@@ -10,7 +10,6 @@ mod groups;
 mod in_order;
 mod instance;
 mod join;
-pub mod laws;
 mod many;
 mod members;
 mod named;

@@ -8,7 +8,7 @@ ghost use Rattle.disco_wire.specs.Meaning.{meant};
 ghost use Rattle.disco_wire.specs.declared.wire.Shape.TheVariants.{App, Many, One};
 ghost use Rattle.disco_writer.specs.Joined.{Agrees, AllAgree};
 ghost use Rattle.disco_wire.specs.Rows.{held_entries, mentions_in};
-ghost use Rattle.disco_wire.specs.Trees.{app_document, document_tree, instance_document};
+ghost use Rattle.disco_wire.specs.Written.{app_document, document_tree, instance_document};
 
 use crate::join::{join_app, join_many, join_one};
 use crate::piece::{piece_of, pieces_of};

@@ -5,7 +5,7 @@ use Rattle.disco_history.specs.Hash.{hash}
 use Rattle.disco_wire.specs.Meaning.{meant}
 use Rattle.disco_wire.specs.declared.wire.Shape.TheVariants.{Many}
 use Rattle.disco_wire.specs.Rows.{held_entries, mentions_in, rows_in}
-use Rattle.disco_wire.specs.Trees.{document_tree}
+use Rattle.disco_wire.specs.Written.{document_tree}
 use Rattle.disco_writer.proofs.document.write_some.Goals as goal
 
 pub returns-clause-written : goal.returns-clause-written

@@ -8,6 +8,5 @@ pub returns-in_err-ready-clause-refused : goal.returns-in_err-ready-clause-refus
 returns-in_err-ready-clause-refused c = of_error (Declines c.args.self.now c.ready.new.self (op_view c.args.op) c.args.now) c.from_residual.result _ c.from_residual.ensures (record {
   cause = c.in_err-ready.ensures.refused;
   history = λ p stands. search (rules, c.in_err-ready.ensures.same, stands);
-  given_back = c.in_err-ready.ensures.given_back;
   docs = c.in_err-ready.ensures.same.docs;
 })

@@ -21,6 +21,5 @@ returns-clause-done c =
             core = c.in_default.ensures.history p stands.core;
             docs = subst (λ (b : _). AreServable b i.cache.docs then) (sym (ap (λ (s : CoreState). s.delta) c.in_default.ensures.rest)) (moved_on i.core.delta i.cache.docs p then refl refl (omega arith) stands.docs);
           };
-      swept = tt;
     } in
     subst (λ (s : HubState). Writes s new (renew c.args.key.now) c.args.now None) c.self.view_is on

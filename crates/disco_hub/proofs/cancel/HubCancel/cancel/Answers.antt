@@ -2,7 +2,7 @@ use Rattle.disco_registry.specs.Commit.{done_by}
 use Rattle.disco_hub.specs.Cancelling.{CancelsNone}
 use Rattle.disco_hub.proofs.Cancels.{one_gone, one_refused}
 use Rattle.disco_hub.proofs.Rests.{of_error}
-use Rattle.disco_hub.proofs.cancels.HubCancel.cancel.Goals as goal
+use Rattle.disco_hub.proofs.cancel.HubCancel.cancel.Goals as goal
 
 pub returns-in_err-write-clause-refused : goal.returns-in_err-write-clause-refused
 returns-in_err-write-clause-refused c =

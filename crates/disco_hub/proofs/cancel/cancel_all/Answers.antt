@@ -5,7 +5,7 @@ use Rattle.disco_hub.specs.Expiry.{Expires, cancelled}
 use Rattle.disco_hub.specs.State.{rules_of}
 use Rattle.disco_hub.proofs.Cancels.{did_more, did_nothing, stopped_at}
 use Rattle.disco_hub.proofs.Rests.{rest_of, rest_on}
-use Rattle.disco_hub.proofs.cancels.cancel_all.Goals as goal
+use Rattle.disco_hub.proofs.cancel.cancel_all.Goals as goal
 
 there : (ks : List Key) (i : ℕ) (k : Key) → i < length ks → k ≡ get_or ks i k → slice_get ks i ≡ Some k
 there ks i k lt is = slice_get-get_or ks i k lt ∙ ap (λ y. Some y) (sym is)

@@ -3,7 +3,7 @@ use Rattle.disco_hub.specs.Expiry.{cancelled}
 use Rattle.disco_hub.specs.State.{rules_of}
 use Rattle.disco_hub.specs.Cancelling.{HasCancelled}
 use Rattle.disco_hub.specs.Transitions.{KeepsRest}
-use Rattle.disco_hub.proofs.cancels.cancel_all.Given as goal
+use Rattle.disco_hub.proofs.cancel.cancel_all.Given as goal
 
 abbrev pub invariant-loop-key : goal.invariant-loop-key
 invariant-loop-key g l =

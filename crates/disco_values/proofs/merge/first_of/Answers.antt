@@ -1,7 +1,7 @@
 use Rattle.std.proofs.Common.{◌≡◌, ◌∷◌, [], sym, ap, ◌∙◌}
 use Rattle.disco_values.specs.Entries.{is_by_name, with_entries}
 use Rattle.disco_values.proofs.Merged.{instead, is_empty, mine_first, only_others, other_first}
-use Rattle.disco_values.proofs.merged.first_of.Goals as goal
+use Rattle.disco_values.proofs.merge.first_of.Goals as goal
 
 pub returns-in-None-Some-clause-entry : goal.returns-in-None-Some-clause-entry
 returns-in-None-Some-clause-entry c =
