@@ -1,5 +1,6 @@
 //! The command `follow`: a certified client, which tells what changes in its copy of a server's
-//! registry. [`connect`] and [`fetcher`] make the connections of clients.
+//! registry: a line for each copy that is news, for the instances of a vip that are up, and for what is
+//! refused. [`connect`] and [`fetcher`] make the connections of clients.
 #![tactic(auto)]
 
 mod changes;

@@ -1,5 +1,5 @@
-//! HTTP/1.x on one connection: a service answers the requests that are read, and the replies are
-//! written. The reading is that of `disco_reader`.
+//! HTTP/1.x on one connection: requests and replies are read through a buffer, a service answers the
+//! requests, and the replies are written. Whole inputs are read and whole texts written too.
 #![tactic(auto)]
 
 mod chunks;

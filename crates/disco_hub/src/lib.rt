@@ -1,4 +1,7 @@
-//! One state behind all documents, with the documents that are kept until a change names them.
+//! One state behind all documents, with the documents that are kept until a change names them, and the
+//! rounds of a publisher: the keys of the edition that readers see, and the open round, in which
+//! documents are copied anew. Beside them, as plain data, the press list: what a publisher and the
+//! writers noted.
 #![tactic(auto)]
 
 mod cancel;

@@ -1,4 +1,5 @@
-//! A desk under a lock that publishes editions, and the seats that look into them without one.
+//! A desk under a lock that publishes editions, and the seats that look into them without one. Each
+//! edition has the press list beside it that it is of, on a list that exists in proofs alone.
 #![tactic(auto)]
 
 mod desk;

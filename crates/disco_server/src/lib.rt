@@ -1,6 +1,5 @@
 //! A running discovery server: [`start`] serves the connections of a listener, with a worker for each
-//! seat of a desk, and [`timers`], of `disco_timers`, does what has to be done again and again beside
-//! them.
+//! seat of a desk, and [`timers`] does what has to be done again and again beside them.
 //! [`DeskService`] answers the requests of a connection over a desk under its lock, and
 //! [`HubService`] over a hub, by a clock.
 #![tactic(auto)]
@@ -9,7 +8,6 @@ mod acceptor;
 mod accepts;
 mod clock;
 mod close;
-mod connection;
 mod desk_service;
 mod gate;
 mod leftover;
@@ -34,7 +32,6 @@ mod workers;
 
 pub use acceptor::{Acceptor, Refusal};
 pub use clock::Clock;
-pub use connection::serve_hub;
 pub use desk_service::{DeskService, ServerContext};
 pub use disco_answers::{answer, answer_hub, answer_on};
 pub use disco_calls::Routes;

@@ -1,4 +1,5 @@
-//! Documents and registrations as they are read.
+//! Documents and registrations as they are read, and what a document is: what its JSON tree means, and
+//! when it is true.
 //!
 //! What a document means is a function of its JSON tree alone, so it knows nothing of who wrote it.
 #![tactic(auto)]
