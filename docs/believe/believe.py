@@ -16,9 +16,9 @@ HERE = os.path.dirname(os.path.abspath(__file__))
 # Of each theorem its page, what it says, and the functions whose contracts say it: source file, type where there is one, function.
 THEOREMS = [
     ("run", "lists of events", [("disco_world/src/runs.rt", "run")]),
-    ("replay", "the command `replay`", [("disco_replay/src/replaying.rt", "replay")]),
+    ("replay", "the command `replay`", [("disco_prog/src/replay_command.rt", "replay")]),
     ("connection", "one connection over a desk", [
-        ("disco_http/src/serving.rt", "serve"),
+        ("disco_http/src/session.rt", "serve"),
         ("disco_server/src/desk_service.rt", None),
     ]),
     ("refresh", "a client's refresh, plain and certified", [("disco_reconcile/src/client.rt", "refresh")]),

@@ -1,6 +1,6 @@
 //! Accepts that fail.
 use crate::client::visit;
-use disco_server::{Acceptor, Post, Workers, listen, next_connection};
+use disco_connections::{Acceptor, Post, Workers, listen, next_connection};
 use std::alloc::Global;
 use std::net::{Net, OpenListener, SocketAddr, TcpListener, TcpStream};
 use std::sync::atomic::{AtomicU64, Ordering};

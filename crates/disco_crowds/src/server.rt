@@ -1,7 +1,9 @@
 //! The server of the trials.
+use disco_connections::{
+    Acceptor, Buffers, Post, Waits, Workers, next_connection, serve_connection,
+};
 use disco_http::Service;
 use disco_message::{Document, Limits, Reply, Request, StatusLine};
-use disco_server::{Acceptor, Buffers, Post, Waits, Workers, next_connection, serve_connection};
 use std::alloc::Global;
 use std::net::{Net, TcpListener, TcpStream};
 use std::sync::{Mutex, Wait};

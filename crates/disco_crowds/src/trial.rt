@@ -3,7 +3,7 @@ use crate::beating::all_beat;
 use crate::client::visit;
 use crate::server::serve;
 use crate::slow::{are_answered_late, are_kept_out, is_kept};
-use disco_server::{Waits, listen};
+use disco_connections::{Waits, listen};
 use std::alloc::Global;
 use std::net::{Net, SocketAddr, TcpListener, TcpStream};
 use std::sync::Wait;

@@ -1,3 +1,4 @@
 mod Feeds
 mod First
 mod Split
+pub mod Whole

@@ -1,3 +1,4 @@
+pub mod Answered
 pub mod Answers
 pub mod Input
 pub mod Lines

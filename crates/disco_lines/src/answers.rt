@@ -275,7 +275,11 @@ pub(crate) fn gather_answer<W: Sink>(
 /// # Errors
 ///
 /// `WriteFailed` where a write fails, with some of the lines perhaps written, and `OutOfMemory`.
-pub fn write_answers<W: Sink>(alloc: Global, replies: &[Reply], out: &mut W) -> Result<(), Fault>
+pub(crate) fn write_answers<W: Sink>(
+    alloc: Global,
+    replies: &[Reply],
+    out: &mut W,
+) -> Result<(), Fault>
     ensures written { OnOk result (Appends (W.contents out.old) (W.contents out.new) (answer_lines replies.now)) }
     ensures fault { IfErr result (λ e. (e ≡ WriteFailed) ⊎ (e ≡ OutOfMemory)) }
     // A failed write has raised the count of failures.

@@ -1,10 +1,10 @@
-//! Event lines and answer lines: [`read_events`] reads the events of an input, one a line, and
-//! [`write_answers`] writes a line for each reply; [`answer_events`] runs events and writes each
-//! line as its reply comes.
+//! Event lines and answer lines: [`answer_input`] answers the events of an input, one a line, with a
+//! line for each.
 #![tactic(auto)]
 
 mod answers;
 mod find;
+mod input;
 mod line;
 mod line_buffer;
 mod lines;
@@ -12,6 +12,4 @@ mod load;
 mod put;
 mod words;
 
-pub use answers::write_answers;
-pub use line_buffer::answer_events;
-pub use lines::read_events;
+pub use input::answer_input;

@@ -62,7 +62,7 @@ fn run_and_write<W: Sink>(
 /// # Errors
 ///
 /// `WriteFailed` where a write fails, and `OutOfMemory`, with some of the lines perhaps written.
-pub fn answer_events<W: Sink>(
+pub(crate) fn answer_events<W: Sink>(
     alloc: Global,
     settings: &Settings,
     steps: Steps,

@@ -50,7 +50,7 @@ pub(crate) fn events_of(alloc: Global, input: &[u8]) -> Result<Vec<Event>, Fault
 ///
 /// `ReadFailed` where a read fails, `BadEvent` with the number, from 1, of the first line that can't be
 /// read, and `OutOfMemory`.
-pub fn read_events<R: Source>(alloc: Global, reader: &mut R) -> Result<Vec<Event>, Fault>
+pub(crate) fn read_events<R: Source>(alloc: Global, reader: &mut R) -> Result<Vec<Event>, Fault>
     ensures events { IfOk result (λ events. AreRead (R.remaining reader.old) events.items) }
     ensures end { OnOk result (IsAtEnd (R.remaining reader.new)) }
     ensures fault { IfErr result (λ e. (e ≡ OutOfMemory) ⊎ ((e ≡ ReadFailed)

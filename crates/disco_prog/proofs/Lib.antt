@@ -1,2 +1,1 @@
 mod Restarts
-mod Whole

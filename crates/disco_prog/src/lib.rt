@@ -12,6 +12,7 @@ mod service;
 
 pub use disco_follow::follow;
 pub use disco_options::settings_of;
+pub use disco_press::Opening;
 pub use fleets::{fleet, lines_of};
 pub use program::run;
 pub use replay_command::replay;

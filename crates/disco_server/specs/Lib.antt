@@ -1,8 +1,6 @@
-pub mod Acceptors
-pub mod Draining
-pub mod Ending
+pub mod Desks
 pub mod Publishing
+pub mod Replies
 pub mod Serving
 pub mod Tasks
 pub mod Timers
-pub mod Waits

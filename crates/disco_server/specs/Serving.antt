@@ -5,8 +5,8 @@ use Rattle.disco_hub.specs.State.{rules_of}
 use Rattle.disco_message.specs.RequestView.{RequestView}
 use Rattle.disco_message.specs.ReplyText.{ReplyView}
 use Rattle.disco_calls.specs.Calls.{call}
-use Rattle.disco_answers.specs.Desks.{IsLookOrCall}
-use Rattle.disco_answers.specs.Replies.{IsAnswered}
+use Rattle.disco_server.specs.Desks.{IsLookOrCall}
+use Rattle.disco_server.specs.Replies.{IsAnswered}
 use Rattle.disco_server.specs.declared.desk_service.DeskService.{DeskService}
 use Rattle.disco_server.specs.declared.service.HubService.{HubService}
 

@@ -3,7 +3,8 @@ ghost use Rattle.std.specs.Prelude.{◌≡◌};
 
 use crate::clock::Clock;
 use crate::gate::{Gate, Point};
-use disco_answers::{Shared, answer_with};
+use crate::locked::answer_with;
+use crate::shared::Shared;
 use disco_calls::Routes;
 use disco_http::Service;
 use disco_message::{Reply, Request};

@@ -2,7 +2,8 @@
 ghost use Rattle.std.specs.Prelude.{◌≡◌};
 
 use crate::clock::Clock;
-use disco_answers::{Shared, answer_hub};
+use crate::hub::answer_hub;
+use crate::shared::Shared;
 use disco_calls::Routes;
 use disco_http::Service;
 use disco_hub::Hub;

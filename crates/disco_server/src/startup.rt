@@ -2,13 +2,11 @@
 ghost use Rattle.std.specs.Prelude.{◌≡◌, ◌⊎◌, IfErr};
 ghost use Rattle.disco_values.specs.declared.fault.Fault.TheVariants.{OutOfMemory, ReadFailed};
 
-use crate::acceptor::{Acceptor, Refusal};
 use crate::clock::Clock;
 use crate::desk_service::ServerContext;
 use crate::gate::Gate;
-use crate::waits::Waits;
 use crate::worker::{Entrance, Worker, work};
-use crate::workers::Workers;
+use disco_connections::{Acceptor, Refusal, Waits, Workers};
 use disco_message::Limits;
 use disco_press::{Desk, Naming, Seat};
 use disco_values::Fault;

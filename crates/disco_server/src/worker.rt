@@ -1,14 +1,11 @@
 //! A worker, which serves one connection after another.
-use crate::acceptor::{Acceptor, Refusal};
 use crate::clock::Clock;
 use crate::desk_service::{DeskService, ServerContext};
 use crate::gate::Gate;
-use crate::next::next_connection;
-use crate::post::Post;
-use crate::socket::{Buffers, serve_connection};
-use crate::waits::Waits;
-use crate::workers::Workers;
 use disco_calls::Routes;
+use disco_connections::{
+    Acceptor, Buffers, Post, Refusal, Waits, Workers, next_connection, serve_connection,
+};
 use disco_message::Limits;
 use disco_press::{Naming, Seat};
 use std::alloc::{AllocError, Global};

@@ -4,8 +4,7 @@
 
 use disco_http::Counted;
 use disco_options::without_words;
-use disco_press::Opening;
-use disco_prog::run;
+use disco_prog::{Opening, run};
 use std::marker::Brand;
 use std::process::ExitCode;
 use std::{env, io};

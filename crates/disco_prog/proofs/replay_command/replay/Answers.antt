@@ -4,7 +4,7 @@ use Rattle.clap.specs.declared.error.Error.{Error}
 use Rattle.clap.specs.Words.{kind_of}
 use Rattle.disco_options.specs.Faults.{status_of_kind}
 use Rattle.disco_values.specs.declared.fault.Fault.TheVariants.{OutOfMemory}
-use Rattle.disco_prog.proofs.Whole.{none_bad}
+use Rattle.disco_lines.proofs.Whole.{none_bad}
 use Rattle.disco_prog.proofs.replay_command.replay.Goals as goal
 
 -- words with no fault fail for want of memory alone
@@ -12,11 +12,11 @@ no_memory : (kinds : Kinds) (e : Error) → kinds ≡ [] → HasKind kinds e →
 no_memory kinds e none (inl memory) = ap status_of_kind memory
 no_memory kinds e none (inr among) = absurd (subst (IsAmong (kind_of e)) none among)
 
-pub returns-in-Ok-answer-clause-bad_line : goal.returns-in-Ok-answer-clause-bad_line
-returns-in-Ok-answer-clause-bad_line g c = λ none input bad e line. absurd (none_bad _ _ c.in-Ok-answer.ensures.answered.read input bad e line)
+pub returns-in-Ok-answer_input-clause-bad_line : goal.returns-in-Ok-answer_input-clause-bad_line
+returns-in-Ok-answer_input-clause-bad_line g c = λ none input bad e line. absurd (none_bad _ _ c.in-Ok-answer_input.ensures.answered.read input bad e line)
 
-pub returns-in-Err-answer-clause-failed : goal.returns-in-Err-answer-clause-failed
-returns-in-Err-answer-clause-failed g c = λ none one. (c.in-Err-answer.fault, inr (c.in-Ok.settings, c.in-Ok.ensures.settings, c.in-Err-answer.ensures.fault), c.report.ensures.says, c.in-Err-answer.ensures.unwritten)
+pub returns-in-Err-answer_input-clause-failed : goal.returns-in-Err-answer_input-clause-failed
+returns-in-Err-answer_input-clause-failed g c = λ none one. (c.in-Err-answer_input.fault, inr (c.in-Ok.settings, c.in-Ok.ensures.settings, c.in-Err-answer_input.ensures.fault), c.report.ensures.says, c.in-Err-answer_input.ensures.unwritten)
 
 pub returns-in-Err-clause-failed : goal.returns-in-Err-clause-failed
 returns-in-Err-clause-failed g c = λ none one. (OutOfMemory, inl refl, c.refused.ensures.memory (no_memory _ c.in-Err.error none c.in-Err.ensures.faults), λ known written. absurd (known refl))

@@ -1,2 +1,0 @@
-mod DeskAnswers
-mod HubAnswers

@@ -1,9 +1,0 @@
-use Rattle.disco_answers.proofs.DeskAnswers.{call_on, refused_on}
-use Rattle.disco_answers.proofs.desk.answer_called.Goals as goal
-
-pub returns-in-Ok-clause-answered : goal.returns-in-Ok-clause-answered
-returns-in-Ok-clause-answered g c = λ asked gives.
-    call_on c.args.desk.now c.answer_call.new.desk c.args.seat.now c.answer_call.new.seat c.args.called c.in-Ok.call c.in-Ok.is c.args.now _ c.answer_call.ensures.answered asked gives
-
-pub returns-in-Err-clause-answered : goal.returns-in-Err-clause-answered
-returns-in-Err-clause-answered g c = λ asked gives. refused_on c.args.desk.now c.args.seat.now c.args.called c.in-Err.fault c.in-Err.is c.args.now _ c.refused.ensures asked gives

@@ -1,0 +1,4 @@
+pub mod Acceptors
+pub mod Draining
+pub mod Ending
+pub mod Waits
