@@ -68,7 +68,7 @@ pub struct Core {
 impl Model for Core {
     ghost use Rattle.std.specs.Coded.{codes};
     ghost use Rattle.std.specs.FinMap.{code};
-    ghost use Rattle.disco_core.specs.State.{CoreState, Prepared};
+    ghost use Rattle.disco_core.specs.State.{CoreState};
     ghost use Rattle.disco_core.specs.Tied.{IsTied};
 
     ghost Value = { CoreState };
@@ -104,6 +104,7 @@ pub struct Ready {
 impl Model for Ready {
     ghost use Rattle.std.specs.Prelude.{◌≡◌, IfSome, option_map, true};
     ghost use Rattle.disco_history.specs.Change.{is_proper, change_view};
+    ghost use Rattle.disco_core.specs.State.{Prepared};
 
     ghost Value = { Prepared };
 

@@ -32,7 +32,7 @@ pub struct Reader<R> {
 }
 
 impl<R: Source> Reader<R> {
-    ghost use Rattle.disco_http.specs.Streams.{ahead, reader_limits, source_of, is_spent, unread};
+    ghost use Rattle.disco_http.specs.Streams.{ahead, reader_limits, source_of, is_spent};
 
     /// A buffer in front of a source, with nothing read.
     ///
@@ -124,6 +124,8 @@ impl<R: Source> Reader<R> {
 }
 
 impl<R: Source> Reader<R> {
+    ghost use Rattle.disco_http.specs.Streams.{ahead, unread};
+
     /// The bytes that were read and not yet taken.
     pub(crate) fn unread(&self) -> &[u8]
         ensures bytes { result.now ≡ unread self.now }

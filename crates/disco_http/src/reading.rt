@@ -19,7 +19,7 @@ impl<R: Source> Reader<R> {
     ghost use Rattle.disco_http.specs.Bodies.{ReadsBody, BodyRefused};
     ghost use Rattle.disco_http.specs.Found.{HasNoBody, HeadRead, HeadRefused};
     ghost use Rattle.disco_http.specs.Parts.{HasNo};
-    ghost use Rattle.disco_http.specs.Streams.{ahead, unread, Came, reader_limits, source_of, is_spent};
+    ghost use Rattle.disco_http.specs.Streams.{ahead, unread, Came};
     ghost use Rattle.disco_http.specs.declared.parsing.Part.TheVariants as part;
 
     /// What the head that was found says.
@@ -101,6 +101,7 @@ impl<R: Source> Reader<R> {
 
 impl<R: Source> Reader<R> {
     ghost use Rattle.disco_http.specs.Requests.{HasNone, TakesRequest, Refused};
+    ghost use Rattle.disco_http.specs.Streams.{ahead, reader_limits, source_of, is_spent, Came};
 
     /// What was read of the next request.
     fn stage(&self) -> Stage {

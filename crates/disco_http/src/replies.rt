@@ -25,8 +25,8 @@ pub struct ReceivedReply {
 impl<R: Source> Reader<R> {
     ghost use Rattle.disco_http.specs.Found.{HasNoExtent, ReplyRead, ReplyHeadRefused};
     ghost use Rattle.disco_http.specs.Parts.{HasNo};
-    ghost use Rattle.disco_http.specs.Replies.{ReadsExtent, ExtentRefused, HasNoReply, TakesReply, ReplyRefused};
-    ghost use Rattle.disco_http.specs.Streams.{ahead, unread, Came, reader_limits, source_of, is_spent};
+    ghost use Rattle.disco_http.specs.Replies.{ReadsExtent, ExtentRefused};
+    ghost use Rattle.disco_http.specs.Streams.{ahead, unread, Came};
     ghost use Rattle.disco_http.specs.declared.parsing.Part.TheVariants as part;
 
     /// What the head that was found says.
@@ -125,6 +125,9 @@ impl<R: Source> Reader<R> {
 }
 
 impl<R: Source> Reader<R> {
+    ghost use Rattle.disco_http.specs.Replies.{HasNoReply, TakesReply, ReplyRefused};
+    ghost use Rattle.disco_http.specs.Streams.{ahead, reader_limits, source_of, is_spent, Came};
+
     /// Reads a reply, refused or not.
     fn try_reply(&mut self, alloc: Global) -> Result<ReceivedReply, Fault>
         ensures reply { IfOk result (λ reply. IfSome (ahead R.remaining self.old) (λ stream.

@@ -24,7 +24,7 @@ pub struct Writer<W> {
 
 impl<W: Drop> Writer<W> {
     ghost use Rattle.std.specs.Prelude.{◌≡◌, IfOk, IsFalse};
-    ghost use Rattle.disco_http.specs.Sinks.{is_writer_spent, sink_of, AppendsProperFront};
+    ghost use Rattle.disco_http.specs.Sinks.{is_writer_spent, sink_of};
 
     /// Room in front of a sink, with nothing written.
     ///
@@ -66,6 +66,7 @@ impl<W: Sink> Writer<W> {
     ghost use Rattle.std.specs.Io.KnownBytes.{Appends};
     ghost use Rattle.disco_message.specs.ReplyText.{reply_head};
     ghost use Rattle.disco_http.specs.Causes.{Raises};
+    ghost use Rattle.disco_http.specs.Sinks.{AppendsProperFront, is_writer_spent, sink_of};
 
     /// Whether a write failed, or the connection has ended. Then nothing more is written.
     pub fn is_spent(&self) -> bool

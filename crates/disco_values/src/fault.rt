@@ -17,7 +17,7 @@ pub enum Field {
 }
 
 impl Field {
-    ghost use Rattle.disco_values.specs.Fault.{field_name, fault_number};
+    ghost use Rattle.disco_values.specs.Fault.{field_name};
 
     /// The member's name in JSON.
     pub fn name(self) -> &'static str
@@ -93,6 +93,8 @@ pub enum Fault {
 }
 
 impl Fault {
+    ghost use Rattle.disco_values.specs.Fault.{fault_number};
+
     /// Its number, 1 to 24.
     pub fn number(&self) -> u32
         ensures { result ≡ fault_number self.now }
