@@ -15,6 +15,7 @@ The programs that ask again where memory was refused have to answer as without a
 status 1 behind a front of whole lines, the last of which may say that a trial found no memory.
 """
 
+import glob
 import itertools
 import json
 import os
@@ -100,27 +101,35 @@ def keys_in(document):
     return int(version), {(one["app"], one["instanceId"]) for app in apps for one in app["instance"]}
 
 
-class Row:
-    """A file of events with the words of its command, and what comes out without a refusal."""
+def parts_of(stem):
+    """The parts of a row by their kinds: files of its own, but first what its file has under headings."""
+    parts = {file[len(stem) + 1 :]: read_if_any(file, b"") for file in glob.glob(stem + ".*")}
+    pieces = re.split(rb"(?m)^== (.*)\n", parts.pop("row"))
+    parts.update(zip((kind.decode() for kind in pieces[1::2]), pieces[2::2]))
+    return parts
 
-    def __init__(self, root, shim, name):
-        data = os.path.join(root, "crates", "disco_rows", "data", name)
-        self.name, self.shim = name, shim
+
+class Row:
+    """Events with the words of their command, and what comes out without a refusal."""
+
+    def __init__(self, root, shim, stem):
+        parts = parts_of(stem)
+        self.name, self.shim = os.path.basename(stem), shim
         self.path = os.path.join(root, "crates", "discovery", "out", "discovery")
-        self.words = read_if_any(data + ".words", b"replay\n").decode().splitlines()
-        self.events = read_if_any(data + ".events", b"")
-        self.wanted = Came(
-            int(read_if_any(data + ".status", b"0\n")),
-            read_if_any(data + ".answers", b""),
-            read_if_any(data + ".faults", b""),
-        )
+        self.words = parts.get("words", b"replay\n").decode().splitlines()
+        self.events = parts.get("events")
+        self.wanted = Came(int(parts.get("status", b"0\n")), parts.get("answers", b""), parts.get("faults", b""))
         self.others = {}
 
     def is_tried(self):
-        """Rows of other commands aren't, and neither are those with an event that names the line of an
-        earlier one, which would move."""
-        return self.words[:1] not in (["serve"], ["follow"], ["fleet"]) and not any(
-            urllib.parse.unquote_to_bytes(line.split(b" ")[0]) in (b"take", b"certified") for line in self.lines()
+        """Rows of documents and of other commands aren't, and neither are those with an event that names
+        the line of an earlier one, which would move."""
+        return (
+            self.events is not None
+            and self.words[:1] not in (["serve"], ["follow"], ["fleet"])
+            and not any(
+                urllib.parse.unquote_to_bytes(line.split(b" ")[0]) in (b"take", b"certified") for line in self.lines()
+            )
         )
 
     def lines(self):
@@ -285,13 +294,9 @@ def main():
     root, work = sys.argv[1:3]
     quick = sys.argv[3:] == ["--quick"]
     shim = os.path.join(work, "refuse.so")
-    names = sorted(
-        name.removesuffix(".events")
-        for name in os.listdir(os.path.join(root, "crates", "disco_rows", "data"))
-        if name.endswith(".events")
-    )
-    rows = [Row(root, shim, name) for name in (QUICK if quick else names)]
-    rows = [row for row in rows if row.is_tried()]
+    files = sorted(glob.glob(os.path.join(root, "crates", "disco_rows", "data", "*", "*.row")))
+    rows = [Row(root, shim, file.removesuffix(".row")) for file in files]
+    rows = [row for row in rows if row.is_tried() and (not quick or row.name in QUICK)]
     trials = [Trial(root, shim, "disco_refusals"), Trial(root, shim, "disco_refreshes", ("script",), 2)]
     all_counts = Counter()
     with ThreadPoolExecutor(AT_ONCE) as pool:

@@ -6,6 +6,6 @@ root=$(CDPATH='' cd -- "$(dirname -- "$0")/.." && pwd)
 work=$(mktemp -d)
 trap 'rm -rf "$work"' EXIT
 trap 'exit 1' HUP INT TERM
-cd "$root/crates/disco_replies"
+cd "$root/crates/disco_rows"
 rt run >/dev/null
-python3 "$root/bench/replies.py" "$root/crates/disco_replies/out/disco_replies" "$work"
+python3 "$root/bench/replies.py" "$root/crates/disco_rows/out/disco_rows" "$work"

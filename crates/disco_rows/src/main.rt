@@ -1,21 +1,36 @@
-//! Runs the rows that lie where it runs, and compares every byte with what has to come out.
+//! Runs the rows in the folders that lie where it runs, and compares every byte with what has to come
+//! out.
 //!
-//! Each document in them is compared too with one that is joined of the texts of its instances, as
-//! they are made of what it says of each.
+//! Each document that a row answers is compared too with one that is joined of the texts of its
+//! instances, as they are made of what it says of each. Each connection is run four times over a hub
+//! and four times over a desk under its lock, in pieces of 1, 2, 7 and 1,000 bytes; one that is cut
+//! as often for every byte that it has.
 //!
 //! Of a row that is as it has to be the name is printed, of another one where it differs first, and
 //! then the exit status is 1. With the word `--came` what came of such a row is written too, to files
-//! beside its own. The README beside `src/` says what the files of a row hold.
+//! beside its own, unless it is of a connection. With the words `PATH TIMES PIECE` a connection is
+//! timed. The README beside `src/` says what the files of a row hold.
 #![tactic(auto)]
 
 mod anew;
-mod files;
+mod connection;
+mod exchange;
+mod kept;
 mod meanings;
+mod outcomes;
+mod paths;
+mod pieces;
 mod row;
-mod topics;
+mod settings;
+mod timing;
 
 use anew::outcome_anew;
-use disco_trials::{Difference, names};
+use disco_trials::Difference;
+use exchange::read_exchange;
+use kept::is_exchange_kept;
+use outcomes::{came, wanted, write_outcome};
+use paths::paths;
+use row::Row;
 use std::alloc::Global;
 use std::net::{Net, TcpListener, TcpStream};
 use std::process::ExitCode;
@@ -23,43 +38,59 @@ use std::rt::{Clock, Env, Files};
 use std::sync::Wait;
 use std::thread::Threads;
 use std::{env, io};
-use topics::has_topic;
+use timing::Timing;
 
-/// Runs the row of a name, prints how it went, and tells whether it is as it has to be.
-fn is_kept<R>(rt: &R, writes: bool, name: &str) -> io::Result<bool>
+/// Runs a row of events or documents, and tells whether it is as it has to be; else it prints where
+/// it isn't.
+fn is_outcome_kept<R>(rt: &R, writes: bool, name: &str, row: &Row<'_>) -> io::Result<bool>
 where
     R: Net<Listener = TcpListener, Stream = TcpStream> + Threads + Wait + Clock,
     R: Files + AllocGlobal + Print + Sync,
 {
-    let row = files::read_row(rt, name)?;
-    let came = row::run(rt, &row)?;
+    let wanted = wanted(rt, row)?;
+    let came = came(rt, row)?;
     let anew = outcome_anew(rt.alloc(), &came)?;
-    match Difference::first(&row.wanted, &came).or(Difference::first(&anew, &came)) {
+    match Difference::first(&wanted, &came).or(Difference::first(&anew, &came)) {
         Some(difference) => {
             difference.write(&mut io::writer(rt), name)?;
             if writes {
-                files::write_outcome(rt, name, &came)?;
+                write_outcome(rt, row, &came)?;
             }
             Ok(false)
         }
-        None => {
-            println!(rt; "{name}")?;
-            Ok(true)
-        }
+        None => Ok(true),
     }
 }
 
-/// As [`is_kept`]; of a row that has no topic, or whose files can't be read, it is printed why.
-fn is_kept_or_told<R>(rt: &R, writes: bool, name: &str) -> io::Result<bool>
+/// Runs the row of a path, prints its name where it is as it has to be, and tells whether it is.
+fn is_kept<R>(rt: &R, writes: bool, name: &str, path: &str) -> io::Result<bool>
 where
     R: Net<Listener = TcpListener, Stream = TcpStream> + Threads + Wait + Clock,
     R: Files + AllocGlobal + Print + Sync,
 {
-    if !has_topic(name) {
-        println!(rt; "{name}: the first word of its name is no topic")?;
-        return Ok(false);
+    let row = Row::read(rt, path)?;
+    let kept = match read_exchange(rt, &row)? {
+        Some(exchange) => is_exchange_kept(rt, name, &exchange)?,
+        None => is_outcome_kept(rt, writes, name, &row)?,
+    };
+    if kept {
+        println!(rt; "{name}")?;
     }
-    match is_kept(rt, writes, name) {
+    Ok(kept)
+}
+
+/// As [`is_kept`]; of a row whose files can't be read, or for which there is no memory, it is printed
+/// why.
+fn is_kept_or_told<R>(rt: &R, writes: bool, path: &str) -> io::Result<bool>
+where
+    R: Net<Listener = TcpListener, Stream = TcpStream> + Threads + Wait + Clock,
+    R: Files + AllocGlobal + Print + Sync,
+{
+    let name = match path.rsplit_once('/') {
+        Some((_, name)) => name,
+        None => path,
+    };
+    match is_kept(rt, writes, name, path) {
         Ok(kept) => Ok(kept),
         Err(error) => {
             println!(rt; "{name}: {error}")?;
@@ -75,29 +106,39 @@ where
     R: Files + AllocGlobal + Print + Clone + Drop + Sync,
 {
     let mut all = true;
-    for name in &names(rt, &[".events", ".documents"])? {
-        all = is_kept_or_told(rt, writes, name.as_str())? && all;
+    for path in &paths(rt)? {
+        all = is_kept_or_told(rt, writes, path.as_str())? && all;
     }
     Ok(all)
 }
 
-/// Whether the one word of the command line is `--came`.
-fn is_to_write<R: Env + AllocGlobal>(rt: &R) -> io::Result<bool> {
-    let words: Vec<String> = env::args(rt)?.skip(1).collect(rt.alloc())?;
-    Ok(words.first().is_some_and(|word| word.as_str() == "--came"))
+/// Times a connection where the words say so, else runs all rows. Tells whether all is as it has to be.
+fn run<R>(rt: &R, words: &[String]) -> io::Result<bool>
+where
+    R: Net<Listener = TcpListener, Stream = TcpStream> + Threads + Wait + Clock,
+    R: Files + AllocGlobal + Print + Clone + Drop + Sync,
+{
+    match Timing::of(words) {
+        Some(timing) => timing::run(rt, &timing),
+        None => are_kept(
+            rt,
+            words.first().is_some_and(|word| word.as_str() == "--came"),
+        ),
+    }
 }
 
-/// Runs all rows as the command line asks.
-fn run_all<R>(rt: &R) -> io::Result<bool>
+/// Does what the words of the command line ask for.
+fn run_words<R>(rt: &R) -> io::Result<bool>
 where
     R: Net<Listener = TcpListener, Stream = TcpStream> + Threads + Wait + Clock,
     R: Env + Files + AllocGlobal + Print + Clone + Drop + Sync,
 {
-    are_kept(rt, is_to_write(rt)?)
+    let words: Vec<String> = env::args(rt)?.skip(1).collect(rt.alloc())?;
+    run(rt, words.as_slice())
 }
 
 fn main(rt: HostRuntime) -> ExitCode {
-    match run_all(&rt) {
+    match run_words(&rt) {
         Ok(true) => ExitCode::SUCCESS,
         _ => ExitCode::FAILURE,
     }

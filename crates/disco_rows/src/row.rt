@@ -1,94 +1,92 @@
-//! A row, and how it is run.
-ghost use Rattle.disco_press.specs.Openings.{Opens};
+//! A row, and its parts.
+use std::alloc::{AllocError, Global};
+use std::io::ErrorKind;
+use std::rt::Files;
+use std::{fs, io};
 
-use crate::meanings::write_meanings;
-use disco_http::Counted;
-use disco_press::{Naming, Opening};
-use disco_prog::run as run_program;
-use disco_trials::Outcome;
-use std::alloc::Global;
-use std::io;
-use std::io::Write;
-use std::marker::Brand;
-use std::net::{Net, TcpListener, TcpStream};
-use std::rt::Clock;
-use std::sync::Wait;
-use std::thread::Threads;
+/// The bytes of a row's file, where there is one.
+fn file<R: Files + AllocGlobal>(rt: &R, path: &str, kind: &str) -> io::Result<Option<Vec<u8>>> {
+    let path = format!(in rt.alloc(); "{path}.{kind}")?;
+    match fs::read(rt, path.as_str()) {
+        Ok(bytes) => Ok(Some(bytes)),
+        Err(error) if error.kind() == ErrorKind::NotFound => Ok(None),
+        Err(error) => Err(error),
+    }
+}
 
-/// What a row gives to what it shows.
+/// What a line says behind `== `, if it is a heading.
+fn heading(line: &[u8]) -> Option<&[u8]> {
+    line.strip_prefix(b"== ")?.strip_suffix(b"\n")
+}
+
+/// The lines under a heading, up to the next one, where the text has that heading.
+fn under(alloc: Global, text: &[u8], kind: &[u8]) -> Result<Option<Vec<u8>>, AllocError> {
+    let mut lines = text
+        .split_inclusive(|b| *b == b'\n')
+        .skip_while(|line| heading(line) != Some(kind));
+    if lines.next().is_none() {
+        return Ok(None);
+    }
+    let mut part = Vec::new(alloc);
+    for line in lines.take_while(|line| heading(line).is_none()) {
+        part.extend_from_slice(line)?;
+    }
+    Ok(Some(part))
+}
+
+/// A row, by where its files lie.
 #[derive(Debug, Drop)]
-pub(crate) enum Given {
-    /// Event lines, and the words behind the program's name.
-    Events { words: Vec<String>, input: Vec<u8> },
-    /// Documents, one a line.
-    Documents(Vec<u8>),
+pub(crate) struct Row<'a> {
+    /// What the paths of its files begin with: `TOPIC/NAME`.
+    pub(crate) path: &'a str,
+    /// What its own file holds: parts under headings.
+    text: Vec<u8>,
 }
 
-/// What is given, and what has to come out.
-#[derive(Debug, Drop)]
-pub(crate) struct Row {
-    pub(crate) given: Given,
-    pub(crate) wanted: Outcome,
-}
+impl<'a> Row<'a> {
+    /// The row of a path.
+    pub(crate) fn read<R: Files + AllocGlobal>(rt: &R, path: &'a str) -> io::Result<Row<'a>> {
+        let text = match file(rt, path, "row")? {
+            Some(text) => text,
+            None => Vec::new(rt.alloc()),
+        };
+        Ok(Row { path, text })
+    }
 
-/// A status as a line.
-pub(crate) fn status_line(alloc: Global, status: u8) -> io::Result<Vec<u8>> {
-    let mut line = Vec::new(alloc);
-    writeln!(line, "{status}")?;
-    Ok(line)
-}
-
-/// Runs what the program runs, on these words and this input.
-fn run_command<J: Naming + Send + Sync, R>(
-    rt: &R,
-    opening: Opening,
-    words: &[String],
-    input: &[u8],
-) -> io::Result<Outcome>
-where
-    R: Net<Listener = TcpListener, Stream = TcpStream> + Threads + Wait + Clock,
-    R: AllocGlobal + Sync,
-    requires opening { Opens J.list J.name J.parts opening }
-{
-    let alloc = rt.alloc();
-    let mut input = Counted::new(input);
-    let (mut out, mut errors) = (Counted::new(Vec::new(alloc)), Counted::new(Vec::new(alloc)));
-    let status = run_program::<J, R, _, _, _>(
-        rt,
-        alloc,
-        opening,
-        &mut input,
-        &mut out,
-        &mut errors,
-        words,
-    );
-    Ok(Outcome {
-        status: status_line(alloc, status)?,
-        answers: out.inner,
-        faults: errors.inner,
-    })
-}
-
-fn read(alloc: Global, documents: &[u8]) -> io::Result<Outcome> {
-    let mut answers = Vec::new(alloc);
-    write_meanings(alloc, documents, &mut answers)?;
-    Ok(Outcome {
-        status: status_line(alloc, 0)?,
-        answers,
-        faults: Vec::new(alloc),
-    })
-}
-
-/// Runs a row: events by the program's commands, documents by what they mean.
-pub(crate) fn run<R>(rt: &R, row: &Row) -> io::Result<Outcome>
-where
-    R: Net<Listener = TcpListener, Stream = TcpStream> + Threads + Wait + Clock,
-    R: AllocGlobal + Sync,
-{
-    match &row.given {
-        Given::Events { words, input } => {
-            run_command::<Brand, R>(rt, Opening::new(), words.as_slice(), input.as_slice())
+    /// A part, where the row has it: under a heading, or else as a file.
+    pub(crate) fn part<R: Files + AllocGlobal>(
+        &self,
+        rt: &R,
+        kind: &str,
+    ) -> io::Result<Option<Vec<u8>>> {
+        match under(rt.alloc(), self.text.as_slice(), kind.as_bytes())? {
+            Some(part) => Ok(Some(part)),
+            None => file(rt, self.path, kind),
         }
-        Given::Documents(documents) => read(rt.alloc(), documents.as_slice()),
+    }
+
+    /// A part that each such row has.
+    pub(crate) fn required<R: Files + AllocGlobal>(
+        &self,
+        rt: &R,
+        kind: &str,
+    ) -> io::Result<Vec<u8>> {
+        match self.part(rt, kind)? {
+            Some(part) => Ok(part),
+            None => Err(io::Error::from(ErrorKind::NotFound)),
+        }
+    }
+
+    /// A part, or what stands for it where the row doesn't have it.
+    pub(crate) fn part_or<R: Files + AllocGlobal>(
+        &self,
+        rt: &R,
+        kind: &str,
+        usual: &[u8],
+    ) -> io::Result<Vec<u8>> {
+        match self.part(rt, kind)? {
+            Some(part) => Ok(part),
+            None => Ok(usual.to_vec(rt.alloc())?),
+        }
     }
 }
