@@ -1,4 +1,4 @@
-"""Looks a second on threads, by the program `disco_looks`."""
+"""Looks a second on threads, by the program `disco_tests`."""
 
 import subprocess
 import sys
@@ -8,7 +8,7 @@ def seconds(program, apps, threads, looks, busy):
     """How long the looks took, the best of five runs, and how many publishes there were beside."""
     runs = []
     for _ in range(5):
-        words = [str(apps), str(threads), str(looks), str(busy)]
+        words = ["looks", str(apps), str(threads), str(looks), str(busy)]
         out = subprocess.run([program, *words], check=True, capture_output=True, text=True).stdout
         taken, publishes = out.split()
         runs.append((int(taken) / 1e9, int(publishes)))
@@ -19,7 +19,7 @@ def apart(program, apps, processes, looks):
     """Looks a second of processes that share nothing, each on one thread: what the machine has."""
     rates = []
     for _ in range(5):
-        words = [program, str(apps), "1", str(looks), "0"]
+        words = [program, "looks", str(apps), "1", str(looks), "0"]
         running = [subprocess.Popen(words, stdout=subprocess.PIPE) for _ in range(processes)]
         taken = [int(one.communicate()[0].split()[0]) / 1e9 for one in running]
         rates.append(sum(looks / seconds for seconds in taken))

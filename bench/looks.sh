@@ -5,6 +5,6 @@
 # them. Another count of looks of each thread may be given as a word. Wants four free cores.
 set -eu
 root=$(CDPATH='' cd -- "$(dirname -- "$0")/.." && pwd)
-cd "$root/crates/disco_looks"
+cd "$root/crates/disco_tests"
 rt run >/dev/null
-python3 "$root/bench/looks.py" ./out/disco_looks "$@"
+python3 "$root/bench/looks.py" ./out/disco_tests "$@"

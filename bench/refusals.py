@@ -11,8 +11,9 @@ A run of `discovery replay` in which one growth is refused may come to this, and
 - One run of leases answers `expired N fault 1`, and all others answer as they do where the first N
   instances that it cancels are cancelled in its place, one after another.
 
-The programs that ask again where memory was refused have to answer as without a refusal, or end with
-status 1 behind a front of whole lines, the last of which may say that a trial found no memory.
+`disco_refusals`, which asks again where memory was refused, a desk or a client as its word says, has to
+answer as without a refusal, or to end with status 1 behind a front of whole lines, the last of which may
+say that a trial found no memory.
 """
 
 import glob
@@ -217,19 +218,26 @@ class Row:
         )
 
 
-class Trial:
-    """A program that asks again where memory was refused, and what it prints: so many of the lines of its
-    file, where not all of its trials are made."""
+# The words of `disco_refusals`, and how many trials it makes with the second one.
+WORDS = ("desk", "refreshes")
+REFRESHES = 2
 
-    def __init__(self, root, shim, crate, words=(), lines=None):
-        folder = os.path.join(root, "crates", crate)
-        self.name, self.shim, self.words = crate, shim, words
-        self.path = os.path.join(folder, "out", crate)
+
+class Trial:
+    """The program that asks again where memory was refused, with one of its words, and what it prints."""
+
+    def __init__(self, root, shim, word):
+        folder = os.path.join(root, "crates", "disco_refusals")
+        self.name, self.shim, self.word = "disco_refusals " + word, shim, word
+        self.path = os.path.join(folder, "out", "disco_refusals")
+        # Without a word it prints the answers of the desk, and then how each trial went.
         printed = read_if_any(os.path.join(folder, "stdout"), b"").splitlines(keepends=True)
-        self.wanted = Came(0, b"".join(printed[:lines]), b"")
+        went = [line for line in printed if line.endswith(b": yes\n")]
+        lines = printed[: -len(went)] if word == "desk" else went[:REFRESHES]
+        self.wanted = Came(0, b"".join(lines), b"")
 
     def program(self):
-        return Program(self.shim, self.path, self.words)
+        return Program(self.shim, self.path, (self.word,))
 
     def step(self):
         return 1
@@ -297,14 +305,15 @@ def main():
     files = sorted(glob.glob(os.path.join(root, "crates", "disco_rows", "data", "*", "*.row")))
     rows = [Row(root, shim, file.removesuffix(".row")) for file in files]
     rows = [row for row in rows if row.is_tried() and (not quick or row.name in QUICK)]
-    trials = [Trial(root, shim, "disco_refusals"), Trial(root, shim, "disco_refreshes", ("script",), 2)]
+    trials = [Trial(root, shim, word) for word in WORDS]
     all_counts = Counter()
     with ThreadPoolExecutor(AT_ONCE) as pool:
         for kind in rows + trials:
             counts = refuse_all(pool, kind)
             all_counts += counts
             print("%s: %d growths; %s" % (kind.name, counts.total(), told(counts)), flush=True)
-    print("%d rows and %d programs, %d runs, each with one growth refused" % (len(rows), len(trials), all_counts.total()))
+    runs = all_counts.total()
+    print("%d rows and %d words of disco_refusals, %d runs, each with one growth refused" % (len(rows), len(trials), runs))
     print(told(all_counts))
     return 1 if all_counts[OTHER] else 0
 

@@ -1,80 +1,130 @@
-//! Asks a desk for rounds and two of its seats for looks, and prints each answer as `replay` writes it,
-//! of a document its base and its version alone.
+//! Asks a desk for rounds and looks, and a client for refreshes.
 //!
-//! What finds no memory is asked once more, and each document is asked for twice, so that it is kept
-//! where it wasn't at first: the answers are then the same whichever growth is refused.
-//! `bench/refusals.sh` refuses each in turn. Ends with status 1, behind the answers before it, where the
-//! desk can't be opened, or an answer can't be printed.
+//! Of the desk and of two of its seats each answer is printed as `replay` writes it, of a document its
+//! base and its version alone. What finds no memory is asked once more, and each document is asked for
+//! twice, so that it is kept where it wasn't at first: the answers are then the same whichever growth is
+//! refused.
+//!
+//! The client refreshes by what a script answers, and over connections that lie in memory and fail. Of
+//! each of these trials the name is printed with what came of it. A refresh by the script that finds no
+//! memory is made once more, and then answered as if there had been some.
+//!
+//! With the word `desk` the desk alone is asked, and with the word `refreshes` the client alone, by the
+//! script: `bench/refusals.sh` refuses each growth of these in turn. Ends with status 1, behind what was
+//! printed before it, where the desk can't be opened, where a trial fails or finds no memory of its own,
+//! or where nothing can be printed.
 #![tactic(auto)]
-
-ghost use Rattle.disco_press.specs.Openings.{Opens};
 
 mod answers;
 mod asking;
+mod certifying;
+mod connections;
+mod copies;
+mod desk;
+mod failing;
+mod following;
+mod refreshing;
+mod samples;
+mod script;
+mod streams;
 
-use asking::{ASKED, answer, look_at_all};
-use disco_press::{Desk, Naming, Opening, Seat, open};
-use disco_values::Settings;
-use std::io;
+use connections::{CERTIFICATES, CONNECTIONS};
+use disco_press::Opening;
+use disco_trials::{compared, told};
+use std::alloc::Global;
 use std::marker::Brand;
 use std::process::ExitCode;
+use std::rt::{Clock, Env};
 use std::sync::Wait;
+use std::{env, io};
 
-/// Asks all, and prints the answers.
-fn tell_all<J: Naming, R: Wait + AllocGlobal + Print>(
-    rt: &R,
-    desk: &mut Desk<J>,
-    seat: &mut Seat<J>,
-) -> io::Result<()> {
-    for asked in ASKED {
-        let answer = answer(rt, rt.alloc(), desk, seat, *asked);
-        println!(rt; "{answer}")?;
-    }
-    Ok(())
+/// Asks a desk.
+fn ask_desk<R: Wait + AllocGlobal + Print>(rt: &R) -> io::Result<()> {
+    desk::run::<Brand, R>(rt, Opening::new())
 }
 
-/// Prints what a seat sees of all apps.
-fn tell_look<J: Naming, R: Print>(rt: &R, seat: &mut Seat<J>) -> io::Result<()> {
-    let answer = look_at_all(seat);
-    println!(rt; "{answer}")
+fn try_script<R: Print>(rt: &R, alloc: Global) -> io::Result<bool> {
+    let (plain, certified) = (refreshing::wanted(), certifying::wanted());
+    let plain = compared(rt, "refreshes", &plain, refreshing::refresh_all(alloc))?;
+    let certified = compared(
+        rt,
+        "certified refreshes",
+        &certified,
+        certifying::refresh_all(alloc),
+    )?;
+    Ok(plain && certified)
 }
 
-/// Asks all of an open desk, and the first seat for its looks. Then the second one looks, and once the
-/// desk is closed both do.
-fn tell<J: Naming, R: Wait + AllocGlobal + Print>(
-    rt: &R,
-    mut desk: Desk<J>,
-    mut one: Seat<J>,
-    mut two: Seat<J>,
-) -> io::Result<()> {
-    let told = tell_all(rt, &mut desk, &mut one);
-    let looked = tell_look(rt, &mut two);
-    desk.close(rt);
-    told?;
-    looked?;
-    tell_look(rt, &mut one)?;
-    tell_look(rt, &mut two)
+/// Compares what is written.
+fn try_texts<R: Print + Clock>(rt: &R, alloc: Global) -> io::Result<bool> {
+    let told = String::from_str(alloc, following::TOLD)?;
+    let written = String::from_str(alloc, connections::WRITTEN)?;
+    let all = [
+        compared(
+            rt,
+            "lines of refreshes",
+            &told,
+            following::follow(rt, alloc),
+        )?,
+        compared(
+            rt,
+            "a request for each",
+            &written,
+            connections::write_requests(alloc),
+        )?,
+    ];
+    Ok(all.iter().all(|well| *well))
 }
 
-fn run<J: Naming, R: Wait + AllocGlobal + Print>(rt: &R, opening: Opening) -> io::Result<()>
-    requires opening { Opens J.list J.name J.parts opening }
-{
-    let settings = Settings::standard();
-    let Ok((desk, mut seats)) = open::<J, R>(rt, rt.alloc(), &settings, 2, opening) else {
-        return Err(io::Error::from(io::ErrorKind::OutOfMemory));
-    };
-    match (seats.pop(), seats.pop()) {
-        (Some(two), Some(one)) => tell(rt, desk, one, two),
+fn try_all<R: Print + Clock>(rt: &R, alloc: Global) -> io::Result<bool> {
+    let (connections, certificates) = (CONNECTIONS.len(), CERTIFICATES.len());
+    let all = [
+        try_script(rt, alloc)?,
+        try_texts(rt, alloc)?,
+        compared(
+            rt,
+            "fetches to the end",
+            &connections,
+            connections::ended(alloc),
+        )?,
+        compared(
+            rt,
+            "certificates",
+            &certificates,
+            connections::certificates_read(alloc),
+        )?,
+        told(rt, "reads that fail", failing::reads_in_turn(alloc))?,
+        told(rt, "writes that fail", failing::writes_in_turn(alloc))?,
+    ];
+    Ok(all.iter().all(|well| *well))
+}
+
+fn words_given<R: Env + AllocGlobal>(rt: &R) -> io::Result<Vec<String>> {
+    Ok(env::args(rt)?.skip(1).collect(rt.alloc())?)
+}
+
+fn run<R: Wait + Env + AllocGlobal + Print + Clock>(rt: &R) -> io::Result<bool> {
+    let words = words_given(rt)?;
+    match words.as_slice() {
+        [] => {
+            ask_desk(rt)?;
+            try_all(rt, rt.alloc())
+        }
+        [word] if word.as_str() == "desk" => {
+            ask_desk(rt)?;
+            Ok(true)
+        }
+        [word] if word.as_str() == "refreshes" => try_script(rt, rt.alloc()),
         _ => {
-            desk.close(rt);
-            Err(io::Error::from(io::ErrorKind::NotFound))
+            println!(rt; "disco_refusals [desk | refreshes]")?;
+            Ok(false)
         }
     }
 }
 
 fn main(rt: HostRuntime) -> ExitCode {
-    match run::<Brand, _>(&rt, Opening::new()) {
-        Ok(()) => ExitCode::SUCCESS,
-        Err(_) => ExitCode::FAILURE,
+    match run(&rt) {
+        Ok(true) => ExitCode::SUCCESS,
+        _ => ExitCode::FAILURE,
     }
 }

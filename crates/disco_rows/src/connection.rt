@@ -8,7 +8,7 @@ use disco_hub::Hub;
 use disco_message::Limits;
 use disco_press::{Desk, Naming, Opening, Seat, open};
 use disco_server::{DeskService, HubService, Open, ServerContext};
-use disco_ticks::Ticks;
+use disco_trials::Ticks;
 use disco_values::Settings;
 use std::alloc::{AllocError, Global};
 use std::io;

@@ -1,5 +1,5 @@
 //! The client's end of a connection.
-use disco_http::{Counted, Reader, ReceivedReply};
+use disco_http::{Counted, Reader};
 use disco_message::Limits;
 use std::alloc::Global;
 use std::io;
@@ -9,6 +9,14 @@ use std::time::Duration;
 
 /// How many seconds a client waits for a reply, at most.
 const PATIENCE_SECS: u64 = 20;
+
+/// Asks for all apps, and for the connection's end.
+pub(crate) const LAST_APPS: &[u8] =
+    b"GET /eureka/v2/apps HTTP/1.1\r\nHost: a\r\nConnection: close\r\n\r\n";
+
+/// A heartbeat.
+pub(crate) const BEAT: &[u8] =
+    b"PUT /eureka/v2/apps/A/1 HTTP/1.1\r\nHost: a\r\nContent-Length: 0\r\n\r\n";
 
 /// A connection to the server.
 pub(crate) fn visit<R: Net<Stream = TcpStream>>(
@@ -26,15 +34,15 @@ pub(crate) fn send(mut stream: &TcpStream, bytes: &[u8]) -> io::Result<()> {
     stream.write_all(bytes)
 }
 
-/// The next reply, where it comes.
-pub(crate) fn hear(alloc: Global, stream: &TcpStream) -> Option<ReceivedReply> {
-    let mut reader = Reader::new(alloc, Counted::new(stream), Limits::of_client()).ok()?;
-    reader.read_reply(alloc).ok()
-}
-
 /// Whether the next reply has this status.
 pub(crate) fn hears(alloc: Global, stream: &TcpStream, status: u16) -> bool {
-    hear(alloc, stream).is_some_and(|reply| reply.head.status() == status)
+    let Ok(mut reader) = Reader::new(alloc, Counted::new(stream), Limits::of_client()) else {
+        return false;
+    };
+    match reader.read_reply(alloc) {
+        Ok(reply) => reply.head.status() == status,
+        Err(_) => false,
+    }
 }
 
 /// Whether nothing more comes, and the connection has an end.

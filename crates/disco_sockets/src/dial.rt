@@ -1,9 +1,8 @@
 //! A clock that is turned by hand.
+use crate::naps::{LOOKS, nap};
 use disco_server::Clock;
 use std::rt;
 use std::sync::atomic::{AtomicU64, Ordering};
-use std::thread::sleep;
-use std::time::Duration;
 
 /// How many clocks there are, one for each timed worker.
 const CLOCKS: u64 = 4;
@@ -11,12 +10,6 @@ const CLOCKS: u64 = 4;
 /// How often each clock is asked until all is done that was due: it may be in the midst of being asked,
 /// then it says the moment, and when it is asked once more what was due is done.
 const TURNS: u64 = 3;
-
-/// How often it is looked whether the clocks were asked, at most.
-const LOOKS: u64 = 20_000;
-
-/// How many milliseconds it is waited between two looks.
-const NAP_MILLIS: u64 = 1;
 
 /// What all clocks say, and how often each was asked.
 #[derive(Drop)]
@@ -75,7 +68,7 @@ impl Dial {
             if self.asked() >= TURNS {
                 return true;
             }
-            sleep(rt, Duration::from_millis(NAP_MILLIS));
+            nap(rt);
         }
         false
     }

@@ -14,16 +14,27 @@ const REGISTRATION: &[u8] =
 /// What is told of it in two refreshes, where the server's run is 5.
 const TOLD: &[u8] = b"copy 5 1 +A/1=UP\nvip v h:8080\n";
 
-/// The words that have the program refresh twice.
-fn words(alloc: Global, port: u16) -> io::Result<Vec<String>> {
-    let mut words = Vec::new(alloc);
-    for word in [
-        "follow", "--vip", "v", "--every", "1", "--times", "2", "--port",
-    ] {
-        words.push(String::from_str(alloc, word)?)?;
+/// The words that have the program refresh twice, before a port.
+const WORDS: &[&str] = &[
+    "follow", "--vip", "v", "--every", "1", "--times", "2", "--port",
+];
+
+/// Words, and a port behind them.
+pub(crate) fn words_on(alloc: Global, words: &[&str], port: u16) -> io::Result<Vec<String>> {
+    let mut all = Vec::new(alloc);
+    for word in words {
+        all.push(String::from_str(alloc, word)?)?;
     }
-    words.push(format!(in alloc; "{port}")?)?;
-    Ok(words)
+    all.push(format!(in alloc; "{port}")?)?;
+    Ok(all)
+}
+
+/// Whether a run has ended with 1, and told why it had no connection, and nothing else.
+pub(crate) fn is_told_why(status: u8, out: &[u8], errors: &[u8], why: &str) -> bool {
+    status == 1
+        && out.is_empty()
+        && errors.starts_with(why.as_bytes())
+        && errors.ends_with(b"\ndiscovery: fault 20\n")
 }
 
 /// Follows what a server on a port has. Whether the instance and its vip are told, once and alone.
@@ -32,7 +43,7 @@ fn is_followed<R: Net<Stream = TcpStream> + Clock>(
     alloc: Global,
     port: u16,
 ) -> io::Result<bool> {
-    let words = words(alloc, port)?;
+    let words = words_on(alloc, WORDS, port)?;
     let (mut out, mut errors) = (Counted::new(Vec::new(alloc)), Counted::new(Vec::new(alloc)));
     let status = follow(rt, alloc, &mut out, &mut errors, words.as_slice());
     Ok(status == 0 && out.inner.as_slice() == TOLD && errors.inner.is_empty())
@@ -57,15 +68,10 @@ pub(crate) fn is_refused<R: Net<Listener = TcpListener, Stream = TcpStream> + Cl
     let listener = TcpListener::bind(rt, SocketAddr::from((Ipv4Addr::LOCALHOST, 0)))?;
     let port = listener.local_addr()?.port();
     drop(listener);
-    let words = words(alloc, port)?;
+    let words = words_on(alloc, WORDS, port)?;
     let (mut out, mut errors) = (Counted::new(Vec::new(alloc)), Counted::new(Vec::new(alloc)));
     let status = follow(rt, alloc, &mut out, &mut errors, words.as_slice());
     let why = format!(in alloc; "discovery: no connection to 127.0.0.1:{port}: ")?;
-    let told = errors.inner.as_slice();
-    Ok(
-        status == 1
-            && out.inner.is_empty()
-            && told.starts_with(why.as_bytes())
-            && told.ends_with(b"\ndiscovery: fault 20\n"),
-    )
+    let (out, errors) = (out.inner.as_slice(), errors.inner.as_slice());
+    Ok(is_told_why(status, out, errors, why.as_str()))
 }

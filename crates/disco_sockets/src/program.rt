@@ -1,8 +1,9 @@
 //! The command `serve` of the program, on ports of this host.
 ghost use Rattle.disco_press.specs.Openings.{Opens};
 
-use crate::client::{hears, is_at_end, send, visit};
-use crate::following::register_and_follow;
+use crate::client::{LAST_APPS, hears, is_at_end, send, visit};
+use crate::following::{is_told_why, register_and_follow, words_on};
+use crate::naps::{LOOKS, nap};
 use disco_http::Counted;
 use disco_press::{Naming, Opening};
 use disco_prog::run;
@@ -13,17 +14,7 @@ use std::net::{Ipv4Addr, Net, SocketAddr, TcpListener, TcpStream};
 use std::rt::Clock;
 use std::sync::Wait;
 use std::sync::atomic::{AtomicBool, Ordering};
-use std::thread::{Threads, join, sleep};
-use std::time::Duration;
-
-/// Asks for all apps, and for the connection's end.
-const LAST_APPS: &[u8] = b"GET /eureka/v2/apps HTTP/1.1\r\nHost: a\r\nConnection: close\r\n\r\n";
-
-/// How often it is looked whether the program has written its line, at most.
-const LOOKS: u64 = 20_000;
-
-/// How many milliseconds it is waited between two looks.
-const NAP_MILLIS: u64 = 1;
+use std::thread::{Threads, join};
 
 /// What the program writes to: says to another thread that a line is whole.
 #[derive(Drop)]
@@ -71,19 +62,15 @@ impl Guest {
 
 /// The words that have the program serve so many connections on a port.
 fn words(alloc: Global, port: u16, connections: &str) -> io::Result<Vec<String>> {
-    let mut words = Vec::new(alloc);
-    for word in [
+    let words = [
         "serve",
         "--run",
         "5",
         "--connections",
         connections,
         "--port",
-    ] {
-        words.push(String::from_str(alloc, word)?)?;
-    }
-    words.push(format!(in alloc; "{port}")?)?;
-    Ok(words)
+    ];
+    words_on(alloc, &words, port)
 }
 
 /// Makes one request. Whether it is answered, and the connection ends.
@@ -99,7 +86,7 @@ fn is_listening<R: Clock>(rt: &R, whole: &AtomicBool) -> bool {
         if whole.load(Ordering::SeqCst) {
             return true;
         }
-        sleep(rt, Duration::from_millis(NAP_MILLIS));
+        nap(rt);
     }
     false
 }
@@ -209,11 +196,6 @@ where
         words.as_slice(),
     );
     let why = format!(in alloc; "discovery: no listening on 127.0.0.1:{port}: ")?;
-    let told = errors.inner.as_slice();
-    Ok(
-        status == 1
-            && out.inner.is_empty()
-            && told.starts_with(why.as_bytes())
-            && told.ends_with(b"\ndiscovery: fault 20\n"),
-    )
+    let (out, errors) = (out.inner.as_slice(), errors.inner.as_slice());
+    Ok(is_told_why(status, out, errors, why.as_str()))
 }

@@ -31,7 +31,7 @@ struct Seen {
 }
 
 /// The key of the document of all apps.
-fn apps() -> DocKey {
+pub(crate) fn apps() -> DocKey {
     DocKey {
         query: Query::Apps,
         form: Form::Full,
@@ -133,22 +133,20 @@ pub(crate) struct Periods {
     published_anew: bool,
 }
 
+/// What is seen before anything is due.
+const AT_FIRST: Seen = Seen {
+    base: 0,
+    loaded: 1,
+    looked: MISSED,
+    renewals: 2,
+};
+
 /// What has to be: nothing is done a millisecond before it is due. At 30,000 milliseconds the lease has
 /// run out, and stays. At 60,000 it goes, so what was published is of no version before that of the
 /// second registration.
 pub(crate) const WANTED: Periods = Periods {
-    begun: Seen {
-        base: 0,
-        loaded: 1,
-        looked: MISSED,
-        renewals: 2,
-    },
-    before_first: Seen {
-        base: 0,
-        loaded: 1,
-        looked: MISSED,
-        renewals: 2,
-    },
+    begun: AT_FIRST,
+    before_first: AT_FIRST,
     first: Seen {
         base: 1,
         loaded: 1,

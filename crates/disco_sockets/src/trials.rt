@@ -1,19 +1,15 @@
 //! What is tried, each on connections of its own.
-use crate::client::{hears, is_at_end, send, visit};
+use crate::client::{LAST_APPS, hears, is_at_end, send, visit};
+use crate::naps::{LOOKS, nap};
+use crate::timed::apps;
 use disco_press::{Desk, Looked, Naming, Seat};
-use disco_values::{DocKey, Form, Query};
 use std::alloc::Global;
 use std::net::{Net, Shutdown, SocketAddr, TcpStream};
 use std::sync::{Mutex, MutexGuard, Wait};
-use std::thread::sleep;
-use std::time::Duration;
 use std::{io, rt};
 
 /// Asks for all apps.
 const APPS: &[u8] = b"GET /eureka/v2/apps HTTP/1.1\r\nHost: a\r\n\r\n";
-
-/// Asks for all apps, and for the connection's end.
-const LAST_APPS: &[u8] = b"GET /eureka/v2/apps HTTP/1.1\r\nHost: a\r\nConnection: close\r\n\r\n";
 
 /// Asks for an app that isn't there.
 const NO_APP: &[u8] = b"GET /eureka/v2/apps/NONE HTTP/1.1\r\nHost: a\r\n\r\n";
@@ -30,12 +26,6 @@ const REQUESTS: u64 = 1_000;
 
 /// How many bytes follow the last request of a connection, unread.
 const UNREAD: usize = 20_000;
-
-/// How often it is looked for what was published, at most.
-const LOOKS: u64 = 20_000;
-
-/// How many milliseconds it is waited between two looks.
-const NAP_MILLIS: u64 = 1;
 
 /// How many connections all trials make.
 pub(crate) const CONNECTIONS: u64 = 8;
@@ -109,14 +99,6 @@ pub(crate) fn many_requests<R: Net<Stream = TcpStream>>(
     Ok(is_at_end(&stream))
 }
 
-/// The key of the document of all apps.
-fn apps() -> DocKey {
-    DocKey {
-        query: Query::Apps,
-        form: Form::Full,
-    }
-}
-
 /// Whether a seat sees the document of all apps at last, at this version or a later one.
 fn sees<J: Naming, R: rt::Clock>(rt: &R, seat: &mut Seat<J>, version: u64) -> bool {
     let key = apps();
@@ -126,7 +108,7 @@ fn sees<J: Naming, R: rt::Clock>(rt: &R, seat: &mut Seat<J>, version: u64) -> bo
         {
             return true;
         }
-        sleep(rt, Duration::from_millis(NAP_MILLIS));
+        nap(rt);
     }
     false
 }

@@ -1,9 +1,9 @@
-//! What trials are given: settings, and instances of one app.
+//! What trials are given: settings, instances, and keys of documents.
 use disco_hub::Hub;
 use disco_instance::Record;
 use disco_options::settings_of;
 use disco_registry::Op;
-use disco_values::{Fault, Key, Settings, Text};
+use disco_values::{DocKey, Fault, Form, Key, Query, Settings, Text};
 use disco_wire::read_registration;
 use std::alloc::{AllocError, Global};
 
@@ -54,6 +54,31 @@ pub(crate) fn registration(alloc: Global, id: &str) -> Result<Op, Fault> {
 /// What cancels it.
 pub(crate) fn cancel(alloc: Global, id: &str) -> Result<Op, Fault> {
     Ok(Op::Cancel(key(alloc, id)?))
+}
+
+/// What registers the one instance of the app of a number.
+pub(crate) fn registration_of(alloc: Global, app: u64) -> Result<Op, Fault> {
+    let text = format!(in alloc;
+        r#"{{"instance":{{"instanceId":"1","hostName":"h","app":"A{app}","ipAddr":"10.0.0.1","dataCenterInfo":{{"name":"MyOwn"}}}}}}"#
+    )?;
+    Ok(Op::Register(read_registration(alloc, text.as_bytes())?))
+}
+
+/// The key of the document of all apps.
+pub(crate) fn apps() -> DocKey {
+    DocKey {
+        query: Query::Apps,
+        form: Form::Full,
+    }
+}
+
+/// The key of the document of the app of a number.
+pub(crate) fn app(alloc: Global, app: u64) -> Result<DocKey, Fault> {
+    let name = format!(in alloc; "A{app}")?;
+    Ok(DocKey {
+        query: Query::App(Text::from_string(name)),
+        form: Form::Full,
+    })
 }
 
 /// The number of a refusal, or 0 where there was none.

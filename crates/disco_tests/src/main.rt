@@ -1,17 +1,26 @@
 //! Tries what no contract and no row of files says: streams that fail, more instances than a file of
-//! lines should have, and calls that no event reaches.
+//! lines should have, calls that no event reaches, and looks from several threads beside a desk that
+//! publishes.
 //!
-//! Of each trial the name is printed with what came of it. Ends with status 1 where one fails.
+//! Of each trial it is printed what came of it. Ends with status 1 where one fails.
+//!
+//! With the words `looks <apps> <threads> <looks> <busy>` it tries nothing, but times so many looks on
+//! each thread, each at a document of its own in an edition with one for each app, while one thread more
+//! writes, loads and publishes where `busy` is 1.
 #![tactic(auto)]
 
 mod cache;
 mod calls;
 mod client;
 mod given;
+mod looking;
 mod press;
 mod program;
+mod publishing;
 mod rounds;
+mod seats;
 mod serving;
+mod timing;
 
 use disco_press::Opening;
 use disco_trials::compared;
@@ -21,6 +30,10 @@ use std::alloc::Global;
 use std::io;
 use std::marker::Brand;
 use std::process::ExitCode;
+use std::rt::{Clock, Env};
+use std::sync::Wait;
+use std::thread::Threads;
+use timing::Timing;
 
 fn try_registry<R: Print>(rt: &R, alloc: Global) -> io::Result<bool> {
     let pushed = String::from_str(alloc, calls::HASH_CODE)?;
@@ -93,7 +106,7 @@ fn try_streams<R: Print>(rt: &R, alloc: Global) -> io::Result<bool> {
     Ok(all.iter().all(|well| *well))
 }
 
-fn try_all<R: Print>(rt: &R, alloc: Global) -> io::Result<bool> {
+fn try_calls<R: Print>(rt: &R, alloc: Global) -> io::Result<bool> {
     let all = [
         try_registry(rt, alloc)?,
         try_hub(rt, alloc)?,
@@ -102,19 +115,58 @@ fn try_all<R: Print>(rt: &R, alloc: Global) -> io::Result<bool> {
     Ok(all.iter().all(|well| *well))
 }
 
-/// Tries all, and tells what came of the trial of two threads.
+/// Tries all that takes one thread, and tells what came of the trial of two.
 fn tell_all<R: Print>(rt: &R, alloc: Global, threads: Result<Seen, Fault>) -> io::Result<bool> {
     let all = [
-        try_all(rt, alloc)?,
+        try_calls(rt, alloc)?,
         compared(rt, "looks from another thread", &press::WANTED, threads)?,
     ];
     Ok(all.iter().all(|well| *well))
 }
 
-fn main(rt: HostRuntime) -> ExitCode {
+/// Tries all, and tells whether all is as it has to be.
+fn try_all<R>(rt: &R) -> io::Result<bool>
+where
+    R: Threads + Wait + AllocGlobal + Print + Sync + Clone + Drop,
+{
     let alloc = rt.alloc();
-    let threads = press::seen_by_another_thread::<Brand, _>(&rt, alloc, Opening::new());
-    match tell_all(&rt, alloc, threads) {
+    let threads = press::seen_by_another_thread::<Brand, R>(rt, alloc, Opening::new());
+    let well = tell_all(rt, alloc, threads)?;
+    let none_goes_back = seats::none_goes_back::<Brand, R>(rt, Opening::new())?;
+    Ok(well && none_goes_back)
+}
+
+/// Times the looks that the words name.
+fn time_looks<R>(rt: &R, words: &[String]) -> io::Result<bool>
+where
+    R: Threads + Wait + Clock + AllocGlobal + Print + Sync + Clone + Drop,
+{
+    match Timing::of(words) {
+        Some(timing) => timing::run::<Brand, R>(rt, &timing, Opening::new()),
+        None => {
+            println!(rt; "disco_tests [looks <apps> <threads> <looks> <busy>]")?;
+            Ok(false)
+        }
+    }
+}
+
+fn words_given<R: Env + AllocGlobal>(rt: &R) -> io::Result<Vec<String>> {
+    Ok(std::env::args(rt)?.skip(1).collect(rt.alloc())?)
+}
+
+fn run<R>(rt: &R) -> io::Result<bool>
+where
+    R: Threads + Wait + Clock + Env + AllocGlobal + Print + Sync + Clone + Drop,
+{
+    let words = words_given(rt)?;
+    if words.is_empty() {
+        return try_all(rt);
+    }
+    time_looks(rt, words.as_slice())
+}
+
+fn main(rt: HostRuntime) -> ExitCode {
+    match run(&rt) {
         Ok(true) => ExitCode::SUCCESS,
         _ => ExitCode::FAILURE,
     }

@@ -1,9 +1,10 @@
 //! A desk and its seats on two threads.
 ghost use Rattle.disco_press.specs.Openings.{Opens};
 
-use crate::given::{cancel, defaults, refusal, registration};
+use crate::given::{apps, cancel, defaults, refusal, registration};
+use crate::publishing::publish;
 use disco_press::{Desk, Looked, Naming, Opening, Seat, open};
-use disco_values::{DocKey, Fault, Form, Query};
+use disco_values::Fault;
 use std::alloc::Global;
 use std::sync::{Mutex, MutexGuard, Wait};
 use std::thread::{Threads, join};
@@ -35,13 +36,6 @@ pub(crate) const WANTED: Seen = Seen {
     },
 };
 
-fn apps() -> DocKey {
-    DocKey {
-        query: Query::Apps,
-        form: Form::Full,
-    }
-}
-
 /// The version of a document that a look found; 1,000 where it missed, 2,000 where it was shut.
 fn found(looked: Looked) -> u64 {
     match looked {
@@ -51,25 +45,12 @@ fn found(looked: Looked) -> u64 {
     }
 }
 
-fn register<J: Naming>(alloc: Global, desk: &mut Desk<J>, id: &str, now: u64) -> Result<(), Fault> {
-    let op = registration(alloc, id)?;
-    desk.write(op, now)?;
-    Ok(())
-}
-
-/// The version of a document that is loaded.
-fn loaded<J: Naming>(desk: &mut Desk<J>, key: &DocKey) -> Result<u64, Fault> {
-    Ok(desk.load(key)?.version)
-}
-
 /// Registers an instance, and publishes the document of all apps.
 fn fill<J: Naming, R: Wait>(rt: &R, alloc: Global, desk: &mut Desk<J>) -> Result<(), Fault> {
-    register(alloc, desk, "1", 1)?;
-    let _ = loaded(desk, &apps())?;
+    desk.write(registration(alloc, "1")?, 1)?;
+    let _ = desk.load(&apps())?;
     desk.begin()?;
-    let _ = desk.copy_one()?;
-    desk.publish(rt)?;
-    Ok(())
+    publish(rt, desk)
 }
 
 fn fill_locked<J: Naming, R: Wait>(

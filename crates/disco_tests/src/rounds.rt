@@ -1,7 +1,7 @@
 //! Rounds of a publisher, by the calls that no event reaches alone.
-use crate::given::{empty_hub, refusal};
+use crate::given::{apps, empty_hub, refusal};
 use disco_hub::{Copied, Hub};
-use disco_values::{DocKey, Fault, Form, Query};
+use disco_values::Fault;
 use std::alloc::Global;
 
 /// How the calls of a round are answered, of which one is left before a key is copied, and another one
@@ -50,11 +50,7 @@ pub(crate) const WANTED: Answers = Answers {
 
 /// One document is kept.
 fn load(hub: &mut Hub) -> Result<(), Fault> {
-    let all = DocKey {
-        query: Query::Apps,
-        form: Form::Full,
-    };
-    let _ = hub.load(&all)?;
+    let _ = hub.load(&apps())?;
     Ok(())
 }
 

@@ -1,11 +1,13 @@
-//! What the programs of trials share: where two texts or two outcomes differ, and how what came of a
-//! trial is printed.
+//! What the programs of trials share: where two texts or two outcomes differ, how what came of a trial
+//! is printed, and a clock.
 #![tactic(auto)]
 
 mod differing;
 mod outcome;
 mod printing;
+mod ticks;
 
 pub use differing::difference;
 pub use outcome::{Difference, Outcome};
 pub use printing::{compared, is_told, told};
+pub use ticks::Ticks;

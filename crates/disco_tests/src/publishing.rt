@@ -1,5 +1,5 @@
 //! One thread that writes, loads and publishes.
-use crate::desks::{app, registration};
+use crate::given::{app, registration_of};
 use disco_press::{Desk, Naming};
 use disco_values::Fault;
 use std::alloc::Global;
@@ -7,7 +7,7 @@ use std::sync::atomic::{AtomicU64, Ordering};
 use std::sync::{Mutex, MutexGuard, Wait};
 
 /// Copies all that is left of the open round, and publishes.
-fn publish<J: Naming, R: Wait>(rt: &R, desk: &mut Desk<J>) -> Result<(), Fault> {
+pub(crate) fn publish<J: Naming, R: Wait>(rt: &R, desk: &mut Desk<J>) -> Result<(), Fault> {
     for _ in 0..u64::MAX {
         if desk.copy_one()?.is_none() {
             break;
@@ -24,14 +24,14 @@ fn change<J: Naming, R: Wait>(
     desk: &mut Desk<J>,
     number: u64,
 ) -> Result<(), Fault> {
-    desk.write(registration(alloc, number)?, 0)?;
+    desk.write(registration_of(alloc, number)?, 0)?;
     let _ = desk.load(&app(alloc, number)?)?;
     desk.begin()?;
     publish(rt, desk)
 }
 
 /// As [`change`], under the lock.
-pub(crate) fn change_locked<J: Naming, R: Wait>(
+fn change_locked<J: Naming, R: Wait>(
     rt: &R,
     alloc: Global,
     desk: &Mutex<Desk<J>>,
@@ -51,7 +51,7 @@ fn fill<J: Naming, R: Wait>(
     apps: u64,
 ) -> Result<(), Fault> {
     for number in 0..apps {
-        desk.write(registration(alloc, number)?, 0)?;
+        desk.write(registration_of(alloc, number)?, 0)?;
         let _ = desk.load(&app(alloc, number)?)?;
     }
     desk.begin()?;

@@ -1,7 +1,7 @@
 //! Four seats look while a desk publishes 200 times.
 ghost use Rattle.disco_press.specs.Openings.{Opens};
 
-use crate::desks::app;
+use crate::given::app;
 use crate::looking::{Seen, look_until};
 use crate::publishing::change_often;
 use disco_press::{Desk, Naming, Opening, Seat, open};
@@ -53,7 +53,11 @@ fn is_well(seen: &[Seen]) -> bool {
         .all(|one| one.version == PUBLISHES && !one.went_back)
 }
 
-pub(crate) fn run<J: Naming + Send + Sync, R>(rt: &R, opening: Opening) -> io::Result<bool>
+/// Prints whether no look goes back, and tells it.
+pub(crate) fn none_goes_back<J: Naming + Send + Sync, R>(
+    rt: &R,
+    opening: Opening,
+) -> io::Result<bool>
 where
     R: Threads + Wait + AllocGlobal + Print + Sync + Clone + Drop,
     requires opening { Opens J.list J.name J.parts opening }

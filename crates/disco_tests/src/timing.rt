@@ -2,7 +2,7 @@
 ghost use Rattle.std.specs.Prelude.{◌<◌};
 ghost use Rattle.disco_press.specs.Openings.{Opens};
 
-use crate::desks::app;
+use crate::given::app;
 use crate::looking::{Seen, look_often};
 use crate::publishing::{change_until, fill_locked};
 use disco_press::{Desk, Naming, Opening, Seat, open};
@@ -26,11 +26,15 @@ pub(crate) struct Timing {
 }
 
 impl Timing {
-    /// What the words name, where they are four numbers, of 1 to 4,096 apps and 1 to 64 threads.
+    /// What the words name, where they are `looks` and four numbers, of 1 to 4,096 apps and 1 to 64
+    /// threads.
     pub(crate) fn of(words: &[String]) -> Option<Timing> {
-        let [apps, seats, looks, busy] = words else {
+        let [word, apps, seats, looks, busy] = words else {
             return None;
         };
+        if word.as_str() != "looks" {
+            return None;
+        }
         let apps: u64 = apps.as_str().parse().ok()?;
         let seats: usize = seats.as_str().parse().ok()?;
         if !(1..=4096).contains(&apps) || !(1..=64).contains(&seats) {

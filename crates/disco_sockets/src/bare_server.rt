@@ -1,4 +1,4 @@
-//! The server of the trials.
+//! A server without a desk: each request is answered with 204.
 use disco_connections::{
     Acceptor, Buffers, Post, Waits, Workers, next_connection, serve_connection,
 };

@@ -36,7 +36,7 @@ fn beat<R: Net<Stream = TcpStream>>(
             Some(stream) => stream,
             None => visit(rt, server)?,
         };
-        if send(&stream, BEAT).is_ok() && hears(alloc, &stream) {
+        if send(&stream, BEAT).is_ok() && hears(alloc, &stream, 204) {
             return Ok(Some(stream));
         }
         line = None;

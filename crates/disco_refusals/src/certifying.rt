@@ -24,6 +24,13 @@ struct Case {
     copy: Option<Held>,
 }
 
+/// The copy that most refreshes leave.
+const HELD: Option<Held> = Some(Held {
+    document: ONE,
+    run: 0,
+    version: 1,
+});
+
 /// One refresh after another.
 const CASES: &[Case] = &[
     Case {
@@ -62,11 +69,7 @@ const CASES: &[Case] = &[
             ),
         },
         came: Ok(Refreshed::Full),
-        copy: Some(Held {
-            document: ONE,
-            run: 0,
-            version: 1,
-        }),
+        copy: HELD,
     },
     Case {
         turn: Turn {
@@ -81,11 +84,7 @@ const CASES: &[Case] = &[
             apps: Reply::Fails,
         },
         came: Ok(Refreshed::Delta),
-        copy: Some(Held {
-            document: ONE,
-            run: 0,
-            version: 1,
-        }),
+        copy: HELD,
     },
     Case {
         turn: Turn {
@@ -107,11 +106,7 @@ const CASES: &[Case] = &[
             ),
         },
         came: Ok(Refreshed::Kept),
-        copy: Some(Held {
-            document: ONE,
-            run: 0,
-            version: 1,
-        }),
+        copy: HELD,
     },
     Case {
         turn: Turn {
@@ -119,11 +114,7 @@ const CASES: &[Case] = &[
             apps: Reply::Is(200, ONE),
         },
         came: Err(Fault::BadDocument),
-        copy: Some(Held {
-            document: ONE,
-            run: 0,
-            version: 1,
-        }),
+        copy: HELD,
     },
     Case {
         turn: Turn {
@@ -138,11 +129,7 @@ const CASES: &[Case] = &[
             ),
         },
         came: Ok(Refreshed::Kept),
-        copy: Some(Held {
-            document: ONE,
-            run: 0,
-            version: 1,
-        }),
+        copy: HELD,
     },
     Case {
         turn: Turn {
@@ -157,11 +144,7 @@ const CASES: &[Case] = &[
             ),
         },
         came: Ok(Refreshed::DeltaThenFull),
-        copy: Some(Held {
-            document: ONE,
-            run: 0,
-            version: 1,
-        }),
+        copy: HELD,
     },
     Case {
         turn: Turn {
@@ -176,11 +159,7 @@ const CASES: &[Case] = &[
             apps: Reply::Fails,
         },
         came: Err(Fault::NotFetched),
-        copy: Some(Held {
-            document: ONE,
-            run: 0,
-            version: 1,
-        }),
+        copy: HELD,
     },
     Case {
         turn: Turn {
@@ -195,11 +174,7 @@ const CASES: &[Case] = &[
             apps: Reply::Fails,
         },
         came: Err(Fault::BadDocument),
-        copy: Some(Held {
-            document: ONE,
-            run: 0,
-            version: 1,
-        }),
+        copy: HELD,
     },
     Case {
         turn: Turn {

@@ -1,4 +1,4 @@
-use Rattle.disco_looks.proofs.main.Given as goal
+use Rattle.disco_refusals.proofs.ask_desk.Given as goal
 
 abbrev pub ghosts-run-J-Naming : goal.ghosts-run-J-Naming
 ghosts-run-J-Naming g a = record { list = a.opening.marks.name }

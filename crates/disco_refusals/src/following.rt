@@ -1,13 +1,14 @@
 //! Refreshes that are told as lines.
-ghost use Rattle.std.specs.Prelude.{◌≡◌, ◌≤◌, IfErr};
-ghost use Rattle.disco_values.specs.declared.fault.Fault.TheVariants.{NotFetched, OutOfMemory};
+ghost use Rattle.std.specs.Prelude.{◌≡◌, ◌≤◌};
+ghost use Rattle.disco_values.specs.declared.fault.Fault.TheVariants.{NotFetched};
 ghost use Rattle.disco_http.specs.Causes.{Raises};
 
 use crate::samples::{GONE, ONE};
+use crate::script::replied;
 use disco_follow::follow_client;
 use disco_http::Counted;
 use disco_reconcile::{Client, Fetch, Fetched};
-use disco_values::{Bytes, Cert, DocKey, Fault, Form, Text};
+use disco_values::{Cert, DocKey, Fault, Form, Text};
 use std::alloc::Global;
 use std::rt::Clock;
 
@@ -84,16 +85,6 @@ impl Answers<'_> {
     }
 }
 
-fn certified(alloc: Global, answer: Answer) -> Result<Fetched, Fault>
-    ensures { IfErr result (λ e. e ≡ OutOfMemory) }
-{
-    Ok(Fetched {
-        status: 200,
-        body: Bytes::from_vec(answer.document.as_bytes().to_vec(alloc)?),
-        cert: Some(answer.cert),
-    })
-}
-
 impl Fetch for Answers<'_> {
     ghost gives = { λ _ _ _ _. Unit {0} };
 
@@ -101,7 +92,7 @@ impl Fetch for Answers<'_> {
 
     fn fetch(&mut self, _key: &DocKey) -> Result<Fetched, Fault> {
         match self.next() {
-            Some(answer) => certified(self.alloc, answer),
+            Some(next) => replied(self.alloc, 200, next.document, Some(next.cert)),
             None => Err(self.fail()),
         }
     }

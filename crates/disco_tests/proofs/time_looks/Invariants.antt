@@ -1,4 +1,4 @@
-use Rattle.disco_refusals.proofs.main.Given as goal
+use Rattle.disco_tests.proofs.time_looks.Given as goal
 
 abbrev pub ghosts-run-J-Naming : goal.ghosts-run-J-Naming
 ghosts-run-J-Naming g a = record { list = a.opening.marks.name }

@@ -52,7 +52,13 @@ impl Script<'_> {
     }
 }
 
-fn answer(alloc: Global, status: u16, body: &str, cert: Option<Cert>) -> Result<Fetched, Fault>
+/// What is fetched where a server replies.
+pub(crate) fn replied(
+    alloc: Global,
+    status: u16,
+    body: &str,
+    cert: Option<Cert>,
+) -> Result<Fetched, Fault>
     ensures { IfErr result (λ e. e ≡ OutOfMemory) }
 {
     Ok(Fetched {
@@ -75,8 +81,8 @@ impl Fetch for Script<'_> {
             turn.apps
         };
         match reply {
-            Reply::Is(status, body) => answer(self.alloc, status, body, None),
-            Reply::Certified(body, cert) => answer(self.alloc, 200, body, Some(cert)),
+            Reply::Is(status, body) => replied(self.alloc, status, body, None),
+            Reply::Certified(body, cert) => replied(self.alloc, 200, body, Some(cert)),
             Reply::Fails => Err(self.fail()),
         }
     }

@@ -1,6 +1,6 @@
 //! Clients that send slowly, or nothing.
+use crate::bare_server::WORKERS;
 use crate::client::{BEAT, hears, is_at_end, send, visit};
-use crate::server::WORKERS;
 use std::alloc::Global;
 use std::net::{Net, SocketAddr, TcpListener, TcpStream};
 use std::sync::atomic::{AtomicBool, Ordering};
@@ -64,10 +64,10 @@ pub(crate) fn are_answered_late<R: Net<Stream = TcpStream> + rt::Clock>(
     sleep(rt, Duration::from_millis(SILENT_MILLIS));
     let mut well = true;
     for stream in &halves {
-        let answered = send(stream, REST).is_ok() && hears(alloc, stream);
+        let answered = send(stream, REST).is_ok() && hears(alloc, stream, 204);
         well = well && answered;
     }
-    Ok(hears(alloc, &waits) && well)
+    Ok(hears(alloc, &waits, 204) && well)
 }
 
 /// Sends a byte over each connection again and again, until it is told to end.
@@ -114,7 +114,7 @@ fn is_answered_in_time<R: Net<Stream = TcpStream> + rt::Clock>(
     let begun = Instant::now(rt)?;
     let stream = visit(rt, server)?;
     send(&stream, BEAT)?;
-    Ok(hears(alloc, &stream) && begun.elapsed(rt)?.as_millis() <= MOST_MILLIS)
+    Ok(hears(alloc, &stream, 204) && begun.elapsed(rt)?.as_millis() <= MOST_MILLIS)
 }
 
 /// Clients that send a head or a body byte by byte keep another one out for no longer than heads and
@@ -137,7 +137,7 @@ pub(crate) fn is_kept<R: Net<Stream = TcpStream> + rt::Clock>(
     let stream = visit(rt, server)?;
     sleep(rt, Duration::from_millis(SILENT_MILLIS));
     send(&stream, BEAT)?;
-    let answered = hears(alloc, &stream);
+    let answered = hears(alloc, &stream, 204);
     let begun = Instant::now(rt)?;
     let ends = is_at_end(&stream);
     Ok(answered && ends && begun.elapsed(rt)?.as_millis() >= u128::from(SILENT_MILLIS))

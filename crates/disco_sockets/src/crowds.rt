@@ -1,7 +1,7 @@
-//! One trial: a server beside its clients.
+//! A server without a desk beside its clients, who are more than its workers, or slow.
+use crate::bare_server::serve;
 use crate::beating::all_beat;
 use crate::client::visit;
-use crate::server::serve;
 use crate::slow::{are_answered_late, are_kept_out, is_kept};
 use disco_connections::{Waits, listen};
 use std::alloc::Global;
@@ -11,12 +11,12 @@ use std::sync::atomic::{AtomicBool, Ordering};
 use std::thread::{Threads, join};
 use std::{io, rt};
 
-/// How many connections a server takes, which are more than the clients of a trial make.
+/// How many connections a server takes, which are more than they make.
 const CONNECTIONS: u64 = 2_000;
 
-/// What is tried.
+/// What the clients do.
 #[derive(Clone, Copy, Debug)]
-pub(crate) enum Trial {
+pub(crate) enum Crowd {
     /// More clients than workers make requests again and again.
     Beats,
     /// Requests come in two halves, while others wait.
@@ -27,10 +27,10 @@ pub(crate) enum Trial {
     Silence,
 }
 
-impl Trial {
+impl Crowd {
     /// How long connections are waited for.
     fn waits(self) -> Waits {
-        let waits = Waits {
+        let mut waits = Waits {
             slice: 20,
             between: 20_000,
             inside: 20_000,
@@ -38,37 +38,29 @@ impl Trial {
             body: 20_000,
         };
         match self {
-            Trial::Beats | Trial::Halves => waits,
-            Trial::Drips => Waits {
-                slice: 20,
-                between: 20_000,
-                inside: 20_000,
-                head: 300,
-                body: 300,
-            },
-            Trial::Silence => Waits {
-                slice: 20,
-                between: 600,
-                inside: 20_000,
-                head: 20_000,
-                body: 20_000,
-            },
+            Crowd::Beats | Crowd::Halves => {}
+            Crowd::Drips => {
+                waits.head = 300;
+                waits.body = 300;
+            }
+            Crowd::Silence => waits.between = 600,
         }
+        waits
     }
 }
 
-/// What the clients of a trial do. Whether all is as it has to be.
+/// Has the clients do it. Whether all is as it has to be.
 fn try_it<R: Net<Listener = TcpListener, Stream = TcpStream> + Threads + rt::Clock + Sync>(
     rt: &R,
     alloc: Global,
     server: SocketAddr,
-    trial: Trial,
+    crowd: Crowd,
 ) -> io::Result<bool> {
-    match trial {
-        Trial::Beats => all_beat(rt, alloc, server),
-        Trial::Halves => are_answered_late(rt, alloc, server),
-        Trial::Drips => are_kept_out(rt, alloc, server),
-        Trial::Silence => is_kept(rt, alloc, server),
+    match crowd {
+        Crowd::Beats => all_beat(rt, alloc, server),
+        Crowd::Halves => are_answered_late(rt, alloc, server),
+        Crowd::Drips => are_kept_out(rt, alloc, server),
+        Crowd::Silence => is_kept(rt, alloc, server),
     }
 }
 
@@ -82,14 +74,14 @@ fn end<R: Net<Stream = TcpStream>>(rt: &R, server: SocketAddr, ended: &AtomicBoo
     }
 }
 
-/// Runs a trial. Whether all is as it has to be.
-pub(crate) fn run<R>(rt: &R, alloc: Global, trial: Trial) -> io::Result<bool>
+/// Runs a server beside them. Whether all is as it has to be.
+pub(crate) fn run<R>(rt: &R, alloc: Global, crowd: Crowd) -> io::Result<bool>
 where
     R: Net<Listener = TcpListener, Stream = TcpStream> + Threads + Wait + rt::Clock + Sync,
 {
     let listener = listen(rt, 0)?;
     let server = listener.local_addr()?;
-    let (waits, ended) = (trial.waits(), AtomicBool::new(false));
+    let (waits, ended) = (crowd.waits(), AtomicBool::new(false));
     let (listener, waits, ended) = (&listener, &waits, &ended);
     let (served, tried) = join(
         rt,
@@ -99,7 +91,7 @@ where
             served
         },
         move || {
-            let tried = try_it(rt, alloc, server, trial);
+            let tried = try_it(rt, alloc, server, crowd);
             end(rt, server, ended);
             tried
         },

@@ -1,6 +1,0 @@
-//! The clock of trials.
-#![tactic(auto)]
-
-mod ticks;
-
-pub use ticks::Ticks;
