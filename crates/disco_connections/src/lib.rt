@@ -18,10 +18,9 @@ mod waits;
 mod workers;
 
 pub use acceptor::{Acceptor, Refusal};
-pub use leftover::drain;
 pub use listener::listen;
 pub use next::next_connection;
 pub use post::Post;
 pub use socket::{Buffers, serve_connection};
-pub use waits::{Waits, gives_way, is_over};
+pub use waits::Waits;
 pub use workers::Workers;

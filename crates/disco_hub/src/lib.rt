@@ -19,4 +19,3 @@ pub use disco_core::{Ready, Room};
 pub use disco_values::Settings;
 pub use expiry::Expired;
 pub use hub::Hub;
-pub use rounds::Rounds;
