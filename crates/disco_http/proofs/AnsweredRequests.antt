@@ -3,6 +3,7 @@ use Rattle.std.proofs.Common.{◌≡◌, ℕ, ◌+◌, ◌-◌, ◌<◌, ◌==�
 use Rattle.std.specs.List.{concat}
 use Rattle.std.proofs.lemmas.Bool.Decides.{nat_tests}
 use Rattle.std.proofs.lemmas.List.{map_push}
+use Rattle.std.proofs.KnownBytes.{Appends-trans, Appends-nil}
 use Rattle.disco_message.specs.declared.limits.Limits.{Limits}
 use Rattle.disco_message.specs.RequestView as message
 use Rattle.disco_message.specs.ReplyText.{ReplyView, reply_text}
@@ -12,8 +13,7 @@ use Rattle.disco_http.specs.declared.session.End.TheVariants.{Closed, Limit, Fau
 use Rattle.disco_http.specs.declared.session.Step.TheVariants.{Goes, Last, Stops}
 use Rattle.disco_http.specs.Served.{Left, Chain, is_last, texts, end_texts, end_behind, ends_by_reply, Requests, EndsStream, AnswersAll}
 use Rattle.disco_http.specs.Exchanges.{open_texts, Closing, SoFar, Exchanged}
-use Rattle.disco_http.proofs.Chunking.{joined-more, known_is}
-use Rattle.disco_http.proofs.Appended.{Appends-then, Appends-none}
+use Rattle.disco_http.proofs.ChunkSteps.{joined-more, known_is}
 use Rattle.disco_http.proofs.BrokenWrites.{written_one, written_then}
 
 chain-then : {S : Type 0} (answers : S → message.RequestView → ReplyView → S → Type 0) (old mid new : S) (asks more : List message.RequestView) (replies rs : List ReplyView) → Chain answers old asks replies mid → Chain answers mid more rs new → Chain answers old (asks ++ more) (replies ++ rs) new
@@ -70,7 +70,7 @@ pub begun : {S : Type 0} (answers : S → message.RequestView → ReplyView → 
 begun answers limits most None old before = tt
 begun answers limits most (Some stream) old before =
     let all : most - 0 ≡ most = omega arith in
-    ([], [], stream, refl, λ at more end h. subst (λ n. Requests limits n stream at more end) all h, refl, refl, Appends-none before)
+    ([], [], stream, refl, λ at more end h. subst (λ n. Requests limits n stream at more end) all h, refl, refl, Appends-nil before)
 
 pub goes_on : {S : Type 0} (answers : S → message.RequestView → ReplyView → S → Type 0) (limits : Limits) (most : ℕ) (first : Option (List ℕ)) (old mid new : S) (before b c left : Option (List ℕ)) (next : Left) (count : ℕ) → count < most
     → IfSome first (λ stream. SoFar answers limits most stream old mid before b left count)
@@ -91,7 +91,7 @@ goes_on answers limits most (Some stream) old mid new before b c left next count
       more_asks limits most stream now x.1 asks a count few so.4 x.2 x.4.3,
       chain-then answers old mid new asks (a ∷ []) replies (r ∷ []) so.5 (new, x.4.1, refl),
       one_more asks a count so.6,
-      rw (open-more replies r) (Appends-then before b c (concat (open_texts replies)) (reply_text r false) so.7 x.4.2),
+      rw (open-more replies r) (Appends-trans before b c (concat (open_texts replies)) (reply_text r false) so.7 x.4.2),
     )
 
 pub ends_with : {S : Type 0} (answers : S → message.RequestView → ReplyView → S → Type 0) (limits : Limits) (first : Option (List ℕ)) (old mid new : S) (before b c left : Option (List ℕ)) (next : Left) (count : ℕ) (at : End) → count < limits.requests

@@ -5,8 +5,8 @@ use Rattle.std.proofs.Math.Seq.{take-append-add, drop-append-le}
 use Rattle.std.proofs.lemmas.Bool.{cases_lt}
 use Rattle.httparse.specs.Grammar.{LineEnd, crlf, lf, print_end, print_blank, print_version, Field, print_field, print_section, HasNoSection, RequestHead, print_request, HasNoRequest, ResponseHead, print_reason, print_response, HasNoResponse, ChunkLine, print_extension, print_chunk_line, HasNoChunkLine}
 use Rattle.httparse.proofs.GrammarLemmas.{cons-append, print_request-append, print_response-append}
-use Rattle.disco_http.specs.declared.parsing.Part.{Part}
-use Rattle.disco_http.specs.declared.parsing.Part.TheVariants as part
+use Rattle.disco_http.specs.declared.parts.Part.{Part}
+use Rattle.disco_http.specs.declared.parts.Part.TheVariants as part
 use Rattle.disco_http.specs.Found.{has_empty_line, has_end}
 use Rattle.disco_http.specs.Parts.{HasNo}
 
@@ -97,35 +97,24 @@ line_behind text rest bytes seen ends is more =
     ap (list_any (λ b. b == 10)) (behind_seen front [] rest bytes seen (is ∙ ap (λ (xs : List ℕ). xs ++ rest) ends.1) none (subst (λ (xs : List ℕ). seen < length xs) ends.1 more))
     ∙ line_found (drop (seen - 2) front) rest
 
--- a text that ends in what was looked at stands in it
-in_seen : (text rest bytes : List ℕ) (seen : ℕ) → bytes ≡ text ++ rest → length text ≤ seen → take seen bytes ≡ text ++ take (seen - length text) rest
-in_seen text rest bytes seen is few =
+-- a text that stands in the bytes, and doesn't end behind what was looked at, stands in that
+in_seen : (text rest bytes : List ℕ) (seen : ℕ) → bytes ≡ text ++ rest → (seen < length text → ⊥) → take seen bytes ≡ text ++ take (seen - length text) rest
+in_seen text rest bytes seen is ends =
+    let few : length text ≤ seen = elim (cases_lt seen (length text)) [ inl more ↦ absurd (ends more) | inr few ↦ few ] in
     let at : seen ≡ length text + (seen - length text) = omega (arith, few) in
     ap (take seen) is ∙ ap (λ n. take n (text ++ rest)) at ∙ take-append-add text rest (seen - length text)
 
 no_request : (bytes : List ℕ) (seen : ℕ) → has_empty_line false (drop (seen - 2) bytes) ≡ false → HasNoRequest (take seen bytes) → HasNoRequest bytes
 no_request bytes seen shut none h rest reads =
-    let text = print_request h in
-    elim (cases_lt seen (length text)) [
-      | inl more ↦ true≢false (sym (empty_behind text rest bytes seen (request_end h) reads.1 more) ∙ shut)
-      | inr few ↦ none h (take (seen - length text) rest) (reads.0, in_seen text rest bytes seen reads.1 few)
-    ]
+    none h _ (reads.0, in_seen (print_request h) rest bytes seen reads.1 (λ more. true≢false (sym (empty_behind (print_request h) rest bytes seen (request_end h) reads.1 more) ∙ shut)))
 
 no_reply : (bytes : List ℕ) (seen : ℕ) → has_empty_line false (drop (seen - 2) bytes) ≡ false → HasNoResponse (take seen bytes) → HasNoResponse bytes
 no_reply bytes seen shut none h rest reads =
-    let text = print_response h in
-    elim (cases_lt seen (length text)) [
-      | inl more ↦ true≢false (sym (empty_behind text rest bytes seen (reply_end h) reads.1 more) ∙ shut)
-      | inr few ↦ none h (take (seen - length text) rest) (reads.0, in_seen text rest bytes seen reads.1 few)
-    ]
+    none h _ (reads.0, in_seen (print_response h) rest bytes seen reads.1 (λ more. true≢false (sym (empty_behind (print_response h) rest bytes seen (reply_end h) reads.1 more) ∙ shut)))
 
 no_line : (bytes : List ℕ) (seen : ℕ) → list_any (λ b. b == 10) (drop (seen - 2) bytes) ≡ false → HasNoChunkLine (take seen bytes) → HasNoChunkLine bytes
 no_line bytes seen shut none l rest reads =
-    let text = print_chunk_line l in
-    elim (cases_lt seen (length text)) [
-      | inl more ↦ true≢false (sym (line_behind text rest bytes seen (size_end l) reads.1 more) ∙ shut)
-      | inr few ↦ none l (take (seen - length text) rest) (reads.0, in_seen text rest bytes seen reads.1 few)
-    ]
+    none l _ (reads.0, in_seen (print_chunk_line l) rest bytes seen reads.1 (λ more. true≢false (sym (line_behind (print_chunk_line l) rest bytes seen (size_end l) reads.1 more) ∙ shut)))
 
 -- fields and an empty line end so; an empty line alone has no more than two bytes
 trailer_end : (fields : List Field) (last : LineEnd) → (length (print_section fields last) ≤ 2) ⊎ EndsEmpty (print_section fields last)
@@ -136,14 +125,13 @@ trailer_end (f ∷ fields) last =
 no_trailer : (bytes : List ℕ) (seen : ℕ) → 2 ≤ seen → has_empty_line false (drop (seen - 2) bytes) ≡ false → HasNoSection (take seen bytes) → HasNoSection bytes
 no_trailer bytes seen two shut none fields last rest reads =
     let text = print_section fields last in
-    let here : length text ≤ seen → ⊥ = λ few. none fields last (take (seen - length text) rest) (reads.0, in_seen text rest bytes seen reads.1 few) in
-    elim (trailer_end fields last) [
-      | inl small ↦ here (omega (arith, small, two))
-      | inr ends ↦ elim (cases_lt seen (length text)) [
-        | inl more ↦ true≢false (sym (empty_behind text rest bytes seen ends reads.1 more) ∙ shut)
-        | inr few ↦ here few
-      ]
-    ]
+    none fields last _ (
+      reads.0,
+      in_seen text rest bytes seen reads.1 (λ more. elim (trailer_end fields last) [
+        | inl small ↦ omega (arith, small, two, more)
+        | inr ends ↦ true≢false (sym (empty_behind text rest bytes seen ends reads.1 more) ∙ shut)
+      ]),
+    )
 
 pub none_behind : (p : Part) (bytes : List ℕ) (seen : ℕ) → 2 ≤ seen → has_end p (drop (seen - 2) bytes) ≡ false → HasNo p (take seen bytes) → HasNo p bytes
 none_behind part.RequestHead bytes seen two shut none = no_request bytes seen shut none

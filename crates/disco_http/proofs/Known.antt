@@ -1,28 +1,12 @@
 -- What reads do to known bytes, one after another.
-use Rattle.std.proofs.Common.{ℕ, List, [], ◌++◌, Option, Some, None, append_assoc, sym, ◌∙◌, ap, refl, subst, IfSome}
+use Rattle.std.proofs.Common.{ℕ, List, ◌++◌, Option, Some, None, append_assoc, sym, ◌∙◌, ap, refl, subst, IfSome}
 use Rattle.std.specs.Io.KnownBytes.{Keeps, Consumes, prepend_known}
-
-pub Keeps-same : (a : Option (List ℕ)) → Keeps a a
-Keeps-same None = tt
-Keeps-same (Some xs) = refl
-
-pub Keeps-then : (a b c : Option (List ℕ)) → Keeps a b → Keeps b c → Keeps a c
-Keeps-then None b c h k = tt
-Keeps-then (Some xs) (Some ys) (Some zs) h k = k ∙ h
-Keeps-then (Some xs) None c h k = elim h [ ]
-Keeps-then (Some xs) (Some ys) None h k = elim k [ ]
 
 -- what holds of what is ahead holds of what was ahead
 pub kept_for : (a b : Option (List ℕ)) (P : List ℕ → Type 0) → Keeps a b → IfSome b P → IfSome a P
 kept_for None b P h p = tt
 kept_for (Some xs) (Some ys) P h p = subst P h p
 kept_for (Some xs) None P h p = elim h [ ]
-
-pub Consumes-kept : (a b c : Option (List ℕ)) (xs : List ℕ) → Keeps a b → Consumes b c xs → Consumes a c xs
-Consumes-kept None b c xs h k = tt
-Consumes-kept (Some x) (Some y) (Some z) xs h k = sym h ∙ k
-Consumes-kept (Some x) None c xs h k = elim h [ ]
-Consumes-kept (Some x) (Some y) None xs h k = elim k [ ]
 
 -- a read moves bytes from what the source gives to what is unread, and leaves what is ahead
 pub ahead-kept : (front more : List ℕ) (a b : Option (List ℕ)) → Consumes a b more → Keeps (prepend_known front a) (prepend_known (front ++ more) b)
@@ -39,16 +23,6 @@ ahead-same front (Some x) (Some y) h = ap (λ ys. front ++ ys) h
 pub ahead-taken : (front rest : List ℕ) (a : Option (List ℕ)) → Consumes (prepend_known (front ++ rest) a) (prepend_known rest a) front
 ahead-taken front rest None = tt
 ahead-taken front rest (Some x) = append_assoc front rest x
-
-pub Consumes-then : (a b c : Option (List ℕ)) (xs ys : List ℕ) → Consumes a b xs → Consumes b c ys → Consumes a c (xs ++ ys)
-Consumes-then None b c xs ys h k = tt
-Consumes-then (Some x) None c xs ys h k = elim h [ ]
-Consumes-then (Some x) (Some y) None xs ys h k = elim k [ ]
-Consumes-then (Some x) (Some y) (Some z) xs ys h k = h ∙ ap (λ zs. xs ++ zs) k ∙ sym (append_assoc xs ys z)
-
-pub Consumes-none : (a : Option (List ℕ)) → Consumes a a []
-Consumes-none None = tt
-Consumes-none (Some x) = refl
 
 pub ahead-all : (front : List ℕ) (a : Option (List ℕ)) → Consumes (prepend_known front a) a front
 ahead-all front None = tt

@@ -1,8 +1,7 @@
 pub mod AnsweredRequests
-pub mod Appended
 pub mod BrokenWrites
-pub mod Chunking
-pub mod Coming
+pub mod CameBefore
+pub mod ChunkSteps
 pub mod EmptyLines
 pub mod Heads
 pub mod Known

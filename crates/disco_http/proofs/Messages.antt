@@ -1,5 +1,6 @@
--- A head that is refused is a message that is, a request or a reply.
-use Rattle.std.proofs.Common.{◌≡◌, ℕ, List, [], Option, Some, None, Result, Ok, Err, IsOk, ◌⊎◌, sym, IfSome, inl, inr, refl, subst, arith}
+-- A message whose head or body is refused, a request or a reply.
+use Rattle.std.proofs.Common.{◌≡◌, ℕ, List, [], Option, Some, None, Result, Ok, Err, IsOk, ◌++◌, ◌⊎◌, sym, ap, drop, IfSome, inl, inr, refl, subst, arith}
+use Rattle.std.specs.Io.KnownBytes.{Keeps, prepend_known}
 use Rattle.disco_values.specs.declared.fault.Fault.{Fault}
 use Rattle.disco_values.specs.declared.fault.Fault.TheVariants.{OutOfMemory}
 use Rattle.disco_message.specs.declared.framing.Framing.{Framing}
@@ -8,9 +9,9 @@ use Rattle.disco_message.specs.declared.limits.Limits.{Limits}
 use Rattle.disco_message.specs.declared.received.Extent.{Extent}
 use Rattle.disco_message.specs.declared.received.Extent.TheVariants.{Framed, UntilEnd}
 use Rattle.disco_http.specs.Bodies.{BodyRefused}
-use Rattle.disco_http.specs.Found.{IsRead, IsNotRead}
+use Rattle.disco_http.specs.Found.{IsRead}
 use Rattle.disco_http.specs.Replies.{ExtentRefused}
-use Rattle.disco_http.proofs.Chunking.{known_is}
+use Rattle.disco_http.proofs.ChunkSteps.{known_is}
 
 -- without memory any body is refused
 pub no_memory : (limits : Limits) (framing : Framing) (after : List ℕ) → BodyRefused limits framing OutOfMemory after
@@ -21,38 +22,52 @@ pub no_room : (limits : Limits) (extent : Extent) (after : List ℕ) → ExtentR
 no_room limits (Framed framing) after = no_memory limits framing after
 no_room limits UntilEnd after = tt
 
-module _ {H S : Type 0} (say : H → Result S Fault) (begins : List ℕ → H → List ℕ → Type 0) (none : Fault → List ℕ → Type 0) (body : S → Fault → List ℕ → Type 0) where
-  abbrev Behind : Fault → H → List ℕ → Type 0
-  Behind fault h after = (say h ≡ Err fault) ⊎ ((says : S) × (say h ≡ Ok says) × body says fault after)
+module _ {H S : Type 0} (say : H → Result S Fault) (begins : List ℕ → H → List ℕ → Type 0) where
+  -- what a head says was told, but for want of memory
+  abbrev Told : Result S Fault → H → Type 0
+  Told r h = (r ≡ say h) ⊎ ((r ≡ Err OutOfMemory) × IsOk (say h))
 
-  -- why the stream begins with no message
-  abbrev pub IsNone : Fault → List ℕ → Type 0
-  IsNone fault stream = none fault stream ⊎ ((h : H) × (after : List ℕ) × begins stream h after × Behind fault h after)
+  -- a head stands at the front of what is unread, whatever follows that
+  abbrev Stands : List ℕ → ℕ → H → Type 0
+  Stands u len h = (more : List ℕ) → begins (u ++ more) h (drop len u ++ more)
 
-  -- the body behind a head that may be read on is refused
-  pub refused_body : (fault : Fault) (first mid : Option (List ℕ)) (says : S) → IfSome first (λ stream. IsRead say begins stream says mid) → IfSome mid (body says fault) → IfSome first (IsNone fault)
-  refused_body fault None mid says found refused = tt
-  refused_body fault (Some stream) mid says found refused =
-      inr (found.0, found.1, found.2, inr (says, found.3, known_is mid found.1 (body says fault) found.4 refused))
+  said : (says : S) (h : H) → Told (Ok says) h → say h ≡ Ok says
+  said says h (inl e) = sym e
+  said says h (inr e) = absurd (cc (e.0))
 
-  module _ (no_memory : (says : S) (after : List ℕ) → body says OutOfMemory after) where
-    readable : (h : H) (after : List ℕ) (r : Result S Fault) → say h ≡ r → IsOk r → Behind OutOfMemory h after
-    readable h after (Ok says) e ok = inr (says, e, no_memory says after)
-    readable h after (Err fault) e ok = inr (absurd (cc ok))
+  -- a head that was found in the buffer stands in the stream, and what is left is what is ahead now
+  pub head_read : (first a : Option (List ℕ)) (u now : List ℕ) (len : ℕ) (h : H) (says : S) → Stands u len h → Told (Ok says) h → Keeps first (prepend_known u a) → now ≡ drop len u → IfSome first (λ stream. IsRead say begins stream says (prepend_known now a))
+  head_read None a u now len h says stands told k is = tt
+  head_read (Some stream) None u now len h says stands told k is = elim k [ ]
+  head_read (Some stream) (Some more) u now len h says stands told k is =
+      (h, drop len u ++ more, subst (λ (s : List ℕ). begins s h (drop len u ++ more)) k (stands more), said says h told, ap (λ (v : List ℕ). Some (v ++ more)) is)
 
-    refused : (fault : Fault) (stream : List ℕ) → IsNotRead say begins none fault stream → IsNone fault stream
-    refused fault stream (inl part) = inl part
-    refused fault stream (inr x) =
-        inr (
-          x.0,
-          x.1,
-          x.2,
-          elim x.3 [
-            | inl e ↦ inl e
-            | inr m ↦ subst (λ (f : Fault). Behind f x.0 x.1) (sym m.0) (readable x.0 x.1 (say x.0) refl m.1)
-          ],
-        )
+  module _ (none : Fault → List ℕ → Type 0) (body : S → Fault → List ℕ → Type 0) where
+    abbrev Behind : Fault → H → List ℕ → Type 0
+    Behind fault h after = (say h ≡ Err fault) ⊎ ((says : S) × (say h ≡ Ok says) × body says fault after)
 
-    pub refused_head : (fault : Fault) (first : Option (List ℕ)) → IfSome first (IsNotRead say begins none fault) → IfSome first (IsNone fault)
-    refused_head fault None h = tt
-    refused_head fault (Some stream) h = refused fault stream h
+    -- why the stream begins with no message
+    abbrev pub IsNone : Fault → List ℕ → Type 0
+    IsNone fault stream = none fault stream ⊎ ((h : H) × (after : List ℕ) × begins stream h after × Behind fault h after)
+
+    -- the body behind a head that may be read on is refused
+    pub refused_body : (fault : Fault) (first mid : Option (List ℕ)) (says : S) → IfSome first (λ stream. IsRead say begins stream says mid) → IfSome mid (body says fault) → IfSome first (IsNone fault)
+    refused_body fault None mid says found refused = tt
+    refused_body fault (Some stream) mid says found refused =
+        inr (found.0, found.1, found.2, inr (says, found.3, known_is mid found.1 (body says fault) found.4 refused))
+
+    module _ (no_memory : (says : S) (after : List ℕ) → body says OutOfMemory after) where
+      readable : (h : H) (after : List ℕ) (r : Result S Fault) → say h ≡ r → IsOk r → Behind OutOfMemory h after
+      readable h after (Ok says) e ok = inr (says, e, no_memory says after)
+      readable h after (Err fault) e ok = inr (absurd (cc ok))
+
+      behind : (fault : Fault) (h : H) (after : List ℕ) → Told (Err fault) h → Behind fault h after
+      behind fault h after (inl e) = inl (sym e)
+      behind fault h after (inr e) = subst (λ (f : Fault). Behind f h after) (sym (cc (e.0))) (readable h after (say h) refl e.1)
+
+      -- a head that was found is refused
+      pub head_refused : (fault : Fault) (first a : Option (List ℕ)) (u : List ℕ) (len : ℕ) (h : H) → Stands u len h → Told (Err fault) h → Keeps first (prepend_known u a) → IfSome first (IsNone fault)
+      head_refused fault None a u len h stands told k = tt
+      head_refused fault (Some stream) None u len h stands told k = elim k [ ]
+      head_refused fault (Some stream) (Some more) u len h stands told k =
+          inr (h, drop len u ++ more, subst (λ (s : List ℕ). begins s h (drop len u ++ more)) k (stands more), behind fault h (drop len u ++ more) told)

@@ -4,8 +4,8 @@ use Rattle.std.specs.Io.KnownBytes.{Keeps, IsAtEnd, prepend_known}
 use Rattle.disco_values.specs.declared.fault.Fault.{Fault}
 use Rattle.disco_values.specs.declared.fault.Fault.TheVariants.{HeadTooLarge, BadRequest, ReadFailed}
 use Rattle.disco_message.specs.declared.limits.Limits.{Limits}
-use Rattle.disco_http.specs.declared.parsing.Part.{Part}
-use Rattle.disco_http.specs.declared.parsing.Part.TheVariants.{RequestHead, ReplyHead, SizeLine, Trailer}
+use Rattle.disco_http.specs.declared.parts.Part.{Part}
+use Rattle.disco_http.specs.declared.parts.Part.TheVariants.{RequestHead, ReplyHead, SizeLine, Trailer}
 use Rattle.disco_http.specs.Parts.{HasNo, BytesRefused, SomeFront, FrontRefused, EndsInside, PartRefused}
 
 pub bytes_front : (limits : Limits) (part : Part) (fault : Fault) (bytes : List ℕ) → BytesRefused limits.fields part fault bytes → FrontRefused limits part fault bytes

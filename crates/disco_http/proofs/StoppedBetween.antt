@@ -1,5 +1,6 @@
 -- A connection that stops before a request.
 use Rattle.std.proofs.Common.{◌≡◌, ◌≢◌, ℕ, Bool, true, List, [], ◌∷◌, Option, Some, None, IfSome, IsTrue, inl, refl, subst, sym}
+use Rattle.std.proofs.KnownBytes.{Appends-nil}
 use Rattle.disco_values.specs.declared.fault.Fault.TheVariants.{ReadFailed, WriteFailed}
 use Rattle.disco_values.specs.declared.fault.Fault as fault
 use Rattle.disco_message.specs.declared.limits.Limits.{Limits}
@@ -12,7 +13,6 @@ use Rattle.disco_http.specs.declared.session.Step.{Step}
 use Rattle.disco_http.specs.declared.session.Step.TheVariants.{Goes, Last, Stops}
 use Rattle.disco_http.specs.Exchanges.{Exchanged, RefusesRequest}
 use Rattle.disco_http.specs.Served.{Left, EndsStream, Written, end_texts, ends_by_reply, refused}
-use Rattle.disco_http.proofs.Appended.{Appends-none}
 use Rattle.disco_http.proofs.BrokenWrites.{written_one}
 
 other : Fault ReadFailed ≢ Fault WriteFailed
@@ -22,7 +22,7 @@ other e = cc e
 pub read_failed : {S : Type 0} (answers : S → message.RequestView → ReplyView → S → Type 0) (limits : Limits) (first : Option (List ℕ)) (left : Left) (old : S) (before : Option (List ℕ)) (last : Bool)
     → IfSome first (λ stream. Came (HasNone limits) stream left.source) → IfSome first (λ stream. Exchanged answers limits stream left old old before before last (Stops (Fault ReadFailed)))
 read_failed answers limits None left old before last came = tt
-read_failed answers limits (Some stream) left old before last came = (Fault ReadFailed, refl, came, inl (refl, other, Appends-none before))
+read_failed answers limits (Some stream) left old before last came = (Fault ReadFailed, refl, came, inl (refl, other, Appends-nil before))
 
 ends_refused : (limits : Limits) (stream : List ℕ) (left : Left) (f : fault.Fault) → f ≢ ReadFailed → f ≢ WriteFailed → Refused limits f stream → EndsStream limits stream left (Fault f)
 ends_refused limits stream left ReadFailed read wrote h = absurd (read refl)

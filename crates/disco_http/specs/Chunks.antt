@@ -6,7 +6,7 @@ use Rattle.httparse.specs.Grammar.{ChunkLine, chunk_size, print_chunk_line, Read
 use Rattle.disco_values.specs.declared.fault.Fault.{Fault}
 use Rattle.disco_values.specs.declared.fault.Fault.TheVariants.{OutOfMemory, HeadTooLarge, BodyTooLarge, BadRequest, ReadFailed}
 use Rattle.disco_message.specs.declared.limits.Limits.{Limits}
-use Rattle.disco_http.specs.declared.parsing.Part.TheVariants as part
+use Rattle.disco_http.specs.declared.parts.Part.TheVariants as part
 use Rattle.disco_http.specs.Parts.{PartRefused}
 
 -- a chunk's line of this size stands there, and the rest follows it; extensions are ignored

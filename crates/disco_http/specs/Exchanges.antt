@@ -8,12 +8,12 @@ use Rattle.disco_message.specs.declared.limits.Limits.{Limits}
 use Rattle.disco_message.specs.RequestView as message
 use Rattle.disco_message.specs.ReplyText.{ReplyView, reply_text}
 use Rattle.disco_http.specs.Requests.{TakesRequest}
+use Rattle.disco_http.specs.Writes.{AppendsProperFront}
 use Rattle.disco_http.specs.declared.session.End.{End}
 use Rattle.disco_http.specs.declared.session.End.TheVariants.{Fault}
 use Rattle.disco_http.specs.declared.session.Step.{Step}
 use Rattle.disco_http.specs.declared.session.Step.TheVariants.{Goes, Last, Stops}
 use Rattle.disco_http.specs.Served.{Left, end_behind, is_last, end_texts, EndsStream, Requests, Chain, refused, Written}
-use Rattle.disco_http.specs.Sinks.{AppendsProperFront}
 
 -- the step ends the connection by this fault
 abbrev pub EndsByFault : fault.Fault → Step → Type 0

@@ -1,5 +1,5 @@
 -- Only what code keeps: nothing here is to be believed.
-use Rattle.std.specs.Prelude.{◌≡◌, ℕ, ◌≤◌, ⊤, ◌⊎◌, IsOk, Bool, true, false, ◌==◌, ◌&&◌, ◌||◌, ◌++◌, List, [], ◌∷◌, length, drop, Option, Some, None}
+use Rattle.std.specs.Prelude.{◌≡◌, ℕ, ◌≤◌, ⊤, Bool, true, false, ◌==◌, ◌&&◌, ◌||◌, ◌++◌, List, [], ◌∷◌, length, drop, Option, Some, None}
 use Rattle.std.specs.Prelude.{Result, Ok, Err}
 use Rattle.std.specs.List.{concat, list_any}
 use Rattle.httparse.specs.Ascii.{carriage_return, line_feed}
@@ -7,10 +7,10 @@ use Rattle.httparse.specs.Grammar.{ChunkLine, Field, LineEnd, print_section, Rea
 use Rattle.httparse.specs.Spans.{IsRequestWithin, IsRequestOf, IsResponseWithin, IsResponseOf, IsChunkLineAt}
 use Rattle.httparse.specs.declared.spans.HeaderSpan.{HeaderSpan}
 use Rattle.disco_values.specs.declared.fault.Fault.{Fault}
-use Rattle.disco_http.specs.declared.parsing.Found.{Found}
-use Rattle.disco_http.specs.declared.parsing.Found.TheVariants as found
-use Rattle.disco_http.specs.declared.parsing.Part.{Part}
-use Rattle.disco_http.specs.declared.parsing.Part.TheVariants as part
+use Rattle.disco_http.specs.declared.parts.Found.{Found}
+use Rattle.disco_http.specs.declared.parts.Found.TheVariants as found
+use Rattle.disco_http.specs.declared.parts.Part.{Part}
+use Rattle.disco_http.specs.declared.parts.Part.TheVariants as part
 use Rattle.disco_values.specs.declared.fault.Fault.TheVariants.{OutOfMemory, HeadTooLarge, BadRequest, ReadFailed}
 use Rattle.disco_message.specs.declared.limits.Limits.{Limits}
 use Rattle.disco_message.specs.declared.framing.Framing.{Framing}
@@ -104,21 +104,10 @@ HasNoExtent limits UntilEnd bytes = ⊤
 abbrev pub IsRead : {H S : Type 0} → (H → Result S Fault) → (List ℕ → H → List ℕ → Type 0) → List ℕ → S → Option (List ℕ) → Type 0
 IsRead {H} say begins stream says left = (h : H) × (after : List ℕ) × begins stream h after × (say h ≡ Ok says) × (left ≡ Some after)
 
--- why no head is read that may be read on: none stands there, or one that is refused, or there was no memory
-abbrev pub IsNotRead : {H S : Type 0} → (H → Result S Fault) → (List ℕ → H → List ℕ → Type 0) → (Fault → List ℕ → Type 0) → Fault → List ℕ → Type 0
-IsNotRead {H} say begins none fault stream = none fault stream
-    ⊎ ((h : H) × (after : List ℕ) × begins stream h after × ((say h ≡ Err fault) ⊎ ((fault ≡ OutOfMemory) × IsOk (say h))))
-
 -- the same of the head of a request
 abbrev pub HeadRead : Limits → List ℕ → Heading → Option (List ℕ) → Type 0
 HeadRead limits stream says left = IsRead heading (BeginsWithHead limits) stream says left
 
-abbrev pub HeadRefused : Limits → Fault → List ℕ → Type 0
-HeadRefused limits fault stream = IsNotRead heading (BeginsWithHead limits) (PartRefused limits part.RequestHead) fault stream
-
 -- and of the head of a reply
 abbrev pub ReplyRead : Limits → List ℕ → Received → Option (List ℕ) → Type 0
 ReplyRead limits stream says left = IsRead received (BeginsReply limits) stream says left
-
-abbrev pub ReplyHeadRefused : Limits → Fault → List ℕ → Type 0
-ReplyHeadRefused limits fault stream = IsNotRead received (BeginsReply limits) (PartRefused limits part.ReplyHead) fault stream

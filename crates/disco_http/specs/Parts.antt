@@ -6,8 +6,8 @@ use Rattle.httparse.specs.Spans.{RequestExceeds, ResponseExceeds, SectionExceeds
 use Rattle.disco_values.specs.declared.fault.Fault.{Fault}
 use Rattle.disco_values.specs.declared.fault.Fault.TheVariants.{HeadTooLarge, BadRequest, ReadFailed}
 use Rattle.disco_message.specs.declared.limits.Limits.{Limits}
-use Rattle.disco_http.specs.declared.parsing.Part.{Part}
-use Rattle.disco_http.specs.declared.parsing.Part.TheVariants.{RequestHead, ReplyHead, SizeLine, Trailer}
+use Rattle.disco_http.specs.declared.parts.Part.{Part}
+use Rattle.disco_http.specs.declared.parts.Part.TheVariants.{RequestHead, ReplyHead, SizeLine, Trailer}
 
 -- no first bytes are such a part
 abbrev pub HasNo : Part → List ℕ → Type 0

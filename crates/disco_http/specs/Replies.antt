@@ -7,7 +7,7 @@ use Rattle.disco_message.specs.declared.limits.Limits.{Limits}
 use Rattle.disco_message.specs.declared.received.Extent.{Extent}
 use Rattle.disco_message.specs.declared.received.Extent.TheVariants.{Framed, UntilEnd}
 use Rattle.disco_message.specs.Received.{Received, received}
-use Rattle.disco_http.specs.declared.parsing.Part.TheVariants as part
+use Rattle.disco_http.specs.declared.parts.Part.TheVariants as part
 use Rattle.disco_http.specs.Parts.{PartRefused}
 use Rattle.disco_http.specs.Bodies.{ReadsBody, BodyRefused}
 

@@ -5,7 +5,7 @@ use Rattle.disco_values.specs.declared.fault.Fault.{Fault}
 use Rattle.disco_message.specs.declared.limits.Limits.{Limits}
 use Rattle.disco_message.specs.Heading.{Heading, heading}
 use Rattle.disco_message.specs.RequestView.{RequestView, request_view}
-use Rattle.disco_http.specs.declared.parsing.Part.TheVariants as part
+use Rattle.disco_http.specs.declared.parts.Part.TheVariants as part
 use Rattle.disco_http.specs.Parts.{PartRefused}
 use Rattle.disco_http.specs.Bodies.{ReadsBody, BodyRefused}
 

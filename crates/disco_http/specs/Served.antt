@@ -11,10 +11,10 @@ use Rattle.disco_message.specs.StatusLine.{refusal}
 use Rattle.disco_http.specs.Requests.{HasNone, TakesRequest, Refused}
 use Rattle.disco_http.specs.Streams.{Came, ahead, source_of}
 use Rattle.disco_http.specs.declared.reader.Reader.{Reader}
+use Rattle.disco_http.specs.Writes.{AppendsProperFront}
 use Rattle.disco_http.specs.declared.session.End.{End}
 use Rattle.disco_http.specs.declared.session.End.TheVariants.{Closed, Asked, Limit, Fault}
 use Rattle.disco_http.specs.declared.session.Served.{Served}
-use Rattle.disco_http.specs.Sinks.{AppendsProperFront}
 
 -- how a connection ends behind a request, if it does
 abbrev pub end_behind : Bool → Bool → Option End

@@ -6,7 +6,7 @@ ghost use Rattle.disco_values.specs.declared.fault.Fault.TheVariants.{ReadFailed
 ghost use Rattle.disco_message.specs.declared.framing.Framing.TheVariants.{Chunked};
 ghost use Rattle.disco_http.specs.Causes.{Cause, is_of_reply};
 
-use crate::parsing::{Found, Part};
+use crate::parts::{Found, Part};
 use crate::reader::Reader;
 use crate::source::Source;
 use disco_values::Fault;
@@ -25,7 +25,7 @@ impl<R: Source> Reader<R> {
     ghost use Rattle.disco_http.specs.Found.{HasNoChunks, SizeRefused, DataRefused, TrailerRefused, Turn};
     ghost use Rattle.disco_http.specs.Parts.{HasNo};
     ghost use Rattle.disco_http.specs.Streams.{ahead, Came};
-    ghost use Rattle.disco_http.specs.declared.parsing.Part.TheVariants.{SizeLine, Trailer};
+    ghost use Rattle.disco_http.specs.declared.parts.Part.TheVariants.{SizeLine, Trailer};
 
     /// Goes past the line in front of a chunk, and answers the chunk's size.
     fn read_size(&mut self) -> Result<u64, Fault>

@@ -2,28 +2,26 @@
 //! requests, and the replies are written. Whole inputs are read and whole texts written too.
 #![tactic(auto)]
 
+mod ahead;
 mod chunks;
 mod fill;
-mod parsing;
+mod parts;
 mod reader;
-mod reading;
+mod received;
 mod replies;
-mod replying;
+mod requests;
 mod service;
 mod session;
 mod source;
-mod taking;
 mod whole;
 mod writer;
-mod writing;
 
 pub use disco_message::Limits;
 pub use reader::Reader;
-pub use replies::ReceivedReply;
-pub use replying::write_reply;
+pub use received::ReceivedReply;
+pub use replies::write_reply;
 pub use service::Service;
 pub use session::{End, Served, serve};
 pub use source::{Counted, Failed, Sink, Source, Stage};
-pub use whole::read_all;
+pub use whole::{read_all, write_all};
 pub use writer::Writer;
-pub use writing::write_all;

@@ -1,175 +1,88 @@
-//! Replies that are read, as a client does.
-ghost use Rattle.std.specs.Prelude.{◌≡◌, ◌≤◌, ◌⊎◌, ◌+◌, ◌++◌, ◌<◌, ℕ, List, length, vec_len, IfOk, IfErr, IfSome, IsErrOf, IsFalse, IsTrue, is_err};
-ghost use Rattle.std.specs.Prelude.{Some, OnOk, drop};
-ghost use Rattle.std.specs.Io.KnownBytes.{Consumes, prepend_known};
-ghost use Rattle.httparse.specs.Spans.{IsResponseOf, IsResponseWithin};
-ghost use Rattle.disco_values.specs.declared.fault.Fault.TheVariants.{BadRequest, BodyTooLarge, ReadFailed, OutOfMemory};
-ghost use Rattle.disco_message.specs.declared.received.Extent.TheVariants.{UntilEnd};
-ghost use Rattle.disco_http.specs.Causes.{Cause, is_of_reply};
+//! Replies that are written, without memory.
+ghost use Rattle.std.specs.Prelude.{◌≡◌, is_err, IfErr, IsFalse, OnOk, OnErr, length, option_map};
+ghost use Rattle.std.specs.Io.KnownBytes.{Appends};
+ghost use Rattle.disco_values.specs.declared.fault.Fault.TheVariants.{WriteFailed};
+ghost use Rattle.disco_message.specs.ReplyText.{reply_view, reply_text, reply_body};
+ghost use Rattle.disco_http.specs.Causes.{Raises};
+ghost use Rattle.disco_http.specs.Writes.{AppendsProperFront, WritesBytes};
+ghost use Rattle.disco_http.specs.Sinks.{is_writer_spent, sink_of};
 
-use crate::parsing::{Found, Part};
-use crate::reader::Reader;
-use crate::source::Source;
-use disco_message::{Extent, ReceivedHead};
+use crate::source::{Failed, Sink};
+use crate::whole::write_all;
+use crate::writer::{SMALL_BODY, Writer};
+use disco_message::{Document, Reply, StatusLine};
 use disco_values::Fault;
-use httparse::spans::ResponseSpans;
-use std::alloc::{AllocError, Global};
 
-/// A reply that was received.
-#[derive(Debug, Drop)]
-pub struct ReceivedReply {
-    pub head: ReceivedHead,
-    pub body: Vec<u8>,
-}
-
-impl<R: Source> Reader<R> {
-    ghost use Rattle.disco_http.specs.Found.{HasNoExtent, ReplyRead, ReplyHeadRefused};
-    ghost use Rattle.disco_http.specs.Parts.{HasNo};
-    ghost use Rattle.disco_http.specs.Replies.{ReadsExtent, ExtentRefused};
-    ghost use Rattle.disco_http.specs.Streams.{ahead, unread, Came};
-    ghost use Rattle.disco_http.specs.declared.parsing.Part.TheVariants as part;
-
-    /// What the head that was found says.
-    fn copy_reply_head(&self, alloc: Global, line: &ResponseSpans) -> Result<ReceivedHead, Fault>
-        requires within { IsResponseWithin (unread self.now) self.now.spans.items line.now }
-        requires found { IsResponseOf (unread self.now) self.now.spans.items line.now }
-        ensures fault { IfErr result (λ fault. (fault ≡ BadRequest) ⊎ (fault ≡ OutOfMemory)) }
-        ensures head { IfOk result (λ says. IfSome (ahead R.remaining self.now) (λ stream.
-            ReplyRead self.now.limits stream says (prepend_known (drop line.now.len (unread self.now)) (R.remaining self.now.source)))) }
-        ensures refused { IfErr result (λ fault. IfSome (ahead R.remaining self.now) (ReplyHeadRefused self.now.limits fault)) }
-    {
-        ReceivedHead::new(alloc, self.unread(), &self.spans, line)
+/// The bytes of the document, but for a reply without content.
+fn body_of<D: Document>(reply: &Reply<D>) -> &[u8]
+    ensures { result.now ≡ reply_body reply.now.status (option_map D.content reply.now.document) }
+{
+    if matches!(reply.status, StatusLine::NoContent) {
+        return b"";
     }
-
-    /// Reads the head of a reply.
-    fn read_reply_head(&mut self, alloc: Global) -> Result<ReceivedHead, Fault>
-        ensures head { IfOk result (λ says. IfSome (ahead R.remaining self.old) (λ stream.
-            ReplyRead self.old.limits stream says (ahead R.remaining self.new))) }
-        ensures refused { IfErr result (λ fault. IfSome (ahead R.remaining self.old) (ReplyHeadRefused self.old.limits fault)) }
-        ensures broken { IsErrOf result ReadFailed → IfSome (ahead R.remaining self.old) (λ stream.
-            Came (HasNo part.ReplyHead) stream (R.remaining self.new.source)) }
-        ensures limits { self.new.limits ≡ self.old.limits }
-        ensures fault { IfErr result (λ fault. IsTrue (is_of_reply fault)) }
-        ensures cause { Cause ReadFailed (R.failed self.old.source) (R.failed self.new.source) result }
-        ensures none_failed { OnOk result (R.failed self.new.source ≡ R.failed self.old.source) }
-    {
-        match self.find(Part::ReplyHead)? {
-            Some(Found::ReplyHead(line)) => {
-                let head = self.copy_reply_head(alloc, &line)?;
-                self.consume(line.len);
-                Ok(head)
-            }
-            _ => Err(Fault::BadRequest),
-        }
-    }
-
-    /// Appends what was read to a body, unless it grows past the limit.
-    fn append_all(&mut self, body: &mut Vec<u8>) -> Result<(), Fault>
-        requires { vec_len body.old ≤ self.old.limits.body }
-        ensures taken { OnOk result (Consumes (ahead R.remaining self.old) (ahead R.remaining self.new) (unread self.old)) }
-        ensures body { OnOk result (body.new.items ≡ body.old.items ++ unread self.old) }
-        ensures empty { OnOk result (self.new.start ≡ self.new.end) }
-        ensures fits { OnOk result (vec_len body.new ≤ self.old.limits.body) }
-        ensures refused { IfErr result (λ fault. (fault ≡ OutOfMemory)
-            ⊎ ((fault ≡ BodyTooLarge) × (self.old.limits.body < vec_len body.old + length (unread self.old)))) }
-        ensures source { self.new.source ≡ self.old.source }
-        ensures limits { self.new.limits ≡ self.old.limits }
-    {
-        let count = self.end - self.start;
-        if count as u64 > self.limits.body - body.len() as u64 {
-            return Err(Fault::BodyTooLarge);
-        }
-        match self.append_unread(body, count) {
-            Ok(()) => Ok(()),
-            Err(AllocError) => Err(Fault::OutOfMemory),
-        }
-    }
-
-    /// Reads a body up to the end of the input.
-    fn read_to_end(&mut self, alloc: Global) -> Result<Vec<u8>, Fault>
-        ensures body { IfOk result (λ body. IfSome (ahead R.remaining self.old) (λ after.
-            (rest : List ℕ) × ReadsExtent self.old.limits UntilEnd after body.items rest × (ahead R.remaining self.new ≡ Some rest))) }
-        ensures refused { IfErr result (λ fault. IfSome (ahead R.remaining self.old) (ExtentRefused self.old.limits UntilEnd fault)) }
-        ensures broken { IsErrOf result ReadFailed → IfSome (ahead R.remaining self.old) (λ after.
-            Came (HasNoExtent self.old.limits UntilEnd) after (R.remaining self.new.source)) }
-        ensures limits { self.new.limits ≡ self.old.limits }
-        ensures fault { IfErr result (λ fault. IsTrue (is_of_reply fault)) }
-        ensures cause { Cause ReadFailed (R.failed self.old.source) (R.failed self.new.source) result }
-        ensures none_failed { OnOk result (R.failed self.new.source ≡ R.failed self.old.source) }
-    {
-        let mut body = Vec::new(alloc);
-        self.append_all(&mut body)?;
-        while self.more()? {
-            self.append_all(&mut body)?;
-        }
-        Ok(body)
-    }
-
-    /// Reads the body of a reply.
-    fn read_extent(&mut self, alloc: Global, extent: Extent) -> Result<Vec<u8>, Fault>
-        ensures body { IfOk result (λ body. IfSome (ahead R.remaining self.old) (λ after.
-            (rest : List ℕ) × ReadsExtent self.old.limits extent after body.items rest × (ahead R.remaining self.new ≡ Some rest))) }
-        ensures refused { IfErr result (λ fault. IfSome (ahead R.remaining self.old) (ExtentRefused self.old.limits extent fault)) }
-        ensures broken { IsErrOf result ReadFailed → IfSome (ahead R.remaining self.old) (λ after.
-            Came (HasNoExtent self.old.limits extent) after (R.remaining self.new.source)) }
-        ensures limits { self.new.limits ≡ self.old.limits }
-        ensures fault { IfErr result (λ fault. IsTrue (is_of_reply fault)) }
-        ensures cause { Cause ReadFailed (R.failed self.old.source) (R.failed self.new.source) result }
-        ensures none_failed { OnOk result (R.failed self.new.source ≡ R.failed self.old.source) }
-    {
-        match extent {
-            Extent::Framed(framing) => self.read_body(Vec::new(alloc), framing),
-            Extent::UntilEnd => self.read_to_end(alloc),
-        }
+    match &reply.document {
+        Some(document) => document.bytes(),
+        None => b"",
     }
 }
 
-impl<R: Source> Reader<R> {
-    ghost use Rattle.disco_http.specs.Replies.{HasNoReply, TakesReply, ReplyRefused};
-    ghost use Rattle.disco_http.specs.Streams.{ahead, reader_limits, source_of, is_spent, Came};
-
-    /// Reads a reply, refused or not.
-    fn try_reply(&mut self, alloc: Global) -> Result<ReceivedReply, Fault>
-        ensures reply { IfOk result (λ reply. IfSome (ahead R.remaining self.old) (λ stream.
-            (rest : List ℕ) × TakesReply self.old.limits stream reply.head reply.body.items rest × (ahead R.remaining self.new ≡ Some rest))) }
-        ensures refused { IfErr result (λ fault. IfSome (ahead R.remaining self.old) (ReplyRefused self.old.limits fault)) }
-        ensures broken { IsErrOf result ReadFailed → IfSome (ahead R.remaining self.old) (λ stream.
-            Came (HasNoReply self.old.limits) stream (R.remaining self.new.source)) }
-        ensures limits { self.new.limits ≡ self.old.limits }
-        ensures fault { IfErr result (λ fault. IsTrue (is_of_reply fault)) }
-        ensures cause { Cause ReadFailed (R.failed self.old.source) (R.failed self.new.source) result }
-        ensures none_failed { OnOk result (R.failed self.new.source ≡ R.failed self.old.source) }
-    {
-        let head = self.read_reply_head(alloc)?;
-        let body = self.read_extent(alloc, head.extent())?;
-        Ok(ReceivedReply { head, body })
+/// The number of bytes of the document, if there is one.
+fn size_of<D: Document>(reply: &Reply<D>) -> Option<u64>
+    ensures { result ≡ option_map length (option_map D.content reply.now.document) }
+{
+    match &reply.document {
+        Some(document) => Some(document.bytes().len() as u64),
+        None => None,
     }
+}
 
-    /// Reads a reply, its body by length, in chunks or, with neither, up to the end of the input.
-    ///
-    /// # Errors
-    ///
-    /// `BadRequest` (also at an end before its head), `HeadTooLarge`, `BodyTooLarge`, `OutOfMemory`
-    /// or `ReadFailed`. Then the reader is spent.
-    pub fn read_reply(&mut self, alloc: Global) -> Result<ReceivedReply, Fault>
-        requires { IsFalse (is_spent self.old) }
-        // What is read is the reply at the front of the stream, and the rest stays ahead.
-        ensures reply { IfOk result (λ reply. IfSome (ahead R.remaining self.old) (λ stream.
-            (rest : List ℕ) × TakesReply (reader_limits self.old) stream reply.head reply.body.items rest × (ahead R.remaining self.new ≡ Some rest))) }
-        // A refusal has its cause in the stream.
-        ensures refused { IfErr result (λ fault. IfSome (ahead R.remaining self.old) (ReplyRefused (reader_limits self.old) fault)) }
-        // After a failed read what had come holds no whole reply, but for one without an end of its own.
-        ensures broken { IsErrOf result ReadFailed → IfSome (ahead R.remaining self.old) (λ stream.
-            Came (HasNoReply (reader_limits self.old)) stream (R.remaining (source_of self.new))) }
-        ensures limits { reader_limits self.new ≡ reader_limits self.old }
-        ensures fault { IfErr result (λ fault. IsTrue (is_of_reply fault)) }
-        // A failed read has raised the count of failures.
-        ensures cause { Cause ReadFailed (R.failed (source_of self.old)) (R.failed (source_of self.new)) result }
-        ensures none_failed { OnOk result (R.failed (source_of self.new) ≡ R.failed (source_of self.old)) }
-        ensures spent { is_spent self.new ≡ is_err result }
-    {
-        let result = self.try_reply(alloc);
-        self.spent = result.is_err();
-        result
+/// Writes a reply in one write where its body is small, else in two, the body from the document
+/// itself.
+fn send_reply<W: Sink, D: Document>(
+    writer: &mut Writer<W>,
+    reply: &Reply<D>,
+    last: bool,
+) -> Result<(), Failed>
+    ensures written { WritesBytes (W.contents (sink_of writer.old)) (W.contents (sink_of writer.new)) (W.failed (sink_of writer.old))
+        (W.failed (sink_of writer.new)) result (reply_text (reply_view D.content reply.now) last) }
+    ensures spent { is_writer_spent writer.new ≡ is_writer_spent writer.old }
+{
+    let body = body_of(reply);
+    writer.put_head(reply.status, reply.allow, size_of(reply), reply.cert, last);
+    if body.len() <= SMALL_BODY {
+        writer.put_body(body);
+        writer.send()?;
+        return Ok(());
+    }
+    writer.send()?;
+    write_all(&mut writer.sink, body)
+}
+
+/// Writes a reply; `last` says that the connection ends behind it. Takes no memory.
+///
+/// # Errors
+///
+/// `WriteFailed` alone. Then a front of the reply was written, and the writer is spent.
+pub fn write_reply<W: Sink, D: Document>(
+    writer: &mut Writer<W>,
+    reply: &Reply<D>,
+    last: bool,
+) -> Result<(), Fault>
+    requires { IsFalse (is_writer_spent writer.old) }
+    ensures written { OnOk result (Appends (W.contents (sink_of writer.old)) (W.contents (sink_of writer.new))
+        (reply_text (reply_view D.content reply.now) last)) }
+    ensures front { OnErr result (AppendsProperFront (W.contents (sink_of writer.old)) (W.contents (sink_of writer.new))
+        (reply_text (reply_view D.content reply.now) last)) }
+    ensures fault { IfErr result (λ fault. fault ≡ WriteFailed) }
+    ensures cause { OnErr result (Raises (W.failed (sink_of writer.old)) (W.failed (sink_of writer.new))) }
+    ensures none_failed { OnOk result (W.failed (sink_of writer.new) ≡ W.failed (sink_of writer.old)) }
+    ensures spent { is_writer_spent writer.new ≡ is_err result }
+{
+    match send_reply(writer, reply, last) {
+        Ok(()) => Ok(()),
+        Err(Failed) => {
+            writer.spend();
+            Err(Fault::WriteFailed)
+        }
     }
 }

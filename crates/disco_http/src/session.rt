@@ -9,7 +9,7 @@ ghost use Rattle.disco_http.specs.Sinks.{sink_of};
 ghost use Rattle.disco_http.specs.Sinks as sinks;
 
 use crate::reader::Reader;
-use crate::replying::write_reply;
+use crate::replies::write_reply;
 use crate::service::Service;
 use crate::source::{Sink, Source};
 use crate::writer::Writer;

@@ -1,10 +1,11 @@
-//! Whole inputs that are read.
+//! Whole inputs that are read from a source, and whole texts that are written to a sink.
 ghost use Rattle.std.specs.Prelude.{◌≡◌, ◌++◌, ◌<◌, ◌^◌, ◌⊎◌, ℕ, List, IfOk, IfErr, IfSome, IsFalse, IsTrue, OnOk, length, vec_len};
 ghost use Rattle.std.specs.Io.KnownBytes.{Consumes, IsAtEnd};
 ghost use Rattle.disco_values.specs.declared.fault.Fault.TheVariants.{OutOfMemory, ReadFailed};
 ghost use Rattle.disco_http.specs.Causes.{Cause};
+ghost use Rattle.disco_http.specs.Writes.{WritesBytes};
 
-use crate::source::{Failed, Source};
+use crate::source::{Failed, Sink, Source};
 use disco_values::Fault;
 use std::alloc::Global;
 
@@ -53,4 +54,20 @@ pub fn read_all<R: Source>(alloc: Global, source: &mut R) -> Result<Vec<u8>, Fau
     let mut bytes = Vec::new(alloc);
     while read_more(source, &mut piece, &mut bytes)? {}
     Ok(bytes)
+}
+
+/// Writes all of these bytes, in as many writes as it takes.
+///
+/// # Errors
+///
+/// `Failed` where a write fails. Then a front of the bytes was written.
+pub fn write_all<W: Sink>(sink: &mut W, bytes: &[u8]) -> Result<(), Failed>
+    ensures { WritesBytes (W.contents sink.old) (W.contents sink.new) (W.failed sink.old) (W.failed sink.new) result bytes.now }
+{
+    let mut at = 0;
+    while at < bytes.len() {
+        let count = sink.write(&bytes[at..])?;
+        at += count;
+    }
+    Ok(())
 }

@@ -3,8 +3,8 @@ ghost use Rattle.std.specs.Prelude.{◌≤◌, ◌+◌, vec_len};
 ghost use Rattle.std.specs.Vec.{vec_capacity};
 ghost use Rattle.disco_values.specs.declared.fault.Fault.TheVariants.{WriteFailed};
 
-use crate::replying::write_all;
 use crate::source::{Failed, Sink};
+use crate::whole::write_all;
 use disco_message::{Allow, HEAD_ROOM, StatusLine, push_bytes, push_head};
 use disco_values::{Cert, Fault};
 use std::alloc::{AllocError, Global};
@@ -66,7 +66,8 @@ impl<W: Sink> Writer<W> {
     ghost use Rattle.std.specs.Io.KnownBytes.{Appends};
     ghost use Rattle.disco_message.specs.ReplyText.{reply_head};
     ghost use Rattle.disco_http.specs.Causes.{Raises};
-    ghost use Rattle.disco_http.specs.Sinks.{AppendsProperFront, is_writer_spent, sink_of};
+    ghost use Rattle.disco_http.specs.Writes.{AppendsProperFront, WritesBytes};
+    ghost use Rattle.disco_http.specs.Sinks.{is_writer_spent, sink_of};
 
     /// Whether a write failed, or the connection has ended. Then nothing more is written.
     pub fn is_spent(&self) -> bool
@@ -114,10 +115,8 @@ impl<W: Sink> Writer<W> {
 
     /// Writes what is in the room.
     pub(crate) fn send(&mut self) -> Result<(), Failed>
-        ensures written { OnOk result (Appends (W.contents self.old.sink) (W.contents self.new.sink) self.old.room.items) }
-        ensures front { OnErr result (AppendsProperFront (W.contents self.old.sink) (W.contents self.new.sink) self.old.room.items) }
-        ensures cause { OnErr result (Raises (W.failed self.old.sink) (W.failed self.new.sink)) }
-        ensures none_failed { OnOk result (W.failed self.new.sink ≡ W.failed self.old.sink) }
+        ensures written { WritesBytes (W.contents self.old.sink) (W.contents self.new.sink) (W.failed self.old.sink) (W.failed self.new.sink) result
+            self.old.room.items }
         ensures spent { self.new.spent ≡ self.old.spent }
     {
         write_all(&mut self.sink, &self.room)

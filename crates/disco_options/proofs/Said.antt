@@ -2,7 +2,7 @@
 use Rattle.std.proofs.Common.{◌≡◌, ◌⊎◌, inl, inr, ◌-◌, ◌^◌, ◌<◌, ℕ, List, [], Option, Some, None, append-nil, arith, subst, sym}
 use Rattle.std.specs.Io.KnownBytes.{Appends}
 use Rattle.disco_http.specs.Causes.{Raises}
-use Rattle.disco_http.specs.Writes.{AppendsFront}
+use Rattle.disco_http.specs.Writes.{AppendsProperFront}
 use Rattle.disco_values.specs.declared.fault.Fault.{Fault}
 use Rattle.disco_options.specs.Faults.{Says, SaysAny, report_line}
 
@@ -24,4 +24,4 @@ pub says_behind : (fault : Fault) (first : List ℕ) (a b c : Option (List ℕ))
 says_behind fault first None b c i j k most h up says = (fault, first, inl tt)
 says_behind fault first (Some x) None c i j k most h up says = elim h [ ]
 says_behind fault first (Some x) (Some y) c i j k most h up (inl whole) = (fault, first, inl (subst (λ ys. Appends (Some ys) c (report_line fault)) h whole))
-says_behind fault first (Some x) (Some y) c i j k most h up (inr (front, raised)) = (fault, first, inr (subst (λ ys. AppendsFront (Some ys) c (report_line fault)) h front, raised_then i j k most up raised))
+says_behind fault first (Some x) (Some y) c i j k most h up (inr (front, raised)) = (fault, first, inr (subst (λ ys. AppendsProperFront (Some ys) c (report_line fault)) h front, raised_then i j k most up raised))

@@ -7,7 +7,7 @@ use Rattle.clap.specs.Words.{IsAmong, Kinds}
 use Rattle.clap.specs.declared.error.kind.ErrorKind.{ErrorKind}
 use Rattle.clap.specs.declared.error.kind.ErrorKind.TheVariants as kind
 use Rattle.disco_http.specs.Causes.{Raises}
-use Rattle.disco_http.specs.Writes.{AppendsFront}
+use Rattle.disco_http.specs.Writes.{AppendsProperFront}
 use Rattle.disco_values.specs.Fault.{fault_number}
 use Rattle.disco_values.specs.declared.fault.Fault.{Fault}
 use Rattle.disco_values.specs.declared.fault.Fault.TheVariants.{BadEvent}
@@ -19,7 +19,7 @@ report_line fault = codes "discovery: fault " ++ decimal (fault_number fault) ++
 
 -- the line of a fault is written, or a front of it, where a write failed; the numbers count failures before and after
 abbrev pub Says : Fault → Option (List ℕ) → Option (List ℕ) → ℕ → ℕ → Type 0
-Says fault old new before now = Appends old new (report_line fault) ⊎ (AppendsFront old new (report_line fault) × Raises before now)
+Says fault old new before now = Appends old new (report_line fault) ⊎ (AppendsProperFront old new (report_line fault) × Raises before now)
 
 -- what was written ends with the line of some fault, or with a front of it, where a write failed
 abbrev pub SaysAny : Option (List ℕ) → Option (List ℕ) → ℕ → ℕ → Type 0

@@ -2,7 +2,7 @@ use Rattle.std.proofs.Common.{◌≡◌, ◌+◌, ◌-◌, ◌∙◌, rules, ari
 use Rattle.std.specs.Io.KnownBytes.{Consumes}
 use Rattle.httparse.specs.Ascii.{crlf_bytes}
 use Rattle.disco_http.specs.Streams.{ahead}
-use Rattle.disco_http.proofs.Chunking.{chunk_bytes, lacks, not_behind}
+use Rattle.disco_http.proofs.ChunkSteps.{chunk_bytes, lacks, not_behind}
 use Rattle.disco_http.proofs.reader.Reader.append_chunk.Goals as goal
 
 pub returns-clause-chunk : goal.returns-clause-chunk

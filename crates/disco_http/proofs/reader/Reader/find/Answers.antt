@@ -1,9 +1,10 @@
 use Rattle.std.proofs.Common.{◌≡◌, ◌∙◌, ◌<◌, ◌-◌, rules, sym, inl, inr}
 use Rattle.std.proofs.lemmas.Result.{err_from_is_err_and}
+use Rattle.std.proofs.KnownBytes.{Keeps-trans}
 use Rattle.disco_values.specs.declared.fault.Fault.TheVariants.{HeadTooLarge}
 use Rattle.disco_http.specs.Parts.{HasNo}
 use Rattle.disco_http.specs.Streams.{unread, ahead}
-use Rattle.disco_http.proofs.Known.{Keeps-then}
+use Rattle.disco_http.proofs.CameBefore.{came}
 use Rattle.disco_http.proofs.Slices.{part_some, unread_fits, unread_len}
 use Rattle.disco_http.proofs.Refusals.{bytes_front, front_refused, failed, end_refused}
 use Rattle.disco_http.proofs.reader.Reader.find.Goals as goal
@@ -42,8 +43,14 @@ returns-then-not-branch-clause-refused g c =
     let len = unread_len now in
     rw (sym c.loop-found.invariant.1)
     (end_refused self.limits c.args.part (ahead g.R.Source.remaining c.args.self.now) (unread now) (g.R.Source.remaining now.source)
-    (Keeps-then _ _ _ (Keeps-then _ _ _ c.loop-found.invariant.0 c.parse.ensures.ahead) c.more_for.ensures.ahead)
+    (Keeps-trans _ _ _ (Keeps-trans _ _ _ c.loop-found.invariant.0 c.parse.ensures.ahead) c.more_for.ensures.ahead)
     (search rules)
     (part_some now.buffer.items now.start now.end now.ordered (search rules) (search rules))
     (let small : now.end - now.start < self.limits.head = search rules in rw len small)
     (rw same none))
+
+pub returns-in_err-more_for-clause-broken : goal.returns-in_err-more_for-clause-broken
+returns-in_err-more_for-clause-broken g c failed =
+    let now = c.more_for.new.self in
+    came (HasNo c.args.part) (ahead g.R.Source.remaining c.args.self.now) (unread now) (g.R.Source.remaining now.source)
+    (Keeps-trans _ _ _ (Keeps-trans _ _ _ c.loop-found.invariant.0 c.parse.ensures.ahead) c.more_for.ensures.ahead) (c.more_for.ensures.broken (search rules))

@@ -1,7 +1,7 @@
 use Rattle.disco_message.specs.declared.framing.Framing.TheVariants.{Chunked}
 use Rattle.disco_http.specs.Found.{HasNoBody, HasNoChunks}
 use Rattle.disco_http.specs.Streams.{ahead}
-use Rattle.disco_http.proofs.Coming.{came_so, no_chunked}
+use Rattle.disco_http.proofs.CameBefore.{came_so, no_chunked}
 use Rattle.disco_http.proofs.reader.Reader.read_body.Goals as goal
 
 pub returns-in-Chunked-clause-broken : goal.returns-in-Chunked-clause-broken

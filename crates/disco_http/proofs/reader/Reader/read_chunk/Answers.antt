@@ -4,8 +4,8 @@ use Rattle.std.proofs.lemmas.Result.{err_from_is_err_and}
 use Rattle.disco_http.specs.Chunks.{HasSize}
 use Rattle.disco_http.specs.Found.{DataRefused, HasNoChunks}
 use Rattle.disco_http.specs.Streams.{ahead, Came}
-use Rattle.disco_http.proofs.Chunking.{refused_data}
-use Rattle.disco_http.proofs.Coming.{came_so, no_data_came, no_line_came}
+use Rattle.disco_http.proofs.ChunkSteps.{refused_data}
+use Rattle.disco_http.proofs.CameBefore.{came_so, no_data_came, no_line_came}
 use Rattle.disco_http.proofs.reader.Reader.read_chunk.Goals as goal
 
 pub returns-in_err-append_chunk-clause-refused : goal.returns-in_err-append_chunk-clause-refused

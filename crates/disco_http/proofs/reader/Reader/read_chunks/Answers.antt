@@ -4,8 +4,8 @@ use Rattle.std.proofs.lemmas.Result.{err_from_is_err_and}
 use Rattle.disco_http.specs.Found.{HasNoChunks, Turn, TrailerRefused}
 use Rattle.disco_http.specs.Streams.{ahead, Came}
 use Rattle.httparse.specs.Grammar.{HasNoSection}
-use Rattle.disco_http.proofs.Coming.{behind_chunks, no_trailer_came}
-use Rattle.disco_http.proofs.Chunking.{one_more, refused_next, refused_trailer}
+use Rattle.disco_http.proofs.CameBefore.{behind_chunks, no_trailer_came}
+use Rattle.disco_http.proofs.ChunkSteps.{one_more, refused_next, refused_trailer}
 use Rattle.disco_http.proofs.reader.Reader.read_chunks.Goals as goal
 
 pub loop-body-preserved : goal.loop-body-preserved

@@ -1,35 +1,36 @@
-use Rattle.std.proofs.Common.{◌≡◌, rules, drop, sym}
+use Rattle.std.proofs.Common.{◌≡◌, rules, sym}
 use Rattle.std.proofs.lemmas.Result.{err_from_is_err_and}
+use Rattle.httparse.specs.Spans.{IsResponseOf, IsResponseWithin}
 use Rattle.disco_message.specs.Received.{received}
-use Rattle.disco_http.specs.Replies.{BeginsReply}
-use Rattle.disco_http.specs.Found.{ReplyHeadRefused}
-use Rattle.disco_http.specs.Parts.{HasNo}
+use Rattle.disco_http.specs.Replies.{BeginsReply, ExtentRefused}
+use Rattle.disco_http.specs.Parts.{PartRefused}
 use Rattle.disco_http.specs.Streams.{unread, ahead}
-use Rattle.disco_http.specs.declared.parsing.Part.TheVariants as part
-use Rattle.disco_http.proofs.Coming.{came}
-use Rattle.disco_http.proofs.Heads.{read_on}
-use Rattle.disco_http.proofs.Known.{kept_for}
+use Rattle.disco_http.specs.declared.parts.Part.TheVariants as part
+use Rattle.disco_http.proofs.Heads.{reply_here}
+use Rattle.disco_http.proofs.Messages.{head_read, head_refused, no_room}
+use Rattle.disco_http.proofs.Slices.{unread_fits}
 use Rattle.disco_http.proofs.reader.Reader.read_reply_head.Goals as goal
 
 pub returns-in_ok-head-in-Some-ReplyHead-clause-head : goal.returns-in_ok-head-in-Some-ReplyHead-clause-head
 returns-in_ok-head-in-Some-ReplyHead-clause-head g c =
     let self = c.find.new.self in
-    let first = c.args.self.now in
-    let limits : self.limits ≡ first.limits = search rules in
+    let line = c.in-Some-ReplyHead.line in
+    let limits : self.limits ≡ c.args.self.now.limits = search rules in
     let source : c.consume.new.self.source ≡ self.source = search rules in
-    rw (sym limits, source) (read_on (λ h. received h) (BeginsReply self.limits) (ahead g.R.Source.remaining first) (ahead g.R.Source.remaining self) (drop c.in-Some-ReplyHead.line.len (unread self)) (unread c.consume.new.self) (g.R.Source.remaining self.source) c.in_ok-head-in-Some-ReplyHead.head
-    (search rules) (search rules) c.in_ok-head-in-Some-ReplyHead.ensures.head)
+    let within : IsResponseWithin (unread self) self.spans.items line = search rules in
+    let found : IsResponseOf (unread self) self.spans.items line = search rules in
+    let here = reply_here self.limits (unread self) self.spans.items line found.0 (unread_fits self) (search rules) within.section.len_fits found.1 in
+    rw (sym limits, source) (head_read (λ h. received h) (BeginsReply self.limits) (ahead g.R.Source.remaining c.args.self.now) (g.R.Source.remaining self.source) (unread self) (unread c.consume.new.self) line.len found.0 c.in_ok-head-in-Some-ReplyHead.head
+    here (c.in_ok-head-in-Some-ReplyHead.ensures.says found.0 (search rules)) (search rules) (search rules))
 
 pub returns-in_err-head-in-Some-ReplyHead-clause-refused : goal.returns-in_err-head-in-Some-ReplyHead-clause-refused
 returns-in_err-head-in-Some-ReplyHead-clause-refused g c =
     let p = err_from_is_err_and c.from_residual-in_err-head-in-Some-ReplyHead.result c.from_residual-in_err-head-in-Some-ReplyHead.ensures.1 in
     let self = c.find.new.self in
-    let first = c.args.self.now in
-    let limits : self.limits ≡ first.limits = search rules in
-    rw (p.1, p.2, sym limits) (kept_for (ahead g.R.Source.remaining first) (ahead g.R.Source.remaining self) (ReplyHeadRefused self.limits c.in_err-head-in-Some-ReplyHead.field-0.0) (search rules) c.in_err-head-in-Some-ReplyHead.ensures.refused)
-
-pub returns-in_err-line-clause-broken : goal.returns-in_err-line-clause-broken
-returns-in_err-line-clause-broken g c failed =
-    let now = c.find.new.self in
-    let none : HasNo part.ReplyHead (unread now) = search rules in
-    came (HasNo part.ReplyHead) (ahead g.R.Source.remaining c.args.self.now) (unread now) (g.R.Source.remaining now.source) (search rules) none
+    let line = c.in-Some-ReplyHead.line in
+    let limits : self.limits ≡ c.args.self.now.limits = search rules in
+    let within : IsResponseWithin (unread self) self.spans.items line = search rules in
+    let found : IsResponseOf (unread self) self.spans.items line = search rules in
+    let here = reply_here self.limits (unread self) self.spans.items line found.0 (unread_fits self) (search rules) within.section.len_fits found.1 in
+    rw (p.1, p.2, sym limits) (head_refused (λ h. received h) (BeginsReply self.limits) (PartRefused self.limits part.ReplyHead) (λ says. ExtentRefused self.limits says.extent) (λ says. no_room self.limits says.extent) c.in_err-head-in-Some-ReplyHead.field-0.0
+    (ahead g.R.Source.remaining c.args.self.now) (g.R.Source.remaining self.source) (unread self) line.len found.0 here (c.in_err-head-in-Some-ReplyHead.ensures.says found.0 (search rules)) (search rules))

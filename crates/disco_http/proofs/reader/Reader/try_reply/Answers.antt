@@ -1,22 +1,14 @@
 use Rattle.std.proofs.Common.{rules, IfSome}
 use Rattle.std.proofs.lemmas.Result.{err_from_is_err_and}
 use Rattle.disco_message.specs.Received.{received}
-use Rattle.disco_http.specs.declared.parsing.Part.TheVariants as part
-use Rattle.disco_http.specs.Found.{HasNoExtent, ReplyRead, ReplyHeadRefused}
+use Rattle.disco_http.specs.declared.parts.Part.TheVariants as part
+use Rattle.disco_http.specs.Found.{HasNoExtent, ReplyRead}
 use Rattle.disco_http.specs.Replies.{BeginsReply, ExtentRefused}
 use Rattle.disco_http.specs.Parts.{PartRefused}
 use Rattle.disco_http.specs.Streams.{ahead, Came}
-use Rattle.disco_http.proofs.Coming.{no_extent_came}
-use Rattle.disco_http.proofs.Messages.{refused_head, refused_body, no_room}
+use Rattle.disco_http.proofs.CameBefore.{no_extent_came}
+use Rattle.disco_http.proofs.Messages.{refused_body}
 use Rattle.disco_http.proofs.reader.Reader.try_reply.Goals as goal
-
-pub returns-in_err-head-clause-refused : goal.returns-in_err-head-clause-refused
-returns-in_err-head-clause-refused g c =
-    let p = err_from_is_err_and c.from_residual.result c.from_residual.ensures.1 in
-    let limits = c.args.self.now.limits in
-    let fault = c.in_err-head.field-0.0 in
-    let refused : IfSome (ahead g.R.Source.remaining c.args.self.now) (ReplyHeadRefused limits fault) = search rules in
-    rw (p.1, p.2) (refused_head (λ h. received h) (BeginsReply limits) (PartRefused limits part.ReplyHead) (λ says. ExtentRefused limits says.extent) (λ says. no_room limits says.extent) fault (ahead g.R.Source.remaining c.args.self.now) refused)
 
 pub returns-in_err-body-clause-refused : goal.returns-in_err-body-clause-refused
 returns-in_err-body-clause-refused g c =

@@ -1,23 +1,15 @@
 use Rattle.std.proofs.Common.{rules, IfSome}
 use Rattle.std.proofs.lemmas.Result.{err_from_is_err_and}
 use Rattle.disco_message.specs.Heading.{heading}
-use Rattle.disco_http.specs.declared.parsing.Part.TheVariants as part
-use Rattle.disco_http.specs.Found.{HasNoBody, HeadRead, HeadRefused}
+use Rattle.disco_http.specs.declared.parts.Part.TheVariants as part
+use Rattle.disco_http.specs.Found.{HasNoBody, HeadRead}
 use Rattle.disco_http.specs.Bodies.{BodyRefused}
 use Rattle.disco_http.specs.Requests.{BeginsWithHead}
 use Rattle.disco_http.specs.Parts.{PartRefused}
 use Rattle.disco_http.specs.Streams.{ahead, Came}
-use Rattle.disco_http.proofs.Coming.{no_body_came}
-use Rattle.disco_http.proofs.Messages.{refused_head, refused_body, no_memory}
+use Rattle.disco_http.proofs.CameBefore.{no_body_came}
+use Rattle.disco_http.proofs.Messages.{refused_body}
 use Rattle.disco_http.proofs.reader.Reader.try_request.Goals as goal
-
-pub returns-in_err-head-clause-refused : goal.returns-in_err-head-clause-refused
-returns-in_err-head-clause-refused g c =
-    let p = err_from_is_err_and c.from_residual.result c.from_residual.ensures.1 in
-    let limits = c.args.self.now.limits in
-    let fault = c.in_err-head.field-0.0 in
-    let refused : IfSome (ahead g.R.Source.remaining c.args.self.now) (HeadRefused limits fault) = search rules in
-    rw (p.1, p.2) (refused_head (λ h. heading h) (BeginsWithHead limits) (PartRefused limits part.RequestHead) (λ says. BodyRefused limits says.framing) (λ says. no_memory limits says.framing) fault (ahead g.R.Source.remaining c.args.self.now) refused)
 
 pub returns-in_err-body-clause-refused : goal.returns-in_err-body-clause-refused
 returns-in_err-body-clause-refused g c =

@@ -6,7 +6,7 @@ ghost use Rattle.disco_values.specs.declared.fault.Fault.TheVariants.{BadRequest
 ghost use Rattle.disco_message.specs.declared.framing.Framing.TheVariants.{Sized};
 ghost use Rattle.disco_http.specs.Causes.{Cause, is_of_reply, is_of_request};
 
-use crate::parsing::{Found, Part};
+use crate::parts::{Found, Part};
 use crate::reader::Reader;
 use crate::source::{Source, Stage};
 use disco_message::{Framing, Head, HeadRoom, Request};
@@ -17,29 +17,18 @@ use std::mem;
 
 impl<R: Source> Reader<R> {
     ghost use Rattle.disco_http.specs.Bodies.{ReadsBody, BodyRefused};
-    ghost use Rattle.disco_http.specs.Found.{HasNoBody, HeadRead, HeadRefused};
+    ghost use Rattle.disco_http.specs.Found.{HasNoBody, HeadRead};
     ghost use Rattle.disco_http.specs.Parts.{HasNo};
+    ghost use Rattle.disco_http.specs.Requests.{Refused};
     ghost use Rattle.disco_http.specs.Streams.{ahead, unread, Came};
-    ghost use Rattle.disco_http.specs.declared.parsing.Part.TheVariants as part;
-
-    /// What the head that was found says.
-    fn copy_head(&self, room: HeadRoom, line: &RequestSpans) -> Result<Head, Fault>
-        requires within { IsRequestWithin (unread self.now) self.now.spans.items line.now }
-        requires found { IsRequestOf (unread self.now) self.now.spans.items line.now }
-        ensures fault { IfErr result (λ fault. (fault ≡ BadRequest) ⊎ ((fault ≡ UnsupportedCoding) ⊎ (fault ≡ OutOfMemory))) }
-        ensures head { IfOk result (λ says. IfSome (ahead R.remaining self.now) (λ stream.
-            HeadRead self.now.limits stream says (prepend_known (drop line.now.len (unread self.now)) (R.remaining self.now.source)))) }
-        ensures refused { IfErr result (λ fault. IfSome (ahead R.remaining self.now) (HeadRefused self.now.limits fault)) }
-    {
-        Head::new(room, self.unread(), &self.spans, line)
-    }
+    ghost use Rattle.disco_http.specs.declared.parts.Part.TheVariants as part;
 
     /// Reads a head. None at the end of the input.
     fn read_head(&mut self, alloc: Global) -> Result<Option<Head>, Fault>
         ensures head { IfOk result (λ found. IfSome found (λ says.
             IfSome (ahead R.remaining self.old) (λ stream. HeadRead self.old.limits stream says (ahead R.remaining self.new)))) }
         ensures none { IfOk result (λ found. IfNone found (IfSome (ahead R.remaining self.old) (λ stream. stream ≡ []))) }
-        ensures refused { IfErr result (λ fault. IfSome (ahead R.remaining self.old) (HeadRefused self.old.limits fault)) }
+        ensures refused { IfErr result (λ fault. IfSome (ahead R.remaining self.old) (Refused self.old.limits fault)) }
         ensures broken { IsErrOf result ReadFailed → IfSome (ahead R.remaining self.old) (λ stream.
             Came (HasNo part.RequestHead) stream (R.remaining self.new.source)) }
         ensures limits { self.new.limits ≡ self.old.limits }
@@ -50,7 +39,7 @@ impl<R: Source> Reader<R> {
         match self.find(Part::RequestHead)? {
             Some(Found::RequestHead(line)) => {
                 let room = mem::replace(&mut self.head, HeadRoom::new(alloc));
-                let head = self.copy_head(room, &line)?;
+                let head = Head::new(room, &self.buffer[self.start..self.end], &self.spans, &line)?;
                 self.consume(line.len);
                 Ok(Some(head))
             }

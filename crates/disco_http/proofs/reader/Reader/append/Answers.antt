@@ -1,16 +1,16 @@
 use Rattle.std.proofs.Common.{IfSome, ◌<◌, length-append, ◌≡◌, ◌+◌, ◌-◌, ◌≤◌, rules, arith, drop, take, length, ◌++◌, []}
 use Rattle.std.specs.Io.KnownBytes.{Consumes}
 use Rattle.disco_http.specs.Streams.{Came, ahead, unread}
-use Rattle.disco_http.proofs.Coming.{came_past}
+use Rattle.disco_http.proofs.CameBefore.{came_past}
 use Rattle.disco_http.proofs.Slices.{unread_len}
 use Rattle.disco_http.proofs.Taken.{body_parts, piece_size, taken_past}
-use Rattle.disco_http.proofs.reader.Reader.append_past.Goals as goal
+use Rattle.disco_http.proofs.reader.Reader.append.Goals as goal
 
-pub returns-in_ok-fill_behind-in-Ok-clause-taken : goal.returns-in_ok-fill_behind-in-Ok-clause-taken
-returns-in_ok-fill_behind-in-Ok-clause-taken g c =
+pub returns-then-ready-size-clause-taken : goal.returns-then-ready-size-clause-taken
+returns-then-ready-size-clause-taken g c =
     let self = c.args.self.now in
     let u = unread self in
-    let from = c.in-Ok.from in
+    let from = c.in_ok-from.from in
     let mid = c.drain.new.body in
     let body = c.fill_behind.new.body in
     let len = unread_len self in
@@ -27,8 +27,8 @@ returns-in_ok-fill_behind-in-Ok-clause-taken g c =
       taken_past u (unread c.drain.new.self) (drop from body.items) (g.R.Source.remaining self.source) (g.R.Source.remaining c.fill_behind.new.source) empty read,
     )
 
-pub returns-in_err-fill_behind-in-Ok-clause-broken : goal.returns-in_err-fill_behind-in-Ok-clause-broken
-returns-in_err-fill_behind-in-Ok-clause-broken g c failed =
+pub returns-in_err-fill_behind-clause-broken : goal.returns-in_err-fill_behind-clause-broken
+returns-in_err-fill_behind-clause-broken g c failed =
     let self = c.args.self.now in
     let u = unread self in
     let missing = c.args.size - (self.end - self.start) in

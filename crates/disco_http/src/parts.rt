@@ -3,7 +3,6 @@ ghost use Rattle.std.specs.Prelude.{◌≡◌, ◌==◌, ◌&&◌, ◌||◌, ◌
 ghost use Rattle.disco_http.specs.Causes.{is_of_reply};
 ghost use Rattle.disco_http.specs.Found.{Looked, has_empty_line, has_end};
 ghost use Rattle.disco_http.specs.Parts.{HasNo};
-ghost use Rattle.disco_http.specs.declared.parsing.Part.TheVariants.{RequestHead, ReplyHead, SizeLine, Trailer};
 
 use disco_values::Fault;
 use httparse::spans::{
@@ -98,60 +97,28 @@ pub(crate) fn parse_at(
     ensures fault { IfErr result (λ fault. IsTrue (is_of_reply fault)) }
 {
     match part {
-        Part::RequestHead => parse_head(bytes, spans),
-        Part::ReplyHead => parse_reply_head(bytes, spans),
-        Part::SizeLine => parse_size_line(bytes, spans),
-        Part::Trailer => parse_trailer(bytes, spans),
-    }
-}
-
-fn parse_head(bytes: &[u8], spans: &mut [HeaderSpan]) -> Result<Option<Found>, Fault>
-    ensures looked { Looked (length spans.old) RequestHead bytes.now spans.new result }
-    ensures length { length spans.new ≡ length spans.old }
-    ensures fault { IfErr result (λ fault. IsTrue (is_of_reply fault)) }
-{
-    match parse_request(bytes, spans) {
-        Ok(Status::Complete(head)) => Ok(Some(Found::RequestHead(head))),
-        Ok(Status::Partial) => Ok(None),
-        Err(Error::TooManyHeaders) => Err(Fault::HeadTooLarge),
-        Err(_) => Err(Fault::BadRequest),
-    }
-}
-
-fn parse_reply_head(bytes: &[u8], spans: &mut [HeaderSpan]) -> Result<Option<Found>, Fault>
-    ensures looked { Looked (length spans.old) ReplyHead bytes.now spans.new result }
-    ensures length { length spans.new ≡ length spans.old }
-    ensures fault { IfErr result (λ fault. IsTrue (is_of_reply fault)) }
-{
-    match parse_response(bytes, spans) {
-        Ok(Status::Complete(head)) => Ok(Some(Found::ReplyHead(head))),
-        Ok(Status::Partial) => Ok(None),
-        Err(Error::TooManyHeaders) => Err(Fault::HeadTooLarge),
-        Err(_) => Err(Fault::BadRequest),
-    }
-}
-
-fn parse_size_line(bytes: &[u8], spans: &mut [HeaderSpan]) -> Result<Option<Found>, Fault>
-    ensures looked { Looked (length spans.old) SizeLine bytes.now spans.new result }
-    ensures length { length spans.new ≡ length spans.old }
-    ensures fault { IfErr result (λ fault. IsTrue (is_of_reply fault)) }
-{
-    match parse_chunk_size(bytes) {
-        Ok(Status::Complete((len, size))) => Ok(Some(Found::SizeLine(len, size))),
-        Ok(Status::Partial) => Ok(None),
-        Err(_) => Err(Fault::BadRequest),
-    }
-}
-
-fn parse_trailer(bytes: &[u8], spans: &mut [HeaderSpan]) -> Result<Option<Found>, Fault>
-    ensures looked { Looked (length spans.old) Trailer bytes.now spans.new result }
-    ensures length { length spans.new ≡ length spans.old }
-    ensures fault { IfErr result (λ fault. IsTrue (is_of_reply fault)) }
-{
-    match parse_headers(bytes, spans) {
-        Ok(Status::Complete((len, _))) => Ok(Some(Found::Trailer(len))),
-        Ok(Status::Partial) => Ok(None),
-        Err(Error::TooManyHeaders) => Err(Fault::HeadTooLarge),
-        Err(_) => Err(Fault::BadRequest),
+        Part::RequestHead => match parse_request(bytes, spans) {
+            Ok(Status::Complete(head)) => Ok(Some(Found::RequestHead(head))),
+            Ok(Status::Partial) => Ok(None),
+            Err(Error::TooManyHeaders) => Err(Fault::HeadTooLarge),
+            Err(_) => Err(Fault::BadRequest),
+        },
+        Part::ReplyHead => match parse_response(bytes, spans) {
+            Ok(Status::Complete(head)) => Ok(Some(Found::ReplyHead(head))),
+            Ok(Status::Partial) => Ok(None),
+            Err(Error::TooManyHeaders) => Err(Fault::HeadTooLarge),
+            Err(_) => Err(Fault::BadRequest),
+        },
+        Part::SizeLine => match parse_chunk_size(bytes) {
+            Ok(Status::Complete((len, size))) => Ok(Some(Found::SizeLine(len, size))),
+            Ok(Status::Partial) => Ok(None),
+            Err(_) => Err(Fault::BadRequest),
+        },
+        Part::Trailer => match parse_headers(bytes, spans) {
+            Ok(Status::Complete((len, _))) => Ok(Some(Found::Trailer(len))),
+            Ok(Status::Partial) => Ok(None),
+            Err(Error::TooManyHeaders) => Err(Fault::HeadTooLarge),
+            Err(_) => Err(Fault::BadRequest),
+        },
     }
 }

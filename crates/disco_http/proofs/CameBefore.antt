@@ -18,7 +18,7 @@ use Rattle.disco_http.specs.Found.{HasNoChunks, HasNoBody, HasNoExtent, HeadRead
 use Rattle.disco_http.specs.Replies.{HasNoReply, ReadsExtent}
 use Rattle.disco_http.specs.Requests.{HasNone}
 use Rattle.disco_http.specs.Streams.{Came}
-use Rattle.disco_http.proofs.Chunking.{known_is}
+use Rattle.disco_http.proofs.ChunkSteps.{known_is}
 
 module _ (IsSo : List ℕ → Type 0) where
   -- what is unread came

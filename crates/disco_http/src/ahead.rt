@@ -8,7 +8,7 @@ ghost use Rattle.disco_http.specs.Causes.{Cause, is_of_reply};
 ghost use Rattle.disco_http.specs.Streams.{Came};
 
 use crate::fill::fill_from;
-use crate::parsing::{Found, Part, may_have, parse_at};
+use crate::parts::{Found, Part, may_have, parse_at};
 use crate::reader::Reader;
 use crate::source::{Failed, Source};
 use disco_values::Fault;
@@ -70,7 +70,8 @@ impl<R: Source> Reader<R> {
         ensures found { IfOk result (λ found. IfSome found (IsFound self.new.limits.fields part (unread self.new) self.new.spans.items)) }
         ensures none { IfOk result (λ found. IfNone found (IfSome (ahead R.remaining self.old) (λ stream. (stream ≡ []) × HasNo part stream))) }
         ensures refused { IfErr result (λ fault. IfSome (ahead R.remaining self.old) (PartRefused self.old.limits part fault)) }
-        ensures broken { IsErrOf result ReadFailed → HasNo part (unread self.new) }
+        ensures broken { IsErrOf result ReadFailed → IfSome (ahead R.remaining self.old) (λ stream.
+            Came (HasNo part) stream (R.remaining self.new.source)) }
         ensures fault { IfErr result (λ fault. IsTrue (is_of_reply fault)) }
         ensures cause { Cause ReadFailed (R.failed self.old.source) (R.failed self.new.source) result }
         ensures none_failed { OnOk result (R.failed self.new.source ≡ R.failed self.old.source) }
@@ -175,35 +176,11 @@ impl<R: Source> Reader<R> {
     {
         let ready = self.end - self.start;
         if ready < size {
-            return self.append_past(body, size);
+            let from = self.drain(body, size - ready)?;
+            fill_behind(&mut self.source, body, from)?;
+            return Ok(());
         }
-        match self.append_unread(body, size) {
-            Ok(()) => Ok(()),
-            Err(AllocError) => Err(Fault::OutOfMemory),
-        }
-    }
-
-    /// Appends the next bytes, of which some are still to be read.
-    fn append_past(&mut self, body: &mut Vec<u8>, size: usize) -> Result<(), Fault>
-        requires more { self.old.end - self.old.start < size }
-        requires fits { vec_len body.old + size < 2 ^ 64 }
-        ensures taken { OnOk result ((piece : List ℕ) × (body.new.items ≡ body.old.items ++ piece) × (length piece ≡ size)
-            × Consumes (ahead R.remaining self.old) (ahead R.remaining self.new) piece) }
-        ensures refused { IfErr result (λ fault. IfSome (ahead R.remaining self.old) (EndsBefore size fault)) }
-        ensures broken { IsErrOf result ReadFailed → IfSome (ahead R.remaining self.old) (λ input.
-            Came (λ given. length given < size) input (R.remaining self.new.source)) }
-        ensures limits { self.new.limits ≡ self.old.limits }
-        ensures fault { IfErr result (λ fault. IsTrue (is_of_reply fault)) }
-        ensures cause { Cause ReadFailed (R.failed self.old.source) (R.failed self.new.source) result }
-        ensures none_failed { OnOk result (R.failed self.new.source ≡ R.failed self.old.source) }
-    {
-        let missing = size - (self.end - self.start);
-        match self.drain(body, missing) {
-            Ok(from) => {
-                fill_behind(&mut self.source, body, from)?;
-                Ok(())
-            }
-            Err(AllocError) => Err(Fault::OutOfMemory),
-        }
+        self.append_unread(body, size)?;
+        Ok(())
     }
 }

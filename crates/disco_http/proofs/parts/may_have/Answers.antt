@@ -2,7 +2,7 @@ use Rattle.std.proofs.Common.{◌≡◌, ◌≤◌, ◌-◌, ◌∙◌, ap, sym,
 use Rattle.std.proofs.lemmas.List.{take_rest}
 use Rattle.disco_http.specs.Found.{has_end}
 use Rattle.disco_http.proofs.EmptyLines.{none_behind}
-use Rattle.disco_http.proofs.parsing.may_have.Goals as goal
+use Rattle.disco_http.proofs.parts.may_have.Goals as goal
 
 pub returns : goal.returns
 returns c =
