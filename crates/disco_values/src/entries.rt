@@ -72,6 +72,14 @@ impl Entries {
         &self.entries
     }
 
+    /// Gives the `Vec` back, in byte order of the names. Takes no memory.
+    pub fn into_vec(self) -> Vec<(Text, Text)>
+        ensures { result.items ≡ self }
+    {
+        let Entries { entries } = self;
+        entries
+    }
+
     /// The names stand in byte order, each once, and `@class` isn't among them.
     pub fn ordered(&self)
         ensures { is_by_name self.now ≡ true }

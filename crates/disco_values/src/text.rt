@@ -129,6 +129,22 @@ impl Text {
         self.storage.as_str()
     }
 
+    /// Gives the `String` back. A text of at most 30 bytes lies in the value itself, so its `String`
+    /// takes memory.
+    ///
+    /// # Errors
+    ///
+    /// `AllocError` where memory is refused.
+    pub fn into_string(self, alloc: Global) -> Result<String, AllocError>
+        ensures { IfOk result (λ s. string_bytes s ≡ self) }
+    {
+        let Text { front: _, storage } = self;
+        match storage {
+            Storage::Inline(text) => String::from_str(alloc, text.as_str()),
+            Storage::Heap(text) => Ok(text),
+        }
+    }
+
     /// The same text with its ASCII letters in upper case, and all else as it is. One without any in
     /// lower case is moved.
     ///
