@@ -1,4 +1,3 @@
-mod FoundMembers
 pub mod Kept
 mod KeyLemmas
 pub mod Rows

@@ -1,11 +1,8 @@
-pub mod Found
 pub mod Instance
 pub mod Members
 pub mod Mention
 pub mod Metadata
 pub mod Moments
-pub mod Names
 pub mod Row
-pub mod Seen
 pub mod Since
 pub mod Steps

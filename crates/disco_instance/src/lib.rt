@@ -6,7 +6,6 @@
 
 mod data_center;
 mod details;
-mod found;
 mod from_value;
 mod known;
 mod lease;
@@ -21,9 +20,8 @@ mod shared_details;
 pub use data_center::DataCenter;
 pub use details::Details;
 pub use disco_values::{
-    Action, Bytes, Entries, Fault, Field, Form, Key, Status, Text, status_of, upper,
+    Action, Bytes, Cert, Entries, Fault, Field, Form, Key, Status, Text, status_of, upper,
 };
-pub use found::{Found, Member};
 pub use from_value::action_from_value;
 pub use known::well_formed;
 pub use lease::Lease;

@@ -1,36 +1,36 @@
 //! What names an instance, and where it runs, from its members.
 ghost use Rattle.std.specs.Prelude.{◌≡◌, IfOk, option_map};
 ghost use Rattle.std.specs.Option.{option_copied};
-ghost use Rattle.disco_json.specs.View.{view};
+ghost use Rattle.serde_json.specs.View.{view};
 ghost use Rattle.disco_instance.specs.Instance.{Gives, data_center_at, id_at, key_at};
 
 use crate::data_center::DataCenter;
-use crate::found::{Found, Member};
-use crate::members::text_member;
+use crate::members::{non_empty_member, text_member};
 use disco_values::{Fault, Field, Key, Text, upper_text};
+use serde_json::Value;
 use std::alloc::{AllocError, Global};
 
 /// The id, for which the name of the host stands where there is none.
-fn id_member<'v>(found: &Found<'_, 'v>) -> Option<&'v str>
-    ensures { option_map (λ s. s.now) result ≡ id_at (view found.now) }
+fn id_member(value: &Value) -> Option<&str>
+    ensures { option_map (λ s. s.now) result ≡ id_at (view value.now) }
 {
-    match found.non_empty(Member::InstanceId) {
+    match non_empty_member(value, "instanceId") {
         Some(id) => Some(id),
-        None => found.non_empty(Member::HostName),
+        None => non_empty_member(value, "hostName"),
     }
 }
 
-pub(crate) fn key_from_found(
+pub(crate) fn key_from_value(
     alloc: Global,
-    found: &Found<'_, '_>,
+    value: &Value,
     within: Option<&str>,
 ) -> Result<Key, Fault>
-    ensures { Gives (λ k. k) result (key_at (option_copied within.entry) (view found.now)) }
+    ensures { Gives (λ k. k) result (key_at (option_copied within.entry) (view value.now)) }
 {
-    let Some(id) = id_member(found) else {
+    let Some(id) = id_member(value) else {
         return Err(Fault::MissingField(Field::InstanceId));
     };
-    let app = match found.non_empty(Member::App) {
+    let app = match non_empty_member(value, "app") {
         Some(app) => app,
         None => match within {
             Some(name) if !name.is_empty() => name,
@@ -43,13 +43,10 @@ pub(crate) fn key_from_found(
     })
 }
 
-pub(crate) fn data_center_member(
-    alloc: Global,
-    found: &Found<'_, '_>,
-) -> Result<DataCenter, AllocError>
-    ensures { IfOk result (λ c. c ≡ data_center_at (view found.now)) }
+pub(crate) fn data_center_member(alloc: Global, value: &Value) -> Result<DataCenter, AllocError>
+    ensures { IfOk result (λ c. c ≡ data_center_at (view value.now)) }
 {
-    let (class, name) = match found.at(Member::DataCenterInfo) {
+    let (class, name) = match value.get("dataCenterInfo") {
         Some(inner) => (text_member(inner, "@class"), text_member(inner, "name")),
         None => (None, None),
     };

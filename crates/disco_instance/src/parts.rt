@@ -1,7 +1,7 @@
 //! The parts of a record that are read together.
 ghost use Rattle.std.specs.Prelude.{◌≡◌, codes, IfOk};
 ghost use Rattle.std.specs.Option.{option_copied};
-ghost use Rattle.disco_json.specs.View.{view};
+ghost use Rattle.serde_json.specs.View.{view};
 ghost use Rattle.disco_values.specs.declared.status.Status.TheVariants.{Up};
 ghost use Rattle.disco_instance.specs.Instance.{Gives, key_at};
 ghost use Rattle.disco_instance.specs.Members.{override_at, status_at, text_or_empty};
@@ -9,12 +9,12 @@ ghost use Rattle.disco_instance.specs.Steps.{HasPagesAndAddresses, SaysDetails};
 
 use crate::data_center::DataCenter;
 use crate::details::Details;
-use crate::found::{Found, Member};
-use crate::members::{status_or, text_in, text_or_empty};
-use crate::metadata::entries_in;
-use crate::names::{data_center_member, key_from_found};
+use crate::members::{status_member, text_member, text_or_empty};
+use crate::metadata::entries_member;
+use crate::names::{data_center_member, key_from_value};
 use crate::shared_details::SharedDetails;
 use disco_values::{Entries, Fault, Key, Status, Text};
+use serde_json::Value;
 use std::alloc::{AllocError, Global};
 
 /// The pages of an instance.
@@ -26,15 +26,15 @@ pub(crate) struct Pages {
 }
 
 impl Pages {
-    pub(crate) fn read(alloc: Global, found: &Found<'_, '_>) -> Result<Pages, AllocError>
-        ensures health { IfOk result (λ p. p.health_check_url ≡ text_or_empty (codes "healthCheckUrl") (view found.now)) }
-        ensures home { IfOk result (λ p. p.home_page_url ≡ text_or_empty (codes "homePageUrl") (view found.now)) }
-        ensures status { IfOk result (λ p. p.status_page_url ≡ text_or_empty (codes "statusPageUrl") (view found.now)) }
+    pub(crate) fn read(alloc: Global, value: &Value) -> Result<Pages, AllocError>
+        ensures health { IfOk result (λ p. p.health_check_url ≡ text_or_empty (codes "healthCheckUrl") (view value.now)) }
+        ensures home { IfOk result (λ p. p.home_page_url ≡ text_or_empty (codes "homePageUrl") (view value.now)) }
+        ensures status { IfOk result (λ p. p.status_page_url ≡ text_or_empty (codes "statusPageUrl") (view value.now)) }
     {
         Ok(Pages {
-            health_check_url: text_or_empty(alloc, found.at(Member::HealthCheckUrl))?,
-            home_page_url: text_or_empty(alloc, found.at(Member::HomePageUrl))?,
-            status_page_url: text_or_empty(alloc, found.at(Member::StatusPageUrl))?,
+            health_check_url: text_or_empty(alloc, value, "healthCheckUrl")?,
+            home_page_url: text_or_empty(alloc, value, "homePageUrl")?,
+            status_page_url: text_or_empty(alloc, value, "statusPageUrl")?,
         })
     }
 }
@@ -49,17 +49,17 @@ pub(crate) struct Addresses {
 }
 
 impl Addresses {
-    pub(crate) fn read(alloc: Global, found: &Found<'_, '_>) -> Result<Addresses, AllocError>
-        ensures host { IfOk result (λ a. a.host_name ≡ text_or_empty (codes "hostName") (view found.now)) }
-        ensures ip { IfOk result (λ a. a.ip_addr ≡ text_or_empty (codes "ipAddr") (view found.now)) }
-        ensures secure_vip { IfOk result (λ a. a.secure_vip_address ≡ text_or_empty (codes "secureVipAddress") (view found.now)) }
-        ensures vip { IfOk result (λ a. a.vip_address ≡ text_or_empty (codes "vipAddress") (view found.now)) }
+    pub(crate) fn read(alloc: Global, value: &Value) -> Result<Addresses, AllocError>
+        ensures host { IfOk result (λ a. a.host_name ≡ text_or_empty (codes "hostName") (view value.now)) }
+        ensures ip { IfOk result (λ a. a.ip_addr ≡ text_or_empty (codes "ipAddr") (view value.now)) }
+        ensures secure_vip { IfOk result (λ a. a.secure_vip_address ≡ text_or_empty (codes "secureVipAddress") (view value.now)) }
+        ensures vip { IfOk result (λ a. a.vip_address ≡ text_or_empty (codes "vipAddress") (view value.now)) }
     {
         Ok(Addresses {
-            host_name: text_or_empty(alloc, found.at(Member::HostName))?,
-            ip_addr: text_or_empty(alloc, found.at(Member::IpAddr))?,
-            secure_vip_address: text_or_empty(alloc, found.at(Member::SecureVipAddress))?,
-            vip_address: text_or_empty(alloc, found.at(Member::VipAddress))?,
+            host_name: text_or_empty(alloc, value, "hostName")?,
+            ip_addr: text_or_empty(alloc, value, "ipAddr")?,
+            secure_vip_address: text_or_empty(alloc, value, "secureVipAddress")?,
+            vip_address: text_or_empty(alloc, value, "vipAddress")?,
         })
     }
 }
@@ -83,14 +83,14 @@ fn joined(pages: Pages, addresses: Addresses, data_center: DataCenter, metadata:
     }
 }
 
-/// The details that the members of an instance say.
-pub(crate) fn details_in(alloc: Global, found: &Found<'_, '_>) -> Result<SharedDetails, AllocError>
-    ensures { IfOk result (λ d. SaysDetails (view found.now) d) }
+/// The details that the value of an instance says.
+pub(crate) fn details_in(alloc: Global, value: &Value) -> Result<SharedDetails, AllocError>
+    ensures { IfOk result (λ d. SaysDetails (view value.now) d) }
 {
-    let pages = Pages::read(alloc, found)?;
-    let addresses = Addresses::read(alloc, found)?;
-    let data_center = data_center_member(alloc, found)?;
-    let metadata = entries_in(alloc, found.at(Member::Metadata))?;
+    let pages = Pages::read(alloc, value)?;
+    let addresses = Addresses::read(alloc, value)?;
+    let data_center = data_center_member(alloc, value)?;
+    let metadata = entries_member(alloc, value, "metadata")?;
     let details = joined(pages, addresses, data_center, metadata);
     SharedDetails::new(alloc, details)
 }
@@ -104,34 +104,28 @@ pub(crate) struct Rest {
 }
 
 /// The override, under either of its two names.
-fn override_member(alloc: Global, found: &Found<'_, '_>) -> Result<Status, AllocError>
-    ensures { IfOk result (λ s. s ≡ override_at (view found.now)) }
+fn override_member(alloc: Global, value: &Value) -> Result<Status, AllocError>
+    ensures { IfOk result (λ s. s ≡ override_at (view value.now)) }
 {
-    let exact = found.at(Member::OverriddenStatus);
-    if text_in(exact).is_some() {
-        status_or(alloc, exact, Status::Unknown)
+    if text_member(value, "overriddenStatus").is_some() {
+        status_member(alloc, value, "overriddenStatus", Status::Unknown)
     } else {
-        let other = found.at(Member::OverriddenStatusInLowerCase);
-        status_or(alloc, other, Status::Unknown)
+        status_member(alloc, value, "overriddenstatus", Status::Unknown)
     }
 }
 
 impl Rest {
-    /// The rest that the members of an instance say, within an application of that name. Refused as
+    /// The rest that the value of an instance says, within an application of that name. Refused as
     /// `MissingField` for no id and else for no app, and as `OutOfMemory`.
-    pub(crate) fn read(
-        alloc: Global,
-        found: &Found<'_, '_>,
-        within: Option<&str>,
-    ) -> Result<Rest, Fault>
-        ensures key { Gives (λ r. r.key) result (key_at (option_copied within.entry) (view found.now)) }
-        ensures overridden_status { IfOk result (λ r. r.overridden_status ≡ override_at (view found.now)) }
-        ensures status { IfOk result (λ r. r.status ≡ status_at (codes "status") Up (view found.now)) }
+    pub(crate) fn read(alloc: Global, value: &Value, within: Option<&str>) -> Result<Rest, Fault>
+        ensures key { Gives (λ r. r.key) result (key_at (option_copied within.entry) (view value.now)) }
+        ensures overridden_status { IfOk result (λ r. r.overridden_status ≡ override_at (view value.now)) }
+        ensures status { IfOk result (λ r. r.status ≡ status_at (codes "status") Up (view value.now)) }
     {
-        let overridden_status = override_member(alloc, found)?;
-        let status = status_or(alloc, found.at(Member::Status), Status::Up)?;
+        let overridden_status = override_member(alloc, value)?;
+        let status = status_member(alloc, value, "status", Status::Up)?;
         Ok(Rest {
-            key: key_from_found(alloc, found, within)?,
+            key: key_from_value(alloc, value, within)?,
             overridden_status,
             status,
         })

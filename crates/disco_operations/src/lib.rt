@@ -7,8 +7,6 @@ mod operations;
 mod percent;
 mod query;
 
-pub use operations::{
-    add_metadata, cancel, drop_status, key_named, register, register_with, renew, set_status,
-};
+pub use operations::{add_metadata, cancel, drop_status, key_named, register, renew, set_status};
 pub use percent::{decoded, decoded_text};
 pub use query::{entries_of_query, value_of};

@@ -11,8 +11,7 @@ ghost use Rattle.disco_operations.specs.Operations.{key_named, registers};
 
 use disco_registry::Op;
 use disco_values::{Entries, Fault, Key, Text};
-use disco_wire::read_registration_with;
-use json::Scratch;
+use disco_wire::read_registration;
 use std::alloc::Global;
 
 /// The key of an app and an id: the app's name counts in upper case.
@@ -62,25 +61,7 @@ fn check_app(name: &Text, own: &Text) -> Result<(), Fault>
 pub fn register(alloc: Global, app: &Text, body: &[u8]) -> Result<Op, Fault>
     ensures { Gives op_view result (registers app.now (registration_of body.now)) }
 {
-    let mut scratch = Scratch::new(alloc);
-    register_with(alloc, app, body, &mut scratch)
-}
-
-/// A registration, as [`register`] gives it. The room that reading needs is lent, so that who reads
-/// many makes it once.
-///
-/// # Errors
-///
-/// As of [`register`].
-pub fn register_with(
-    alloc: Global,
-    app: &Text,
-    body: &[u8],
-    scratch: &mut Scratch,
-) -> Result<Op, Fault>
-    ensures { Gives op_view result (registers app.now (registration_of body.now)) }
-{
-    let posted = read_registration_with(alloc, body, scratch)?;
+    let posted = read_registration(alloc, body)?;
     check_app(app, &posted.key.app)?;
     Ok(Op::Register(posted))
 }

@@ -1,20 +1,19 @@
 -- Lists of what was read.
 use Rattle.std.proofs.Common.{◌≡◌, List, [], ◌∷◌, ◌++◌, map, Option, Some, None, option_map, option_and_then, Ok, Err, refl, ap, append_assoc, Vec, Global}
-use Rattle.disco_json.proofs.Trees.{view-Array}
+use Rattle.serde_json.proofs.Views.{view-Array}
 use Rattle.serde_json.specs.Data.{Data}
-use Rattle.disco_json.specs.Steps.{items_view}
-use Rattle.disco_json.specs.View.{view}
-use Rattle.disco_json.specs.declared.tree.Tree.{Tree, Array}
+use Rattle.serde_json.specs.View.{items_view, view}
+use Rattle.serde_json.specs.declared.value.Value.{Value, Array}
 use Rattle.disco_values.specs.declared.fault.Fault.{Fault}
 use Rattle.disco_instance.specs.Mention.{Mention}
 use Rattle.disco_wire.specs.Meaning.{list_of, listed_in, all_told}
 use Rattle.disco_wire.specs.Steps.{told_on}
 
-pub list_of_items : (vs : List Tree) → list_of (items_view vs) ≡ map view vs
+pub list_of_items : (vs : List Value) → list_of (items_view vs) ≡ map view vs
 list_of_items [] = refl
 list_of_items (v ∷ vs) = ap (λ r. view v ∷ r) (list_of_items vs)
 
-pub array_listed : (value : Tree) (v : Vec Tree Global) (xs : List Tree) → value ≡ Array v → xs ≡ v.items → Some (map view xs) ≡ listed_in (view value)
+pub array_listed : (value : Value) (v : Vec Value Global) (xs : List Value) → value ≡ Array v → xs ≡ v.items → Some (map view xs) ≡ listed_in (view value)
 array_listed value v xs is same = rw (is, same, view-Array v, list_of_items v.items) refl
 
 later : (before ms : List Mention) (rest : Option (List Mention)) → told_on (before ++ ms) rest ≡ told_on before (option_map (λ r. ms ++ r) rest)

@@ -3,7 +3,7 @@ ghost use Rattle.std.specs.Prelude.{◌≡◌, [], codes, is_some, map, option_m
 ghost use Rattle.std.specs.Option.{ok_or, option_copied};
 ghost use Rattle.disco_wire.specs.declared.wire.Shape.TheVariants.{App, Many, One};
 ghost use Rattle.serde_json.specs.Find.{get};
-ghost use Rattle.disco_json.specs.View.{view};
+ghost use Rattle.serde_json.specs.View.{view};
 ghost use Rattle.disco_instance.specs.Instance.{Gives};
 ghost use Rattle.disco_values.specs.declared.fault.Fault.TheVariants.{BadDocument};
 ghost use Rattle.disco_instance.specs.Members.{as_whole, text_at};
@@ -15,9 +15,8 @@ ghost use Rattle.disco_wire.specs.Wire.{wire_meaning, tell_all};
 use crate::tree::{object_member, tree_of};
 use crate::wire::{Mention, Mentions, Shape, Wire};
 use disco_instance::{Record, action_from_value, text_member, whole};
-use disco_json::Tree;
 use disco_values::{Fault, Text};
-use json::Scratch;
+use serde_json::Value;
 use std::alloc::{AllocError, Global};
 
 /// What a document means: the body of an answer to one of Eureka's `GET`s.
@@ -29,13 +28,12 @@ use std::alloc::{AllocError, Global};
 pub fn read_document(alloc: Global, bytes: &[u8]) -> Result<Wire, Fault>
     ensures { Gives wire_meaning result (document_of bytes.now) }
 {
-    let mut scratch = Scratch::new(alloc);
-    let tree = tree_of(alloc, bytes, &mut scratch)?;
+    let tree = tree_of(alloc, bytes)?;
     from_tree(alloc, &tree)
 }
 
 #[tactic(auto, unfolding(crate::specs::Meaning::meaning_of))]
-fn from_tree(alloc: Global, tree: &Tree<'_>) -> Result<Wire, Fault>
+fn from_tree(alloc: Global, tree: &Value) -> Result<Wire, Fault>
     ensures { Gives wire_meaning result (ok_or (meaning_of (view tree.now)) BadDocument) }
 {
     if let Some(applications) = object_member(tree, "applications") {
@@ -49,7 +47,7 @@ fn from_tree(alloc: Global, tree: &Tree<'_>) -> Result<Wire, Fault>
     }
 }
 
-fn one_app(alloc: Global, app: &Tree<'_>) -> Result<Wire, Fault>
+fn one_app(alloc: Global, app: &Value) -> Result<Wire, Fault>
     ensures { Gives wire_meaning result (ok_or (option_map (meant App None None) (told_app (view app.now))) BadDocument) }
 {
     let mut mentions = Vec::new(alloc);
@@ -62,7 +60,7 @@ fn one_app(alloc: Global, app: &Tree<'_>) -> Result<Wire, Fault>
     })
 }
 
-fn one_instance(alloc: Global, instance: &Tree<'_>) -> Result<Wire, Fault>
+fn one_instance(alloc: Global, instance: &Value) -> Result<Wire, Fault>
     ensures { Gives wire_meaning result (ok_or (option_map (meant One None None) (told_in None (view instance.now))) BadDocument) }
 {
     let mut mentions = Vec::new(alloc);
@@ -75,7 +73,7 @@ fn one_instance(alloc: Global, instance: &Tree<'_>) -> Result<Wire, Fault>
     })
 }
 
-fn many(alloc: Global, applications: &Tree<'_>) -> Result<Wire, Fault>
+fn many(alloc: Global, applications: &Value) -> Result<Wire, Fault>
     ensures { Gives wire_meaning result (ok_or (option_map (meant Many (text_at (codes "apps__hashcode") (view applications.now))
         (option_and_then as_whole (get (codes "versions__delta") (view applications.now)))) (told_apps (view applications.now))) BadDocument) }
 {
@@ -93,7 +91,7 @@ fn many(alloc: Global, applications: &Tree<'_>) -> Result<Wire, Fault>
     })
 }
 
-fn text_of_member(alloc: Global, value: &Tree<'_>, name: &str) -> Result<Option<Text>, AllocError>
+fn text_of_member(alloc: Global, value: &Value, name: &str) -> Result<Option<Text>, AllocError>
     ensures { IfOk result (λ o. o ≡ text_at name.now (view value.now)) }
 {
     match text_member(value, name) {
@@ -103,24 +101,24 @@ fn text_of_member(alloc: Global, value: &Tree<'_>, name: &str) -> Result<Option<
 }
 
 /// Whether this is an array, an object or null.
-fn is_listed(value: &Tree<'_>) -> bool
+fn is_listed(value: &Value) -> bool
     ensures { result ≡ is_some (listed_in (view value.now)) }
 {
-    matches!(value, Tree::Null | Tree::Array(_) | Tree::Object(_))
+    matches!(value, Value::Null | Value::Array(_) | Value::Object(_))
 }
 
 /// The items of an array, or one object. Another value has none.
-fn items_in<'v, 'a>(value: &'v Tree<'a>) -> &'v [Tree<'a>]
+fn items_in(value: &Value) -> &[Value]
     ensures { map view result.now ≡ unwrap_or (listed_in (view value.now)) [] }
 {
     match value {
-        Tree::Array(list) => list.as_slice(),
-        Tree::Object(_) => std::slice::from_ref(value),
+        Value::Array(list) => list.as_slice(),
+        Value::Object(_) => std::slice::from_ref(value),
         _ => &[],
     }
 }
 
-fn version_of(applications: &Tree<'_>) -> Option<u64>
+fn version_of(applications: &Value) -> Option<u64>
     ensures { result ≡ option_and_then as_whole (get (codes "versions__delta") (view applications.now)) }
 {
     match applications.get("versions__delta") {
@@ -130,7 +128,7 @@ fn version_of(applications: &Tree<'_>) -> Option<u64>
 }
 
 #[tactic(auto, using(crate::proofs::ToldLists::step, crate::proofs::ToldLists::stop))]
-fn push_apps(alloc: Global, out: &mut Vec<Mention>, values: &[Tree<'_>]) -> Result<(), Fault>
+fn push_apps(alloc: Global, out: &mut Vec<Mention>, values: &[Value]) -> Result<(), Fault>
     ensures { Gives (λ _. tell_all out.new.items) result (told_on (tell_all out.old.items) (all_told told_item (map view values.now))) }
 {
     for value in values {
@@ -139,7 +137,7 @@ fn push_apps(alloc: Global, out: &mut Vec<Mention>, values: &[Tree<'_>]) -> Resu
     Ok(())
 }
 
-fn push_listed_apps(alloc: Global, out: &mut Vec<Mention>, listed: &Tree<'_>) -> Result<(), Fault>
+fn push_listed_apps(alloc: Global, out: &mut Vec<Mention>, listed: &Value) -> Result<(), Fault>
     ensures { Gives (λ _. tell_all out.new.items) result (told_on (tell_all out.old.items)
         (option_and_then (all_told told_item) (listed_in (view listed.now)))) }
 {
@@ -149,7 +147,7 @@ fn push_listed_apps(alloc: Global, out: &mut Vec<Mention>, listed: &Tree<'_>) ->
     push_apps(alloc, out, items_in(listed))
 }
 
-fn push_item(alloc: Global, out: &mut Vec<Mention>, value: &Tree<'_>) -> Result<(), Fault>
+fn push_item(alloc: Global, out: &mut Vec<Mention>, value: &Value) -> Result<(), Fault>
     ensures { Gives (λ _. tell_all out.new.items) result (told_on (tell_all out.old.items) (told_item (view value.now))) }
 {
     if value.is_object() {
@@ -159,7 +157,7 @@ fn push_item(alloc: Global, out: &mut Vec<Mention>, value: &Tree<'_>) -> Result<
     }
 }
 
-fn push_app(alloc: Global, out: &mut Vec<Mention>, app: &Tree<'_>) -> Result<(), Fault>
+fn push_app(alloc: Global, out: &mut Vec<Mention>, app: &Value) -> Result<(), Fault>
     ensures { Gives (λ _. tell_all out.new.items) result (told_on (tell_all out.old.items) (told_app (view app.now))) }
 {
     match app.get("instance") {
@@ -173,7 +171,7 @@ fn push_instances(
     alloc: Global,
     out: &mut Vec<Mention>,
     within: Option<&str>,
-    values: &[Tree<'_>],
+    values: &[Value],
 ) -> Result<(), Fault>
     ensures { Gives (λ _. tell_all out.new.items) result (told_on (tell_all out.old.items)
         (all_told (told_in (option_copied within.entry)) (map view values.now))) }
@@ -188,7 +186,7 @@ fn push_listed_instances(
     alloc: Global,
     out: &mut Vec<Mention>,
     within: Option<&str>,
-    listed: &Tree<'_>,
+    listed: &Value,
 ) -> Result<(), Fault>
     ensures { Gives (λ _. tell_all out.new.items) result (told_on (tell_all out.old.items)
         (option_and_then (all_told (told_in (option_copied within.entry))) (listed_in (view listed.now)))) }
@@ -204,7 +202,7 @@ fn push_instance(
     alloc: Global,
     out: &mut Vec<Mention>,
     within: Option<&str>,
-    value: &Tree<'_>,
+    value: &Value,
 ) -> Result<(), Fault>
     ensures { Gives (λ _. tell_all out.new.items) result (told_on (tell_all out.old.items) (told_in (option_copied within.entry) (view value.now))) }
 {

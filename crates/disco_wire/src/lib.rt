@@ -11,5 +11,5 @@ mod tree;
 mod wire;
 
 pub use document::read_document;
-pub use registration::{read_registration, read_registration_with};
+pub use registration::read_registration;
 pub use wire::{Mention, Mentions, Shape, Wire};

@@ -1,5 +1,5 @@
 use Rattle.std.proofs.Common.{◌≡◌, map, drop}
-use Rattle.disco_json.specs.View.{view}
+use Rattle.serde_json.specs.View.{view}
 use Rattle.disco_wire.specs.Meaning.{all_told}
 use Rattle.disco_wire.specs.Steps.{told_item, told_on}
 use Rattle.disco_wire.specs.Wire.{tell_all}

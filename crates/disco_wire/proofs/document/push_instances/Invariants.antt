@@ -1,6 +1,6 @@
 use Rattle.std.proofs.Common.{◌≡◌, map, drop}
 use Rattle.std.specs.Option.{option_copied}
-use Rattle.disco_json.specs.View.{view}
+use Rattle.serde_json.specs.View.{view}
 use Rattle.disco_wire.specs.Meaning.{all_told, told_in}
 use Rattle.disco_wire.specs.Steps.{told_on}
 use Rattle.disco_wire.specs.Wire.{tell_all}

@@ -1,9 +1,0 @@
-use Rattle.std.specs.Option.{option_copied}
-use Rattle.disco_json.specs.View.{view}
-use Rattle.disco_instance.proofs.Rows.{told}
-use Rattle.disco_instance.proofs.record.Record.from_found.Goals as goal
-
-pub returns : goal.returns
-returns c =
-    let read = c.read_record.ensures in
-    told (option_copied c.args.within) (view c.args.found.now) c.in_ok-details.details c.read_record.result c.in_ok-details.ensures read.table read.details read.key
