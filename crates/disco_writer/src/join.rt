@@ -1,6 +1,6 @@
 //! Documents joined from the texts of their instances.
 ghost use Rattle.std.specs.Prelude.{◌≡◌, ◌++◌, ◌∷◌, [], List, IfOk, OnOk, None, Some, Ok, option_map, codes, decimal, false};
-ghost use Rattle.json.specs.Print.{quoted};
+ghost use Rattle.json.specs.Print.{escape, quoted};
 ghost use Rattle.serde_json.specs.Written.{compact_text};
 ghost use Rattle.disco_values.specs.declared.form.Form.{Form};
 ghost use Rattle.disco_history.specs.Change.{Entry};
@@ -15,8 +15,9 @@ ghost use Rattle.disco_wire.specs.Rows.{mentions_in};
 ghost use Rattle.disco_wire.specs.Written.{app_document, document_tree, instance_document};
 
 use crate::piece::Piece;
+use crate::plain_text::is_plain;
 use disco_values::Text;
-use json::Writer;
+use serde_json::Value;
 use std::alloc::{AllocError, Global};
 
 /// Room for what stands round the texts of an app, beside its name.
@@ -34,27 +35,44 @@ fn push_str(out: &mut Vec<u8>, text: &str) -> Result<(), AllocError>
     push(out, text.as_bytes())
 }
 
+/// A text between quotes, with the escapes that it needs.
 pub(crate) fn quoted(alloc: Global, text: &str) -> Result<Vec<u8>, AllocError>
     ensures { IfOk result (λ v. v.items ≡ quoted text.now) }
 {
-    let mut out = Writer::new(Vec::new(alloc));
-    out.string(text)?;
-    Ok(out.into_inner())
+    let value = Value::String(String::from_str(alloc, text)?);
+    Ok(value.to_vec(alloc)?)
+}
+
+fn push_plain(out: &mut Vec<u8>, text: &str) -> Result<(), AllocError>
+    requires { escape text.now ≡ text.now }
+    ensures { OnOk result (Pushes out.old.items out.new.items (quoted text.now)) }
+{
+    push_str(out, "\"")?;
+    push_str(out, text)?;
+    push_str(out, "\"")
+}
+
+fn push_string(alloc: Global, out: &mut Vec<u8>, text: &str) -> Result<(), AllocError>
+    ensures { OnOk result (Pushes out.old.items out.new.items (quoted text.now)) }
+{
+    if is_plain(text.as_bytes()) {
+        return push_plain(out, text);
+    }
+    let text = quoted(alloc, text)?;
+    push(out, text.as_slice())
 }
 
 fn push_quoted(alloc: Global, out: &mut Vec<u8>, text: &Text) -> Result<(), AllocError>
     ensures { OnOk result (Pushes out.old.items out.new.items (quoted text.now)) }
 {
-    let text = quoted(alloc, text.as_str())?;
-    push(out, text.as_slice())
+    push_string(alloc, out, text.as_str())
 }
 
 fn push_digits(alloc: Global, out: &mut Vec<u8>, number: u64) -> Result<(), AllocError>
     ensures { OnOk result (Pushes out.old.items out.new.items (quoted (decimal number))) }
 {
     let digits = format!(in alloc; "{number}")?;
-    let text = quoted(alloc, digits.as_str())?;
-    push(out, text.as_slice())
+    push_string(alloc, out, digits.as_str())
 }
 
 #[tactic(auto, unfolding(crate::specs::Joined::app_open))]
