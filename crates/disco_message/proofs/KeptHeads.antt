@@ -1,6 +1,8 @@
 -- What a kept head says is what the head of the grammar says.
 use Rattle.std.proofs.Common.{◌≡◌, ℕ, List, Option, Some, Result, Ok, IsOk, map, take, refl, sym, subst}
+use Rattle.http_header.specs.Token as token
 use Rattle.httparse.specs.Grammar.{RequestHead}
+use Rattle.httparse.specs.Grammar as grammar
 use Rattle.httparse.specs.Spans.{IsRequestAt, span_bytes, header_bytes}
 use Rattle.httparse.specs.declared.spans.HeaderSpan.{HeaderSpan}
 use Rattle.httparse.specs.declared.spans.RequestSpans.{RequestSpans}
@@ -24,3 +26,11 @@ pub may_be_read : (method : List ℕ) (minor : ℕ) (fields : List (List ℕ × 
     → p ≡ Some path → f ≡ Ok framing → headed method minor fields p f ≡ result → IsOk result
 may_be_read method minor fields p f path framing result pp ff is =
     subst (λ (r : Result Heading Fault). IsOk r) is (subst (λ (x : Option (List ℕ)). IsOk (headed method minor fields x f)) (sym pp) (subst (λ (x : Result Framing Fault). IsOk (headed method minor fields (Some path) x)) (sym ff) refl))
+
+is_token : (name : List ℕ) → grammar.IsToken name → token.IsToken name
+unfolding grammar.is_token_byte token.is_token_byte
+is_token name h = h
+
+-- the method that was found is a token
+pub method_token : (buf : List ℕ) (spans : List HeaderSpan) (line : RequestSpans) (h : RequestHead) → IsRequestAt buf spans line h → token.IsToken (span_bytes buf line.method)
+method_token buf spans line h is = subst token.IsToken (sym is.method) (is_token h.method is.reads.0.method)

@@ -1,5 +1,5 @@
 -- The head of a reply, as the tree that its reader makes of it.
-use Rattle.std.proofs.Common.{◌≡◌, ℕ, Bool, true, false, ◌&&◌, ◌||◌, ◌-◌, ◌<◌, List, [], ◌∷◌, ◌++◌, length, map, take, drop, reverse, All, Option, Some, None, IfSome, codes, ◌==◌, nat_lt, if◌then◌else◌, refl, ap, sym, ◌∙◌, arith, append_assoc, append-nil}
+use Rattle.std.proofs.Common.{◌≡◌, ℕ, Bool, true, false, ◌&&◌, ◌||◌, ◌<◌, List, [], ◌∷◌, ◌++◌, length, map, reverse, All, Option, Some, None, IfSome, codes, ◌==◌, nat_lt, if◌then◌else◌, refl, ap, sym, ◌∙◌, arith, append_assoc, append-nil}
 use Rattle.std.specs.Char.{is_ascii_digit}
 use Rattle.std.specs.List.{flat_map, list_all}
 use Rattle.std.proofs.lemmas.Bool.Decides.{nat_tests}
@@ -8,22 +8,21 @@ use Rattle.std.proofs.lemmas.List.{length-reverse, map-append, reverse-append}
 use Rattle.std.proofs.lemmas.List.Folds.{list_all-append}
 use Rattle.std.proofs.lemmas.List.Sums.{AllPass-from_list_all, list_all-from_AllPass}
 use Rattle.std.proofs.lemmas.List.Elements.{All-weaker}
-use Rattle.http1.specs.Text.{eq_ignore_case}
+use Rattle.http.specs.StatusCode.{IsStatusCode, code_digits}
 use Rattle.httparse.specs.Grammar.{Field, IsField, IsResponseHead, ReadsResponse, ResponseHead, crlf, is_token, is_token_byte, is_value_byte, print_field, print_response, skip_ows, trim_ows}
 use Rattle.httparse.specs.Spans.{name_and_value}
 use Rattle.httparse.proofs.GrammarLemmas.{response_unique}
 use Rattle.httparse.proofs.TrimLemmas.{AllPass-reverse, trim_ows_space}
 use Rattle.disco_values.specs.declared.cert.Cert.{Cert}
 use Rattle.disco_message.specs.Certificate.{cert_spelled, only_cert}
-use Rattle.disco_message.specs.Fields.{values}
+use Rattle.disco_message.specs.Fields.{eq_ignore_case, values}
 use Rattle.disco_message.specs.Laws.{CertificateLaw, IsInRange}
-use Rattle.disco_message.specs.ReplyText.{allow_line, body_lines, certificate_line, close_line, length_line, number_text, reply_head, type_line}
-use Rattle.disco_message.specs.StatusLine.{allowed, status_line}
+use Rattle.disco_message.specs.ReplyText.{allow_line, body_lines, certificate_line, close_line, content_lines, length_line, number_text, reply_head, type_line}
+use Rattle.disco_message.specs.StatusLine.{allowed, phrase, status_line}
 use Rattle.disco_message.specs.declared.status_line.Allow.{Allow}
 use Rattle.disco_message.specs.declared.status_line.Allow.TheVariants.{Get, GetPost, GetPutDelete, PutDelete, Put}
-use Rattle.disco_message.specs.declared.status_line.StatusLine.{StatusLine}
-use Rattle.disco_message.specs.declared.status_line.StatusLine.TheVariants as status
 use Rattle.disco_message.proofs.SpelledCertificate.{cert_text, number_digits, number_some, first_digit, more_digits, parted, spelled_again}
+use Rattle.disco_message.proofs.StatusLines.{left_of, right_of, digits_good, phrase_good}
 
 -- ---- the fields
 
@@ -33,10 +32,12 @@ field name value = record { name = name; raw = 32 ∷ value; end = crlf }
 abbrev length_field : ℕ → Field
 length_field n = field (codes "Content-Length") (number_text n)
 
-abbrev body_fields : StatusLine → Option ℕ → List Field
-body_fields status.NoContent size = []
-body_fields s None = length_field 0 ∷ []
-body_fields s (Some n) = field (codes "Content-Type") (codes "application/json") ∷ length_field n ∷ []
+abbrev content_fields : Option ℕ → List Field
+content_fields None = length_field 0 ∷ []
+content_fields (Some n) = field (codes "Content-Type") (codes "application/json") ∷ length_field n ∷ []
+
+abbrev body_fields : ℕ → Option ℕ → List Field
+body_fields s size = if s == 204 then [] else content_fields size
 
 abbrev certificate_fields : Option Cert → List Field
 certificate_fields None = []
@@ -50,7 +51,7 @@ abbrev close_fields : Bool → List Field
 close_fields true = field (codes "Connection") (codes "close") ∷ []
 close_fields false = []
 
-abbrev fields : StatusLine → Option Allow → Option ℕ → Option Cert → Bool → List Field
+abbrev fields : ℕ → Option Allow → Option ℕ → Option Cert → Bool → List Field
 fields s allow size cert last = body_fields s size ++ (certificate_fields cert ++ (allow_fields allow ++ close_fields last))
 
 -- ---- their bytes
@@ -62,11 +63,17 @@ length_printed : (n : ℕ) → print_field (length_field n) ≡ length_line n
 unfolding length_line
 length_printed n = refl
 
-body_printed : (s : StatusLine) (size : Option ℕ) → printed (body_fields s size) ≡ body_lines s size
+content_printed : (size : Option ℕ) → printed (content_fields size) ≡ content_lines size
 unfolding type_line
-body_printed status.NoContent size = refl
-body_printed s None = append-nil _ ∙ length_printed 0
-body_printed s (Some n) = ap (λ x. type_line ++ x) (append-nil _ ∙ length_printed n)
+content_printed None = append-nil _ ∙ length_printed 0
+content_printed (Some n) = ap (λ x. type_line ++ x) (append-nil _ ∙ length_printed n)
+
+body_printed : (s : ℕ) (size : Option ℕ) → printed (body_fields s size) ≡ body_lines s size
+body_printed s size = by (s == 204)
+  where
+    by : (none : Bool) → printed (if none then [] else content_fields size) ≡ (if none then [] else content_lines size)
+    by true = refl
+    by false = content_printed size
 
 certificate_printed : (cert : Option Cert) → printed (certificate_fields cert) ≡ certificate_line cert
 unfolding certificate_line
@@ -83,7 +90,7 @@ unfolding close_line
 close_printed true = refl
 close_printed false = refl
 
-fields_printed : (s : StatusLine) (allow : Option Allow) (size : Option ℕ) (cert : Option Cert) (last : Bool)
+fields_printed : (s : ℕ) (allow : Option Allow) (size : Option ℕ) (cert : Option Cert) (last : Bool)
     → printed (fields s allow size cert last) ≡ body_lines s size ++ (certificate_line cert ++ (allow_line allow ++ close_line last))
 fields_printed s allow size cert last =
     flat_map-append print_field (body_fields s size) (certificate_fields cert ++ (allow_fields allow ++ close_fields last))
@@ -115,11 +122,17 @@ cert_bytes c =
     let of : (n : ℕ) → list_all test (number_text n) ≡ true = λ n. value_bytes (number_text n) (number_digits n) in
     joined test (r ++ codes " " ++ b ++ codes " ") v (joined test (r ++ codes " " ++ b) (codes " ") (joined test (r ++ codes " ") b (joined test r (codes " ") (of c.run) refl) (of c.base)) refl) (of c.version)
 
-body_good : (s : StatusLine) (size : Option ℕ) → list_all is_field (body_fields s size) ≡ true
+content_good : (size : Option ℕ) → list_all is_field (content_fields size) ≡ true
 unfolding is_token_byte
-body_good status.NoContent size = refl
-body_good s None = rw (value_bytes (number_text 0) (number_digits 0)) refl
-body_good s (Some n) = rw (value_bytes (number_text n) (number_digits n)) refl
+content_good None = rw (value_bytes (number_text 0) (number_digits 0)) refl
+content_good (Some n) = rw (value_bytes (number_text n) (number_digits n)) refl
+
+body_good : (s : ℕ) (size : Option ℕ) → list_all is_field (body_fields s size) ≡ true
+body_good s size = by (s == 204)
+  where
+    by : (none : Bool) → list_all is_field (if none then [] else content_fields size) ≡ true
+    by true = refl
+    by false = content_good size
 
 certificate_good : (cert : Option Cert) → list_all is_field (certificate_fields cert) ≡ true
 unfolding is_token_byte
@@ -140,14 +153,6 @@ unfolding is_token_byte
 close_good true = refl
 close_good false = refl
 
-left_of : (a b : Bool) → (a && b) ≡ true → a ≡ true
-left_of true b e = refl
-left_of false b e = e
-
-right_of : (a b : Bool) → (a && b) ≡ true → b ≡ true
-right_of true b e = e
-right_of false b e = absurd (let bad : false ≡ true = e in cc)
-
 true_field : (f : Field) → is_field f ≡ true → IsField f
 true_field f e =
     let name : is_token f.name ≡ true = left_of (is_token f.name) (list_all is_value_byte f.raw) e in
@@ -157,7 +162,7 @@ true_field f e =
       raw = AllPass-from_list_all is_value_byte f.raw (right_of (is_token f.name) (list_all is_value_byte f.raw) e);
     }
 
-fields_good : (s : StatusLine) (allow : Option Allow) (size : Option ℕ) (cert : Option Cert) (last : Bool) → All IsField (fields s allow size cert last)
+fields_good : (s : ℕ) (allow : Option Allow) (size : Option ℕ) (cert : Option Cert) (last : Bool) → All IsField (fields s allow size cert last)
 fields_good s allow size cert last =
     let all = joined is_field (body_fields s size) _ (body_good s size) (joined is_field (certificate_fields cert) _ (certificate_good cert) (joined is_field (allow_fields allow) (close_fields last) (allow_good allow) (close_good last))) in
     All-weaker (λ f. is_field f ≡ true) IsField true_field (fields s allow size cert last) (AllPass-from_list_all is_field (fields s allow size cert last) all)
@@ -179,11 +184,17 @@ values_apart name (f ∷ fs) ys = by (values_apart name fs ys) (eq_ignore_case f
 shown_apart : (xs ys : List Field) → shown (xs ++ ys) ≡ shown xs ++ shown ys
 shown_apart xs ys = ap (values (codes "x-discovery-certificate")) (map-append name_and_value xs ys) ∙ values_apart _ (map name_and_value xs) (map name_and_value ys)
 
-body_none : (s : StatusLine) (size : Option ℕ) → shown (body_fields s size) ≡ []
+content_none : (size : Option ℕ) → shown (content_fields size) ≡ []
 unfolding eq_ignore_case
-body_none status.NoContent size = refl
-body_none s None = refl
-body_none s (Some n) = refl
+content_none None = refl
+content_none (Some n) = refl
+
+body_none : (s : ℕ) (size : Option ℕ) → shown (body_fields s size) ≡ []
+body_none s size = by (s == 204)
+  where
+    by : (none : Bool) → shown (if none then [] else content_fields size) ≡ []
+    by true = refl
+    by false = content_none size
 
 allow_none : (allow : Option Allow) → shown (allow_fields allow) ≡ []
 unfolding eq_ignore_case
@@ -218,7 +229,7 @@ unfolding eq_ignore_case
 certificate_shown None fits = refl
 certificate_shown (Some c) fits = ap cert_spelled (trimmed c) ∙ spelled_again c fits
 
-fields_shown : (s : StatusLine) (allow : Option Allow) (size : Option ℕ) (cert : Option Cert) (last : Bool) → shown (fields s allow size cert last) ≡ shown (certificate_fields cert)
+fields_shown : (s : ℕ) (allow : Option Allow) (size : Option ℕ) (cert : Option Cert) (last : Bool) → shown (fields s allow size cert last) ≡ shown (certificate_fields cert)
 fields_shown s allow size cert last =
     shown_apart (body_fields s size) (certificate_fields cert ++ (allow_fields allow ++ close_fields last))
     ∙ (λ i. body_none s size i ++ (shown_apart (certificate_fields cert) (allow_fields allow ++ close_fields last)
@@ -227,68 +238,39 @@ fields_shown s allow size cert last =
 
 -- ---- the head
 
-abbrev code_of : StatusLine → List ℕ
-code_of s = take 3 (drop 9 (status_line s))
+abbrev tree : ℕ → Option Allow → Option ℕ → Option Cert → Bool → ResponseHead
+tree s allow size cert last = record { blank = []; minor = 1; digits = code_digits s; reason = Some (phrase s); line_end = crlf; fields = fields s allow size cert last; last = crlf }
 
-abbrev phrase_of : StatusLine → List ℕ
-phrase_of s = take (length (status_line s) - 15) (drop 13 (status_line s))
-
-abbrev tree : StatusLine → Option Allow → Option ℕ → Option Cert → Bool → ResponseHead
-tree s allow size cert last = record { blank = []; minor = 1; digits = code_of s; reason = Some (phrase_of s); line_end = crlf; fields = fields s allow size cert last; last = crlf }
-
--- the first line, as the grammar has it
-abbrev first_line : StatusLine → List ℕ
-first_line s = codes "HTTP/1.1 " ++ code_of s ++ codes " " ++ phrase_of s ++ codes "\r\n"
-
-record IsFirst (s : StatusLine) : Type 0 where
-  text : first_line s ≡ status_line s
-  three : length (code_of s) ≡ 3
-  code : list_all is_ascii_digit (code_of s) ≡ true
-  phrase : list_all is_value_byte (phrase_of s) ≡ true
-
-first : (s : StatusLine) → IsFirst s
+first : (s : ℕ) → codes "HTTP/1.1 " ++ code_digits s ++ codes " " ++ phrase s ++ codes "\r\n" ≡ status_line s
 unfolding status_line
-first status.Success = record { text = refl; three = refl; code = refl; phrase = refl }
-first status.NoContent = record { text = refl; three = refl; code = refl; phrase = refl }
-first status.BadRequest = record { text = refl; three = refl; code = refl; phrase = refl }
-first status.Forbidden = record { text = refl; three = refl; code = refl; phrase = refl }
-first status.NotFound = record { text = refl; three = refl; code = refl; phrase = refl }
-first status.MethodNotAllowed = record { text = refl; three = refl; code = refl; phrase = refl }
-first status.NotAcceptable = record { text = refl; three = refl; code = refl; phrase = refl }
-first status.PayloadTooLarge = record { text = refl; three = refl; code = refl; phrase = refl }
-first status.UnsupportedMediaType = record { text = refl; three = refl; code = refl; phrase = refl }
-first status.HeadTooLarge = record { text = refl; three = refl; code = refl; phrase = refl }
-first status.InternalServerError = record { text = refl; three = refl; code = refl; phrase = refl }
-first status.ServiceUnavailable = record { text = refl; three = refl; code = refl; phrase = refl }
+first s = refl
 
-lined : (code phrase text : List ℕ) → codes "HTTP/1." ++ 49 ∷ [] ++ 32 ∷ code ++ 32 ∷ phrase ++ codes "\r\n" ++ text ≡ codes "HTTP/1.1 " ++ code ++ codes " " ++ phrase ++ codes "\r\n" ++ text
-lined code phrase text = simp append_assoc
+lined : (code words text : List ℕ) → codes "HTTP/1." ++ 49 ∷ [] ++ 32 ∷ code ++ 32 ∷ words ++ codes "\r\n" ++ text ≡ codes "HTTP/1.1 " ++ code ++ codes " " ++ words ++ codes "\r\n" ++ text
+lined code words text = simp append_assoc
 
 in_turn : (s b c a l e : List ℕ) → s ++ ((b ++ (c ++ (a ++ l))) ++ e) ≡ s ++ b ++ c ++ a ++ l ++ e
 in_turn s b c a l e = simp append_assoc
 
-tree_printed : (s : StatusLine) (allow : Option Allow) (size : Option ℕ) (cert : Option Cert) (last : Bool) → print_response (tree s allow size cert last) ≡ reply_head s allow size cert last
+tree_printed : (s : ℕ) (allow : Option Allow) (size : Option ℕ) (cert : Option Cert) (last : Bool) → print_response (tree s allow size cert last) ≡ reply_head s allow size cert last
 unfolding print_response
 tree_printed s allow size cert last =
     let section = printed (fields s allow size cert last) ++ codes "\r\n" in
-    lined (code_of s) (phrase_of s) section
-    ∙ (λ i. (first s).text i ++ (fields_printed s allow size cert last i ++ codes "\r\n"))
+    lined (code_digits s) (phrase s) section
+    ∙ (λ i. first s i ++ (fields_printed s allow size cert last i ++ codes "\r\n"))
     ∙ in_turn (status_line s) (body_lines s size) (certificate_line cert) (allow_line allow) (close_line last) (codes "\r\n")
 
-tree_good : (s : StatusLine) (allow : Option Allow) (size : Option ℕ) (cert : Option Cert) (last : Bool) → IsResponseHead (tree s allow size cert last)
-tree_good s allow size cert last =
-    let is = first s in
-    record {
-      minor = omega arith;
-      digits = (is.three, AllPass-from_list_all is_ascii_digit (code_of s) is.code);
-      reason = AllPass-from_list_all is_value_byte (phrase_of s) is.phrase;
-      fields = fields_good s allow size cert last;
-    }
+tree_good : (s : ℕ) (allow : Option Allow) (size : Option ℕ) (cert : Option Cert) (last : Bool) → IsStatusCode s → IsResponseHead (tree s allow size cert last)
+tree_good s allow size cert last code = record {
+  minor = omega arith;
+  digits = (refl, AllPass-from_list_all is_ascii_digit (code_digits s) (digits_good s code.1));
+  reason = AllPass-from_list_all is_value_byte (phrase s) (phrase_good s code.1);
+  fields = fields_good s allow size cert last;
+}
 
 pub certificate_law : CertificateLaw
-certificate_law s allow size cert last behind rest h fits reads =
+certificate_law s allow size cert last behind rest h code fits reads =
     let made = tree s allow size cert last in
     let text = reply_head s allow size cert last ++ behind in
-    let own : ReadsResponse text made behind = (tree_good s allow size cert last, ap (λ x. x ++ behind) (sym (tree_printed s allow size cert last))) in
+    let own : ReadsResponse text made behind = (tree_good s allow size cert last code, ap (λ x. x ++ behind) (sym (tree_printed s allow size cert last))) in
     let same = response_unique text h made rest behind reads own in
     ap (λ (h : ResponseHead). only_cert (shown h.fields)) same.0 ∙ ap only_cert (fields_shown s allow size cert last) ∙ certificate_shown cert fits

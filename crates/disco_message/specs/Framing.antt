@@ -3,11 +3,10 @@ use Rattle.std.specs.Prelude.{ℕ, Bool, ◌&&◌, ◌||◌, List, [], ◌∷◌
 use Rattle.std.specs.Option.{option_map_or}
 use Rattle.std.specs.List.{list_all}
 use Rattle.std.specs.Str.{bytes_eq}
-use Rattle.http1.specs.Text.{eq_ignore_case}
 use Rattle.disco_values.specs.Digits.{digits_number}
 use Rattle.disco_values.specs.declared.fault.Fault.{Fault}
 use Rattle.disco_values.specs.declared.fault.Fault.TheVariants.{BadRequest, UnsupportedCoding}
-use Rattle.disco_message.specs.Fields.{values}
+use Rattle.disco_message.specs.Fields.{eq_ignore_case, values}
 use Rattle.disco_message.specs.declared.framing.Framing.{Framing}
 use Rattle.disco_message.specs.declared.framing.Framing.TheVariants.{Sized, Chunked}
 

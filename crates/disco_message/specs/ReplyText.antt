@@ -1,17 +1,15 @@
 -- The bytes of a reply (RFC 9112, sections 2 to 6).
-use Rattle.std.specs.Prelude.{ℕ, Bool, true, false, List, [], ◌∷◌, ◌++◌, Option, Some, None, option_map, if◌then◌else◌, ◌==◌, length, codes}
+use Rattle.std.specs.Prelude.{ℕ, Bool, true, false, List, [], ◌∷◌, ◌++◌, Option, Some, None, option_map, unwrap_or, if◌then◌else◌, ◌==◌, length, codes}
 use Rattle.std.specs.Option.{option_map_or}
 use Rattle.disco_values.specs.Digits.{digits}
 use Rattle.disco_values.specs.declared.cert.Cert.{Cert}
 use Rattle.disco_message.specs.declared.reply.Reply.{Reply}
 use Rattle.disco_message.specs.declared.status_line.Allow.{Allow}
-use Rattle.disco_message.specs.declared.status_line.StatusLine.{StatusLine}
-use Rattle.disco_message.specs.declared.status_line.StatusLine.TheVariants.{NoContent}
 use Rattle.disco_message.specs.StatusLine.{status_line, allowed}
 
 -- a reply as plain data: its status, what `Allow` lists, the bytes of its document, and the certificate of that
 pub record ReplyView : Type 0 where
-  pub status : StatusLine
+  pub status : ℕ
   pub allow : Option Allow
   pub document : Option (List ℕ)
   pub cert : Option Cert
@@ -47,22 +45,23 @@ unfoldable pub close_line : Bool → List ℕ
 close_line true = codes "Connection: close\r\n"
 close_line false = []
 
--- the lines on the body, which is that of a document of so many bytes, or empty; a 204 has none
-abbrev pub body_lines : StatusLine → Option ℕ → List ℕ
-body_lines NoContent size = []
-body_lines status None = length_line 0
-body_lines status (Some n) = type_line ++ length_line n
+-- the lines on a body, which is that of a document of so many bytes, or empty
+abbrev pub content_lines : Option ℕ → List ℕ
+content_lines None = length_line 0
+content_lines (Some n) = type_line ++ length_line n
+
+-- those of a reply: a 204 has no body
+abbrev pub body_lines : ℕ → Option ℕ → List ℕ
+body_lines status size = if status == 204 then [] else content_lines size
 
 -- the head of a reply with a document of so many bytes and this certificate, or with none; `last` says that the connection ends behind it
-abbrev pub reply_head : StatusLine → Option Allow → Option ℕ → Option Cert → Bool → List ℕ
+abbrev pub reply_head : ℕ → Option Allow → Option ℕ → Option Cert → Bool → List ℕ
 reply_head status allow size cert last = status_line status ++ body_lines status size ++ certificate_line cert ++ allow_line allow
     ++ close_line last ++ codes "\r\n"
 
 -- the body: the document, but for a 204
-abbrev pub reply_body : StatusLine → Option (List ℕ) → List ℕ
-reply_body NoContent document = []
-reply_body status None = []
-reply_body status (Some bytes) = bytes
+abbrev pub reply_body : ℕ → Option (List ℕ) → List ℕ
+reply_body status document = if status == 204 then [] else unwrap_or document []
 
 -- all bytes of a reply
 abbrev pub reply_text : ReplyView → Bool → List ℕ

@@ -1,6 +1,6 @@
 -- The path that a request's target names (RFC 9112, section 3.2).
 use Rattle.std.specs.Prelude.{ℕ, List, [], ◌∷◌, Option, Some, None, if◌then◌else◌, ◌==◌, ◌&&◌, ◌||◌, nat_le, length, take, drop, codes}
-use Rattle.http1.specs.Text.{eq_ignore_case}
+use Rattle.disco_message.specs.Fields.{eq_ignore_case}
 
 -- from the first `/` or `?` on
 abbrev pub from_path : List ℕ → List ℕ

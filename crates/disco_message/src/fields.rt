@@ -1,11 +1,18 @@
 //! The fields of a head, by their names.
 ghost use Rattle.std.specs.Prelude.{◌≡◌, ◌<◌, [], ◌∷◌, map, length, All, MatchOption, IfSome};
 ghost use Rattle.httparse.specs.Spans.{IsHeaderWithin, header_bytes};
-ghost use Rattle.disco_message.specs.Fields.{values};
+ghost use Rattle.disco_message.specs.Fields.{eq_ignore_case, values};
 ghost use Rattle.disco_message.specs.Few.{FewAre};
 
-use http1::text::eq_ignore_case;
 use httparse::spans::HeaderSpan;
+
+/// Whether two texts are the same, but for the case of ASCII letters.
+#[tactic(auto, unfolding(crate::specs::Fields::eq_ignore_case))]
+pub fn eq_ignore_case(a: &[u8], b: &[u8]) -> bool
+    ensures { result ≡ eq_ignore_case a.now b.now }
+{
+    a.eq_ignore_ascii_case(b)
+}
 
 /// The next value of a name, and the fields behind it.
 pub(crate) fn next_value<'a, 'f>(

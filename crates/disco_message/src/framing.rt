@@ -8,9 +8,8 @@ ghost use Rattle.disco_message.specs.Fields.{values};
 ghost use Rattle.disco_message.specs.Few.{FewAre};
 ghost use Rattle.disco_message.specs.Framing.{framing_of, has_host, stated, framed};
 
-use crate::fields::{Few, few_values, next_value};
+use crate::fields::{Few, eq_ignore_case, few_values, next_value};
 use disco_values::{Fault, number_of_digits};
-use http1::text::eq_ignore_case;
 use httparse::spans::HeaderSpan;
 
 /// How a body is framed (RFC 9112, section 6).

@@ -1,7 +1,8 @@
 //! The head of a request, kept.
-ghost use Rattle.std.specs.Prelude.{◌≡◌, ◌⊎◌, length, take, map, All, IfOk, IfErr, IsOk, Err};
+ghost use Rattle.std.specs.Prelude.{◌≡◌, ◌⊎◌, length, take, map, All, IfOk, IfErr, IsErrOf, IsOk, Err};
+ghost use Rattle.http_header.specs.Token.{IsToken};
 ghost use Rattle.httparse.specs.Grammar.{RequestHead};
-ghost use Rattle.httparse.specs.Spans.{IsRequestAt, IsRequestWithin, IsHeaderWithin, IsWithin, span_bytes, header_bytes};
+ghost use Rattle.httparse.specs.Spans.{IsRequestAt, IsRequestWithin, IsHeaderWithin, header_bytes};
 ghost use Rattle.disco_message.specs.Heading.{heading, closes};
 ghost use Rattle.disco_values.specs.declared.fault.Fault.TheVariants.{BadRequest, UnsupportedCoding, OutOfMemory};
 
@@ -11,15 +12,17 @@ use crate::lists::any_lists;
 use crate::room::{HeadRoom, refill_bytes, refill_spans};
 use crate::target::{Path, path_of};
 use disco_values::Fault;
+use http::Method;
+use http::method::MethodError;
 use httparse::spans::{HeaderSpan, RequestSpans};
-use std::alloc::AllocError;
+use std::alloc::{AllocError, Global};
 use std::marker::Model;
 
 /// The head of a request that may be read on. Contracts see what it says.
 #[derive(Debug, Drop)]
 pub struct Head {
+    method: Method,
     text: Vec<u8>,
-    line: RequestSpans,
     spans: Vec<HeaderSpan>,
     target: Vec<u8>,
     framing: Framing,
@@ -28,20 +31,20 @@ pub struct Head {
 
 impl Model for Head {
     ghost use Rattle.std.specs.Prelude.{length, map, All};
-    ghost use Rattle.httparse.specs.Spans.{IsHeaderWithin, IsWithin, span_bytes, header_bytes};
+    ghost use Rattle.httparse.specs.Spans.{IsHeaderWithin, header_bytes};
     ghost use Rattle.disco_message.specs.Heading.{Heading};
 
     ghost Value = { Heading };
 
     ghost view = { λ h. record {
-      method = span_bytes h.text.items h.line.method;
+      method = h.method;
       target = h.target.items;
       fields = map (header_bytes h.text.items) h.spans.items;
       framing = h.framing;
       closes = h.closes;
     } };
 
-    ghost invariant = { λ h. IsWithin (length h.text.items) h.line.method × All (IsHeaderWithin (length h.text.items)) h.spans.items };
+    ghost invariant = { λ h. All (IsHeaderWithin (length h.text.items)) h.spans.items };
 }
 
 /// Whether the connection ends behind the reply.
@@ -52,18 +55,32 @@ pub(crate) fn closes(text: &[u8], minor: u8, fields: &[HeaderSpan]) -> bool
     minor == 0 || any_lists(text, fields, b"connection", b"close")
 }
 
+/// The method of that name. A name that is no token has none.
+fn method_of(alloc: Global, name: &[u8]) -> Result<Method, Fault>
+    ensures method { IfOk result (λ method. method ≡ name.now) }
+    ensures invalid { IsErrOf result BadRequest → IsToken name.now → ⊥ }
+    ensures fault { IfErr result (λ fault. (fault ≡ BadRequest) ⊎ (fault ≡ OutOfMemory)) }
+{
+    match Method::from_bytes(alloc, name) {
+        Ok(method) => Ok(method),
+        Err(MethodError::Invalid) => Err(Fault::BadRequest),
+        Err(MethodError::OutOfMemory) => Err(Fault::OutOfMemory),
+    }
+}
+
 /// Copies a head out of the buffer that it was found in.
 fn copy(
     room: HeadRoom,
     buf: &[u8],
     spans: &[HeaderSpan],
     line: &RequestSpans,
+    method: Method,
     path: Path<'_>,
     framing: Framing,
     closes: bool,
 ) -> Result<Head, AllocError>
     requires { IsRequestWithin buf.now spans.now line.now }
-    ensures method { IfOk result (λ head. head.method ≡ span_bytes buf.now line.now.method) }
+    ensures method { IfOk result (λ head. head.method ≡ method) }
     ensures target { IfOk result (λ head. head.target ≡ path.entry) }
     ensures fields { IfOk result (λ head. head.fields ≡ map (header_bytes buf.now) (take line.now.headers spans.now)) }
     ensures framing { IfOk result (λ head. head.framing ≡ framing) }
@@ -78,8 +95,8 @@ fn copy(
     refill_bytes(&mut text, &buf[..line.len])?;
     refill_spans(&mut fields, &spans[..line.headers])?;
     Ok(Head {
+        method,
         text,
-        line: *line,
         spans: fields,
         target,
         framing,
@@ -97,6 +114,7 @@ impl Head {
     ///
     /// `BadRequest` or `UnsupportedCoding` for what the head says, and else `OutOfMemory`.
     pub fn new(
+        alloc: Global,
         room: HeadRoom,
         buf: &[u8],
         spans: &[HeaderSpan],
@@ -112,7 +130,8 @@ impl Head {
         };
         let framing = framed(buf, line.version, fields)?;
         let closes = closes(buf, line.version, fields);
-        match copy(room, buf, spans, line, path, framing, closes) {
+        let method = method_of(alloc, line.method.of(buf))?;
+        match copy(room, buf, spans, line, method, path, framing, closes) {
             Ok(head) => Ok(head),
             Err(AllocError) => Err(Fault::OutOfMemory),
         }
@@ -134,10 +153,10 @@ impl Head {
     }
 
     /// The method, as it stands in the request.
-    pub fn method(&self) -> &[u8]
+    pub fn method(&self) -> &Method
         ensures { result.now ≡ self.now.method }
     {
-        self.line.method.of(&self.text)
+        &self.method
     }
 
     /// The path with its query.

@@ -19,13 +19,14 @@ mod room;
 mod status_line;
 mod target;
 
-pub use fields::Values;
+pub use fields::{Values, eq_ignore_case};
 pub use framing::Framing;
 pub use head::Head;
+pub use http::{Method, StatusCode};
 pub use limits::Limits;
 pub use received::{Extent, ReceivedHead};
 pub use reply::{Document, Reply};
 pub use reply_head::{HEAD_ROOM, push_bytes, push_head};
 pub use request::Request;
 pub use room::HeadRoom;
-pub use status_line::{Allow, StatusLine, refusal};
+pub use status_line::{Allow, refusal};

@@ -2,9 +2,11 @@
 ghost use Rattle.std.specs.Prelude.{◌≡◌, ◌≤◌, ◌+◌, ◌++◌, codes, length, vec_len};
 ghost use Rattle.std.specs.Vec.{vec_capacity};
 ghost use Rattle.disco_message.specs.ReplyText.{number_text, type_line, length_line, certificate_line, allow_line, close_line, body_lines, reply_head};
+ghost use Rattle.disco_message.specs.StatusLine.{status_line};
 
-use crate::status_line::{Allow, StatusLine};
+use crate::status_line::{Allow, phrase};
 use disco_values::{Cert, push_digits};
+use http::StatusCode;
 
 /// Room in which the head of any reply fits, in bytes.
 pub const HEAD_ROOM: usize = 256;
@@ -47,6 +49,19 @@ fn close_line(last: bool) -> &'static [u8]
     ensures short { length result.now ≤ 19 }
 {
     if last { b"Connection: close\r\n" } else { b"" }
+}
+
+fn push_status(out: &mut Vec<u8>, status: StatusCode)
+    requires { vec_len out.old + 46 ≤ vec_capacity out.old }
+    ensures text { out.new.items ≡ out.old.items ++ status_line status }
+    ensures len { vec_len out.new ≤ vec_len out.old + 46 }
+    ensures capacity { vec_capacity out.old ≤ vec_capacity out.new }
+{
+    push_bytes(out, b"HTTP/1.1 ");
+    push_bytes(out, status.as_str().as_bytes());
+    push_bytes(out, b" ");
+    push_bytes(out, phrase(status).as_bytes());
+    push_bytes(out, b"\r\n");
 }
 
 fn push_length(out: &mut Vec<u8>, size: u64)
@@ -100,13 +115,13 @@ fn push_allow(out: &mut Vec<u8>, allow: Option<Allow>)
 }
 
 /// Pushes the lines on the body, which is that of a document of so many bytes, or empty.
-fn push_body_lines(out: &mut Vec<u8>, status: StatusLine, size: Option<u64>)
+fn push_body_lines(out: &mut Vec<u8>, status: StatusCode, size: Option<u64>)
     requires { vec_len out.old + 70 ≤ vec_capacity out.old }
     ensures text { out.new.items ≡ out.old.items ++ body_lines status size }
     ensures len { vec_len out.new ≤ vec_len out.old + 70 }
     ensures capacity { vec_capacity out.old ≤ vec_capacity out.new }
 {
-    if matches!(status, StatusLine::NoContent) {
+    if status.as_u16() == 204 {
         return;
     }
     match size {
@@ -122,7 +137,7 @@ fn push_body_lines(out: &mut Vec<u8>, status: StatusLine, size: Option<u64>)
 /// into room that is there; `last` says that the connection ends behind the reply. Takes no memory.
 pub fn push_head(
     out: &mut Vec<u8>,
-    status: StatusLine,
+    status: StatusCode,
     allow: Option<Allow>,
     size: Option<u64>,
     cert: Option<Cert>,
@@ -133,7 +148,7 @@ pub fn push_head(
     ensures len { vec_len out.new ≤ vec_len out.old + HEAD_ROOM }
     ensures capacity { vec_capacity out.old ≤ vec_capacity out.new }
 {
-    push_bytes(out, status.text());
+    push_status(out, status);
     push_body_lines(out, status, size);
     push_certificate(out, cert);
     push_allow(out, allow);

@@ -5,6 +5,7 @@ ghost use Rattle.disco_message.specs.RequestView.{request_view};
 use crate::fields::Values;
 use crate::head::Head;
 use crate::room::HeadRoom;
+use http::Method;
 use std::marker::Model;
 
 /// A whole request. Contracts see what it asks.
@@ -39,7 +40,7 @@ impl Request {
     }
 
     /// The method, as it stands in the request: `get` is another one than `GET`.
-    pub fn method(&self) -> &[u8]
+    pub fn method(&self) -> &Method
         ensures { result.now ≡ self.now.method }
     {
         self.head.method()

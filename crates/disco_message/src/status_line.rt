@@ -1,81 +1,41 @@
-//! Status lines, and what `Allow` says.
+//! Statuses, and what `Allow` says.
 ghost use Rattle.std.specs.Prelude.{◌≡◌, ◌≤◌, length};
-ghost use Rattle.disco_message.specs.StatusLine.{status_line, allowed, refusal};
+ghost use Rattle.disco_message.specs.StatusLine.{phrase, allowed, refusal};
 
 use disco_values::Fault;
+use http::StatusCode;
 
-/// The status lines that replies have (RFC 9110, section 15).
-#[derive(Clone, Copy, Debug, PartialEq, Eq)]
-pub enum StatusLine {
-    /// 200.
-    Success,
-    /// 204.
-    NoContent,
-    /// 400.
-    BadRequest,
-    /// 403.
-    Forbidden,
-    /// 404.
-    NotFound,
-    /// 405.
-    MethodNotAllowed,
-    /// 406.
-    NotAcceptable,
-    /// 413.
-    PayloadTooLarge,
-    /// 415.
-    UnsupportedMediaType,
-    /// 431.
-    HeadTooLarge,
-    /// 500.
-    InternalServerError,
-    /// 503.
-    ServiceUnavailable,
-}
-
-impl StatusLine {
-    /// The line with its end.
-    #[tactic(auto, unfolding(crate::specs::StatusLine::status_line))]
-    pub fn text(self) -> &'static [u8]
-        ensures text { result.now ≡ status_line self }
-        ensures short { length result.now ≤ 46 }
-    {
-        match self {
-            StatusLine::Success => b"HTTP/1.1 200 OK\r\n",
-            StatusLine::NoContent => b"HTTP/1.1 204 No Content\r\n",
-            StatusLine::BadRequest => b"HTTP/1.1 400 Bad Request\r\n",
-            StatusLine::Forbidden => b"HTTP/1.1 403 Forbidden\r\n",
-            StatusLine::NotFound => b"HTTP/1.1 404 Not Found\r\n",
-            StatusLine::MethodNotAllowed => b"HTTP/1.1 405 Method Not Allowed\r\n",
-            StatusLine::NotAcceptable => b"HTTP/1.1 406 Not Acceptable\r\n",
-            StatusLine::PayloadTooLarge => b"HTTP/1.1 413 Payload Too Large\r\n",
-            StatusLine::UnsupportedMediaType => b"HTTP/1.1 415 Unsupported Media Type\r\n",
-            StatusLine::HeadTooLarge => b"HTTP/1.1 431 Request Header Fields Too Large\r\n",
-            StatusLine::InternalServerError => b"HTTP/1.1 500 Internal Server Error\r\n",
-            StatusLine::ServiceUnavailable => b"HTTP/1.1 503 Service Unavailable\r\n",
-        }
+/// The reason phrase of a status, which is empty where it has none.
+pub(crate) fn phrase(status: StatusCode) -> &'static str
+    ensures text { result.now ≡ phrase status }
+    ensures short { length result.now ≤ 31 }
+{
+    prove!(status.as_u16() < 1000);
+    match status.canonical_reason() {
+        Some(phrase) => phrase,
+        None => "",
     }
 }
 
 /// The status of the reply to a request that was refused.
-pub fn refusal(fault: Fault) -> StatusLine
+pub fn refusal(fault: Fault) -> StatusCode
     ensures { result ≡ refusal fault }
 {
     match fault {
         Fault::OutOfMemory | Fault::VersionsSpent | Fault::TooManyInstances => {
-            StatusLine::ServiceUnavailable
+            StatusCode::SERVICE_UNAVAILABLE
         }
         Fault::BadJson | Fault::MissingField(_) | Fault::MismatchedApp | Fault::BadRequest => {
-            StatusLine::BadRequest
+            StatusCode::BAD_REQUEST
         }
-        Fault::NotFound => StatusLine::NotFound,
-        Fault::DeltaDisabled => StatusLine::Forbidden,
-        Fault::NotAcceptable => StatusLine::NotAcceptable,
-        Fault::HeadTooLarge => StatusLine::HeadTooLarge,
-        Fault::BodyTooLarge => StatusLine::PayloadTooLarge,
-        Fault::BadMethod => StatusLine::MethodNotAllowed,
-        Fault::UnsupportedCoding => StatusLine::UnsupportedMediaType,
-        _ => StatusLine::InternalServerError,
+        Fault::NotFound => StatusCode::NOT_FOUND,
+        Fault::DeltaDisabled => StatusCode::FORBIDDEN,
+        Fault::NotAcceptable => StatusCode::NOT_ACCEPTABLE,
+        Fault::HeadTooLarge => StatusCode::REQUEST_HEADER_FIELDS_TOO_LARGE,
+        Fault::BodyTooLarge => StatusCode::PAYLOAD_TOO_LARGE,
+        Fault::BadMethod => StatusCode::METHOD_NOT_ALLOWED,
+        Fault::UnsupportedCoding => StatusCode::UNSUPPORTED_MEDIA_TYPE,
+        _ => StatusCode::INTERNAL_SERVER_ERROR,
     }
 }
 

@@ -2,7 +2,7 @@
 ghost use Rattle.std.specs.Prelude.{◌≡◌};
 ghost use Rattle.disco_message.specs.Target.{path_of, behind_scheme, with_slash, from_path};
 
-use http1::text::eq_ignore_case;
+use crate::fields::eq_ignore_case;
 use std::alloc::AllocError;
 use std::marker::Model;
 
