@@ -10,7 +10,7 @@ ghost use Rattle.disco_follow.specs.Telling.{IsTold, IsToldCopy, copy_line, is_n
 use crate::lines::{changes_of, in_memory, up_of, write_copy, write_fault, write_unless_told};
 use crate::told::Told;
 use disco_client::Copy;
-use disco_http::{Failed, Sink, write_all};
+use disco_http::{Sink, write_all};
 use disco_reconcile::{Client, Fetch, Refreshed};
 use disco_values::{Fault, Text};
 use std::alloc::Global;
@@ -31,19 +31,6 @@ fn write_lines<W: Write>(
     let (run, version) = at;
     write_copy(told.is_news(changes), run, version, changes, out)?;
     write_unless_told(told.up.as_slice(), up, out)
-}
-
-/// Writes bytes.
-fn send<W: Sink>(bytes: &[u8], out: &mut W) -> Result<(), Fault>
-    ensures written { OnOk result (Appends (W.contents out.old) (W.contents out.new) bytes.now) }
-    ensures fault { IfErr result (λ e. e ≡ WriteFailed) }
-    ensures cause { Cause WriteFailed (W.failed out.old) (W.failed out.new) result }
-    ensures none_failed { OnOk result (W.failed out.new ≡ W.failed out.old) }
-{
-    match write_all(out, bytes) {
-        Ok(()) => Ok(()),
-        Err(Failed) => Err(Fault::WriteFailed),
-    }
 }
 
 /// The lines of a copy that changed so. Refused only as `OutOfMemory`.
@@ -99,7 +86,7 @@ fn tell_copy<W: Sink>(
     ensures none_failed { OnOk result (W.failed out.new ≡ W.failed out.old) }
 {
     let (text, now) = copy_told(alloc, vip, &told, at, copy)?;
-    send(text.as_slice(), out)?;
+    write_all(out, text.as_slice())?;
     Ok(now)
 }
 
@@ -130,7 +117,7 @@ fn tell_refusal<W: Sink>(
     ensures none_failed { OnOk result (W.failed out.new ≡ W.failed out.old) }
 {
     let text = line_of(alloc, &told, fault)?;
-    send(text.as_slice(), out)?;
+    write_all(out, text.as_slice())?;
     Ok(told.refused(fault))
 }
 

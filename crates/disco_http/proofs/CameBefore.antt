@@ -126,14 +126,14 @@ pieces_came limits [] input next b reads cut = subst (λ (xs : List ℕ). Came (
 pieces_came limits (piece ∷ pieces) input next b reads cut =
     chunk_came limits input piece reads.0 b reads.1 (pieces_came limits pieces reads.0 next b reads.2 cut)
 
+no_chunked : (limits : Limits) (given : List ℕ) → HasNoChunks limits given → HasNoBody limits Chunked given
+no_chunked limits given none body rest reads = none reads.0 reads.1 rest reads.2 reads.3
+
 -- behind the chunks so far
-pub behind_chunks : (limits : Limits) (body : List ℕ) (first left b : Option (List ℕ)) → IfSome first (λ input. PiecesSoFar limits body input left) → IfSome left (λ input. Came (HasNoChunks limits) input b) → IfSome first (λ input. Came (HasNoChunks limits) input b)
+pub behind_chunks : (limits : Limits) (body : List ℕ) (first left b : Option (List ℕ)) → IfSome first (λ input. PiecesSoFar limits body input left) → IfSome left (λ input. Came (HasNoChunks limits) input b) → IfSome first (λ input. Came (HasNoBody limits Chunked) input b)
 behind_chunks limits body None left b so cut = tt
 behind_chunks limits body (Some input) left b so cut =
-    pieces_came limits so.0 input so.1 b so.2 (known_is left so.1 (λ input. Came (HasNoChunks limits) input b) so.4 cut)
-
-pub no_chunked : (limits : Limits) (given : List ℕ) → HasNoChunks limits given → HasNoBody limits Chunked given
-no_chunked limits given none body rest reads = none reads.0 reads.1 rest reads.2 reads.3
+    came_so (HasNoBody limits Chunked) (Some input) b (HasNoChunks limits) (no_chunked limits) (pieces_came limits so.0 input so.1 b so.2 (known_is left so.1 (λ input. Came (HasNoChunks limits) input b) so.4 cut))
 
 -- requests
 

@@ -3,7 +3,7 @@
 #![tactic(auto)]
 
 mod ahead;
-mod chunks;
+mod bodies;
 mod fill;
 mod parts;
 mod reader;
@@ -16,7 +16,7 @@ mod source;
 mod whole;
 mod writer;
 
-pub use disco_message::Limits;
+pub use disco_message::{Allow, Document, Limits, Method, Reply, Request, StatusCode};
 pub use reader::Reader;
 pub use received::ReceivedReply;
 pub use replies::write_reply;

@@ -7,17 +7,17 @@ ghost use Rattle.disco_http.specs.Causes.{Raises};
 ghost use Rattle.disco_http.specs.Writes.{AppendsProperFront, WritesBytes};
 ghost use Rattle.disco_http.specs.Sinks.{is_writer_spent, sink_of};
 
-use crate::source::{Failed, Sink};
+use crate::source::Sink;
 use crate::whole::write_all;
 use crate::writer::{SMALL_BODY, Writer};
-use disco_message::{Document, Reply, StatusLine};
+use disco_message::{Document, Reply};
 use disco_values::Fault;
 
 /// The bytes of the document, but for a reply without content.
 fn body_of<D: Document>(reply: &Reply<D>) -> &[u8]
     ensures { result.now ≡ reply_body reply.now.status (option_map D.content reply.now.document) }
 {
-    if matches!(reply.status, StatusLine::NoContent) {
+    if reply.status.as_u16() == 204 {
         return b"";
     }
     match &reply.document {
@@ -42,9 +42,10 @@ fn send_reply<W: Sink, D: Document>(
     writer: &mut Writer<W>,
     reply: &Reply<D>,
     last: bool,
-) -> Result<(), Failed>
+) -> Result<(), Fault>
     ensures written { WritesBytes (W.contents (sink_of writer.old)) (W.contents (sink_of writer.new)) (W.failed (sink_of writer.old))
         (W.failed (sink_of writer.new)) result (reply_text (reply_view D.content reply.now) last) }
+    ensures fault { IfErr result (λ fault. fault ≡ WriteFailed) }
     ensures spent { is_writer_spent writer.new ≡ is_writer_spent writer.old }
 {
     let body = body_of(reply);
@@ -78,11 +79,7 @@ pub fn write_reply<W: Sink, D: Document>(
     ensures none_failed { OnOk result (W.failed (sink_of writer.new) ≡ W.failed (sink_of writer.old)) }
     ensures spent { is_writer_spent writer.new ≡ is_err result }
 {
-    match send_reply(writer, reply, last) {
-        Ok(()) => Ok(()),
-        Err(Failed) => {
-            writer.spend();
-            Err(Fault::WriteFailed)
-        }
-    }
+    let result = send_reply(writer, reply, last);
+    writer.spent = result.is_err();
+    result
 }

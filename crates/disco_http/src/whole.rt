@@ -1,7 +1,7 @@
 //! Whole inputs that are read from a source, and whole texts that are written to a sink.
 ghost use Rattle.std.specs.Prelude.{◌≡◌, ◌++◌, ◌<◌, ◌^◌, ◌⊎◌, ℕ, List, IfOk, IfErr, IfSome, IsFalse, IsTrue, OnOk, length, vec_len};
 ghost use Rattle.std.specs.Io.KnownBytes.{Consumes, IsAtEnd};
-ghost use Rattle.disco_values.specs.declared.fault.Fault.TheVariants.{OutOfMemory, ReadFailed};
+ghost use Rattle.disco_values.specs.declared.fault.Fault.TheVariants.{OutOfMemory, ReadFailed, WriteFailed};
 ghost use Rattle.disco_http.specs.Causes.{Cause};
 ghost use Rattle.disco_http.specs.Writes.{WritesBytes};
 
@@ -60,14 +60,17 @@ pub fn read_all<R: Source>(alloc: Global, source: &mut R) -> Result<Vec<u8>, Fau
 ///
 /// # Errors
 ///
-/// `Failed` where a write fails. Then a front of the bytes was written.
-pub fn write_all<W: Sink>(sink: &mut W, bytes: &[u8]) -> Result<(), Failed>
-    ensures { WritesBytes (W.contents sink.old) (W.contents sink.new) (W.failed sink.old) (W.failed sink.new) result bytes.now }
+/// `WriteFailed` where a write fails. Then a front of the bytes was written.
+pub fn write_all<W: Sink>(sink: &mut W, bytes: &[u8]) -> Result<(), Fault>
+    ensures written { WritesBytes (W.contents sink.old) (W.contents sink.new) (W.failed sink.old) (W.failed sink.new) result bytes.now }
+    ensures fault { IfErr result (λ e. e ≡ WriteFailed) }
 {
     let mut at = 0;
     while at < bytes.len() {
-        let count = sink.write(&bytes[at..])?;
-        at += count;
+        match sink.write(&bytes[at..]) {
+            Ok(count) => at += count,
+            Err(Failed) => return Err(Fault::WriteFailed),
+        }
     }
     Ok(())
 }

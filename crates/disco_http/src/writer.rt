@@ -3,9 +3,9 @@ ghost use Rattle.std.specs.Prelude.{◌≤◌, ◌+◌, vec_len};
 ghost use Rattle.std.specs.Vec.{vec_capacity};
 ghost use Rattle.disco_values.specs.declared.fault.Fault.TheVariants.{WriteFailed};
 
-use crate::source::{Failed, Sink};
+use crate::source::Sink;
 use crate::whole::write_all;
-use disco_message::{Allow, HEAD_ROOM, StatusLine, push_bytes, push_head};
+use disco_message::{Allow, HEAD_ROOM, StatusCode, push_bytes, push_head};
 use disco_values::{Cert, Fault};
 use std::alloc::{AllocError, Global};
 
@@ -87,7 +87,7 @@ impl<W: Sink> Writer<W> {
     /// Puts the head of a reply into the room.
     pub(crate) fn put_head(
         &mut self,
-        status: StatusLine,
+        status: StatusCode,
         allow: Option<Allow>,
         size: Option<u64>,
         cert: Option<Cert>,
@@ -114,9 +114,10 @@ impl<W: Sink> Writer<W> {
     }
 
     /// Writes what is in the room.
-    pub(crate) fn send(&mut self) -> Result<(), Failed>
+    pub(crate) fn send(&mut self) -> Result<(), Fault>
         ensures written { WritesBytes (W.contents self.old.sink) (W.contents self.new.sink) (W.failed self.old.sink) (W.failed self.new.sink) result
             self.old.room.items }
+        ensures fault { IfErr result (λ fault. fault ≡ WriteFailed) }
         ensures spent { self.new.spent ≡ self.old.spent }
     {
         write_all(&mut self.sink, &self.room)
@@ -136,12 +137,8 @@ impl<W: Sink> Writer<W> {
         ensures none_failed { OnOk result (W.failed (sink_of self.new) ≡ W.failed (sink_of self.old)) }
         ensures spent { is_writer_spent self.new ≡ is_err result }
     {
-        match write_all(&mut self.sink, bytes) {
-            Ok(()) => Ok(()),
-            Err(Failed) => {
-                self.spend();
-                Err(Fault::WriteFailed)
-            }
-        }
+        let result = write_all(&mut self.sink, bytes);
+        self.spent = result.is_err();
+        result
     }
 }

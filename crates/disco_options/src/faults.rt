@@ -9,7 +9,7 @@ ghost use Rattle.disco_values.specs.declared.fault.Fault.TheVariants.{OutOfMemor
 
 use clap::Error;
 use clap::error::ErrorKind;
-use disco_http::{Failed, Sink, write_all};
+use disco_http::{Sink, write_all};
 use disco_values::Fault;
 use itoa::Buffer;
 use std::alloc::Global;
@@ -17,7 +17,7 @@ use std::fmt::Display;
 use std::io;
 
 /// Writes a text, and a number behind it.
-fn write_number<E: Sink>(text: &[u8], number: u64, errors: &mut E) -> Result<(), Failed>
+fn write_number<E: Sink>(text: &[u8], number: u64, errors: &mut E) -> Result<(), Fault>
     ensures { WritesBytes (E.contents errors.old) (E.contents errors.new) (E.failed errors.old) (E.failed errors.new) result (text.now ++ decimal number) }
 {
     let mut digits = Buffer::new();
@@ -26,7 +26,7 @@ fn write_number<E: Sink>(text: &[u8], number: u64, errors: &mut E) -> Result<(),
 }
 
 /// Writes the end of a line behind a number.
-fn write_end<E: Sink>(text: &[u8], number: u64, errors: &mut E) -> Result<(), Failed>
+fn write_end<E: Sink>(text: &[u8], number: u64, errors: &mut E) -> Result<(), Fault>
     ensures { WritesBytes (E.contents errors.old) (E.contents errors.new) (E.failed errors.old) (E.failed errors.new) result
         (text.now ++ decimal number ++ codes "\n") }
 {
@@ -34,7 +34,7 @@ fn write_end<E: Sink>(text: &[u8], number: u64, errors: &mut E) -> Result<(), Fa
     write_all(errors, b"\n")
 }
 
-fn write_bad_line<E: Sink>(number: u64, line: u64, errors: &mut E) -> Result<(), Failed>
+fn write_bad_line<E: Sink>(number: u64, line: u64, errors: &mut E) -> Result<(), Fault>
     ensures { WritesBytes (E.contents errors.old) (E.contents errors.new) (E.failed errors.old) (E.failed errors.new) result
         (codes "discovery: fault " ++ decimal number ++ codes " at line " ++ decimal line ++ codes "\n") }
 {
@@ -42,7 +42,7 @@ fn write_bad_line<E: Sink>(number: u64, line: u64, errors: &mut E) -> Result<(),
     write_end(b" at line ", line, errors)
 }
 
-fn write_report<E: Sink>(fault: &Fault, errors: &mut E) -> Result<(), Failed>
+fn write_report<E: Sink>(fault: &Fault, errors: &mut E) -> Result<(), Fault>
     ensures { WritesBytes (E.contents errors.old) (E.contents errors.new) (E.failed errors.old) (E.failed errors.new) result (report_line fault.now) }
 {
     let number = fault.number() as u64;
@@ -61,7 +61,7 @@ pub fn report<E: Sink>(fault: &Fault, errors: &mut E) -> u8
 {
     match write_report(fault, errors) {
         Ok(()) => 1,
-        Err(Failed) => 1,
+        Err(_) => 1,
     }
 }
 
@@ -111,10 +111,7 @@ fn show<D: Display + Drop, W: Sink>(alloc: Global, text: D, out: &mut W) -> Resu
     ensures { OnOk result (IfSome (D.output text) (Appends (W.contents out.old) (W.contents out.new))) }
 {
     let text = format!(in alloc; "{text}")?;
-    match write_all(out, text.as_bytes()) {
-        Ok(()) => Ok(()),
-        Err(Failed) => Err(Fault::WriteFailed),
-    }
+    write_all(out, text.as_bytes())
 }
 
 /// Shows what a command line that gave no settings is answered with, and gives the status: help on

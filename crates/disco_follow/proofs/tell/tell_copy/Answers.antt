@@ -6,5 +6,5 @@ pub returns-clause-told : goal.returns-clause-told
 returns-clause-told g c = (
   c.in_ok-text.text.items,
   c.in_ok-text.ensures.told,
-  subst (Appends (g.W.Sink.contents c.args.out.now) (g.W.Sink.contents c.send.new.out)) c.as_slice.ensures.value c.in_ok-send.ensures.written,
+  subst (Appends (g.W.Sink.contents c.args.out.now) (g.W.Sink.contents c.write_all.new.sink)) c.as_slice.ensures.value c.in_ok-write_all.ensures.written.0,
 )

@@ -27,4 +27,4 @@ returns-clause-written g c =
     let first = sink_of c.args.writer.now in
     let mid = sink_of c.send-2.new.self in
     let sent : Appends (g.W.Sink.contents first) (g.W.Sink.contents mid) head × (g.W.Sink.failed mid ≡ g.W.Sink.failed first) = search rules in
-    then_written c.write_all.result _ _ _ _ _ _ head (reply_body reply.status document) sent (rw c.body_of-body.ensures at c.write_all.ensures)
+    then_written c.write_all.result _ _ _ _ _ _ head (reply_body reply.status document) sent (rw c.body_of-body.ensures at c.write_all.ensures.written)

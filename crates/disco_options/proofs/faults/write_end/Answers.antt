@@ -10,4 +10,4 @@ returns-in_err-write_number g c =
     not_written c.from_residual.result p.0 _ _ _ _ (c.args.text.now ++ decimal c.args.number) (codes "\n") p.1 c.in_err-write_number.ensures
 
 pub returns : goal.returns
-returns g c = then_written c.write_all.result _ _ _ _ _ _ (c.args.text.now ++ decimal c.args.number) (codes "\n") c.in_ok-write_number.ensures c.write_all.ensures
+returns g c = then_written c.write_all.result _ _ _ _ _ _ (c.args.text.now ++ decimal c.args.number) (codes "\n") c.in_ok-write_number.ensures c.write_all.ensures.written

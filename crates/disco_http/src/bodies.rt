@@ -1,15 +1,20 @@
-//! Bodies in chunks.
-ghost use Rattle.std.specs.Prelude.{◌≡◌, ◌+◌, ◌≤◌, ◌<◌, ◌^◌, ◌++◌, [], ℕ, List, length, vec_len, IfOk, IfErr, IfSome, IsErrOf, Some, OnOk, IsTrue, ◌↔◌, drop};
+//! Bodies that are read: of so many bytes, in chunks, or up to the end of the input.
+ghost use Rattle.std.specs.Prelude.{◌≡◌, ◌⊎◌, ◌+◌, ◌≤◌, ◌<◌, ◌^◌, ◌++◌, ◌↔◌, [], ℕ, List, Some, IsTrue, drop, length, vec_len};
+ghost use Rattle.std.specs.Prelude.{IfOk, IfErr, IfSome, IsErrOf, OnOk};
 ghost use Rattle.std.specs.Io.KnownBytes.{Consumes};
 ghost use Rattle.httparse.specs.Ascii.{crlf_bytes};
-ghost use Rattle.disco_values.specs.declared.fault.Fault.TheVariants.{ReadFailed};
-ghost use Rattle.disco_message.specs.declared.framing.Framing.TheVariants.{Chunked};
+ghost use Rattle.disco_values.specs.declared.fault.Fault.TheVariants.{BodyTooLarge, OutOfMemory, ReadFailed};
+ghost use Rattle.disco_message.specs.declared.framing.Framing.TheVariants.{Chunked, Sized};
+ghost use Rattle.disco_message.specs.declared.received.Extent.TheVariants.{UntilEnd};
 ghost use Rattle.disco_http.specs.Causes.{Cause, is_of_reply};
 
 use crate::parts::{Found, Part};
 use crate::reader::Reader;
-use crate::source::Source;
+use crate::source::{Source, Stage};
+use disco_message::{Extent, Framing};
 use disco_values::Fault;
+use std::alloc::Global;
+use std::mem;
 
 /// Whether a line end stands from a place on, and nothing behind it.
 fn is_line_end(bytes: &[u8], from: usize) -> bool
@@ -22,7 +27,7 @@ fn is_line_end(bytes: &[u8], from: usize) -> bool
 impl<R: Source> Reader<R> {
     ghost use Rattle.disco_http.specs.Bodies.{ReadsBody};
     ghost use Rattle.disco_http.specs.Chunks.{HasSize, ReadsTrailer, NextRefused, ChunksRefused};
-    ghost use Rattle.disco_http.specs.Found.{HasNoChunks, SizeRefused, DataRefused, TrailerRefused, Turn};
+    ghost use Rattle.disco_http.specs.Found.{HasNoBody, HasNoChunks, SizeRefused, DataRefused, TrailerRefused, Turn};
     ghost use Rattle.disco_http.specs.Parts.{HasNo};
     ghost use Rattle.disco_http.specs.Streams.{ahead, Came};
     ghost use Rattle.disco_http.specs.declared.parts.Part.TheVariants.{SizeLine, Trailer};
@@ -118,13 +123,13 @@ impl<R: Source> Reader<R> {
     }
 
     /// Reads a body in chunks, into room for it.
-    pub(crate) fn read_chunks(&mut self, empty: Vec<u8>) -> Result<Vec<u8>, Fault>
+    fn read_chunks(&mut self, empty: Vec<u8>) -> Result<Vec<u8>, Fault>
         requires { empty.items ≡ [] }
         ensures body { IfOk result (λ body. IfSome (ahead R.remaining self.old) (λ after.
             (rest : List ℕ) × ReadsBody self.old.limits Chunked after body.items rest × (ahead R.remaining self.new ≡ Some rest))) }
         ensures refused { IfErr result (λ fault. IfSome (ahead R.remaining self.old) (ChunksRefused self.old.limits fault)) }
         ensures broken { IsErrOf result ReadFailed → IfSome (ahead R.remaining self.old) (λ after.
-            Came (HasNoChunks self.old.limits) after (R.remaining self.new.source)) }
+            Came (HasNoBody self.old.limits Chunked) after (R.remaining self.new.source)) }
         ensures limits { self.new.limits ≡ self.old.limits }
         ensures fault { IfErr result (λ fault. IsTrue (is_of_reply fault)) }
         ensures cause { Cause ReadFailed (R.failed self.old.source) (R.failed self.new.source) result }
@@ -134,5 +139,98 @@ impl<R: Source> Reader<R> {
         while self.read_chunk(&mut body)? {}
         self.skip_trailer()?;
         Ok(body)
+    }
+}
+
+impl<R: Source> Reader<R> {
+    ghost use Rattle.disco_http.specs.Bodies.{ReadsBody, BodyRefused};
+    ghost use Rattle.disco_http.specs.Found.{HasNoBody, HasNoExtent};
+    ghost use Rattle.disco_http.specs.Replies.{ReadsExtent, ExtentRefused};
+    ghost use Rattle.disco_http.specs.Streams.{ahead, unread, Came};
+
+    /// Reads a body of so many bytes.
+    fn read_sized(&mut self, empty: Vec<u8>, size: u64) -> Result<Vec<u8>, Fault>
+        requires { empty.items ≡ [] }
+        ensures body { IfOk result (λ body. IfSome (ahead R.remaining self.old) (λ after.
+            (rest : List ℕ) × ReadsBody self.old.limits (Sized size) after body.items rest × (ahead R.remaining self.new ≡ Some rest))) }
+        ensures refused { IfErr result (λ fault. IfSome (ahead R.remaining self.old) (BodyRefused self.old.limits (Sized size) fault)) }
+        ensures broken { IsErrOf result ReadFailed → IfSome (ahead R.remaining self.old) (λ after.
+            Came (HasNoBody self.old.limits (Sized size)) after (R.remaining self.new.source)) }
+        ensures limits { self.new.limits ≡ self.old.limits }
+        ensures fault { IfErr result (λ fault. IsTrue (is_of_reply fault)) }
+        ensures cause { Cause ReadFailed (R.failed self.old.source) (R.failed self.new.source) result }
+        ensures none_failed { OnOk result (R.failed self.new.source ≡ R.failed self.old.source) }
+    {
+        if size > self.limits.body {
+            return Err(Fault::BodyTooLarge);
+        }
+        let mut body = empty;
+        self.append(&mut body, size as usize)?;
+        Ok(body)
+    }
+
+    /// Appends what was read to a body, unless it grows past the limit.
+    fn append_all(&mut self, body: &mut Vec<u8>) -> Result<(), Fault>
+        requires { vec_len body.old ≤ self.old.limits.body }
+        ensures taken { OnOk result (Consumes (ahead R.remaining self.old) (ahead R.remaining self.new) (unread self.old)) }
+        ensures body { OnOk result (body.new.items ≡ body.old.items ++ unread self.old) }
+        ensures empty { OnOk result (self.new.start ≡ self.new.end) }
+        ensures fits { OnOk result (vec_len body.new ≤ self.old.limits.body) }
+        ensures refused { IfErr result (λ fault. (fault ≡ OutOfMemory)
+            ⊎ ((fault ≡ BodyTooLarge) × (self.old.limits.body < vec_len body.old + length (unread self.old)))) }
+        ensures source { self.new.source ≡ self.old.source }
+        ensures limits { self.new.limits ≡ self.old.limits }
+    {
+        let count = self.end - self.start;
+        if count as u64 > self.limits.body - body.len() as u64 {
+            return Err(Fault::BodyTooLarge);
+        }
+        self.append_unread(body, count)?;
+        Ok(())
+    }
+
+    /// Reads a body up to the end of the input.
+    fn read_to_end(&mut self, empty: Vec<u8>) -> Result<Vec<u8>, Fault>
+        requires { empty.items ≡ [] }
+        ensures body { IfOk result (λ body. IfSome (ahead R.remaining self.old) (λ after.
+            (rest : List ℕ) × ReadsExtent self.old.limits UntilEnd after body.items rest × (ahead R.remaining self.new ≡ Some rest))) }
+        ensures refused { IfErr result (λ fault. IfSome (ahead R.remaining self.old) (ExtentRefused self.old.limits UntilEnd fault)) }
+        ensures broken { IsErrOf result ReadFailed → IfSome (ahead R.remaining self.old) (λ after.
+            Came (HasNoExtent self.old.limits UntilEnd) after (R.remaining self.new.source)) }
+        ensures limits { self.new.limits ≡ self.old.limits }
+        ensures fault { IfErr result (λ fault. IsTrue (is_of_reply fault)) }
+        ensures cause { Cause ReadFailed (R.failed self.old.source) (R.failed self.new.source) result }
+        ensures none_failed { OnOk result (R.failed self.new.source ≡ R.failed self.old.source) }
+    {
+        let mut body = empty;
+        self.append_all(&mut body)?;
+        while self.more()? {
+            self.append_all(&mut body)?;
+        }
+        Ok(body)
+    }
+
+    /// Reads the body behind a head, into room that is kept for it.
+    pub(crate) fn read_body(&mut self, alloc: Global, extent: Extent) -> Result<Vec<u8>, Fault>
+        ensures body { IfOk result (λ body. IfSome (ahead R.remaining self.old) (λ after.
+            (rest : List ℕ) × ReadsExtent self.old.limits extent after body.items rest × (ahead R.remaining self.new ≡ Some rest))) }
+        ensures refused { IfErr result (λ fault. IfSome (ahead R.remaining self.old) (ExtentRefused self.old.limits extent fault)) }
+        ensures broken { IsErrOf result ReadFailed → IfSome (ahead R.remaining self.old) (λ after.
+            Came (HasNoExtent self.old.limits extent) after (R.remaining self.new.source)) }
+        ensures limits { self.new.limits ≡ self.old.limits }
+        ensures fault { IfErr result (λ fault. IsTrue (is_of_reply fault)) }
+        ensures cause { Cause ReadFailed (R.failed self.old.source) (R.failed self.new.source) result }
+        ensures none_failed { OnOk result (R.failed self.new.source ≡ R.failed self.old.source) }
+    {
+        self.source.expect(Stage::Body);
+        let mut empty = mem::replace(&mut self.body, Vec::new(alloc));
+        empty.clear();
+        match extent {
+            Extent::Framed(framing) => match framing {
+                Framing::Sized(size) => self.read_sized(empty, size),
+                Framing::Chunked => self.read_chunks(empty),
+            },
+            Extent::UntilEnd => self.read_to_end(empty),
+        }
     }
 }
