@@ -1,10 +1,9 @@
 -- What a reader accepts.
 use Rattle.std.specs.Prelude.{ℕ, Bool, false, not, ◌&&◌, ◌||◌, List, [], ◌∷◌, length, take, nat_le, if◌then◌else◌, codes}
 use Rattle.std.specs.List.{list_any}
-use Rattle.http1.specs.Text.{eq_ignore_case}
 use Rattle.disco_values.specs.declared.form.Form.{Form}
 use Rattle.disco_values.specs.declared.form.Form.TheVariants.{Full, Compact}
-use Rattle.disco_message.specs.Fields.{values}
+use Rattle.disco_message.specs.Fields.{eq_ignore_case, values}
 
 -- the value begins with the word, in any case
 abbrev pub begins : List ℕ → List ℕ → Bool

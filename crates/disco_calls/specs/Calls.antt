@@ -1,7 +1,7 @@
 -- What a request asks for, or why it is refused (Eureka's REST operations; the order of refusals is this project's own rule).
-use Rattle.std.specs.Prelude.{ℕ, List, Result, Ok, Err, if◌then◌else◌}
+use Rattle.std.specs.Prelude.{ℕ, List, Result, Ok, Err, if◌then◌else◌, codes}
 use Rattle.std.specs.Option.{ok_or}
-use Rattle.std.specs.Str.{is_utf8}
+use Rattle.std.specs.Str.{bytes_eq, is_utf8}
 use Rattle.disco_values.specs.declared.doc_key.DocKey.{DocKey}
 use Rattle.disco_values.specs.Text.{in_upper_case}
 use Rattle.disco_values.specs.declared.fault.Fault.{Fault}
@@ -20,14 +20,12 @@ use Rattle.disco_values.specs.declared.query.Query.{Query}
 use Rattle.disco_values.specs.declared.query.Query.TheVariants as query
 use Rattle.disco_calls.specs.Accept.{form_of, takes_json}
 use Rattle.disco_calls.specs.Decoding.{decoded}
-use Rattle.disco_calls.specs.Methods.{allow_of, lists_method, method_of}
+use Rattle.disco_calls.specs.Methods.{allow_of, lists_method}
 use Rattle.disco_calls.specs.Query.{path_in, query_in}
 use Rattle.disco_operations.specs.Operations.{key_named, registers}
 use Rattle.disco_operations.specs.Query.{entries_of_query, value_of}
 use Rattle.disco_calls.specs.declared.call.Call.{Call}
 use Rattle.disco_calls.specs.declared.call.Call.TheVariants as calls
-use Rattle.disco_calls.specs.declared.method.Method.{Method}
-use Rattle.disco_calls.specs.declared.method.Method.TheVariants.{Get, Post, Put, Delete, Other}
 
 -- what is asked for: a document that readers may share, that of an instance, that of the instance of an id, an operation, or nothing, since the path
 -- has these methods alone
@@ -81,20 +79,24 @@ delete_of _ q = Err BadMethod
 abbrev pub writing : Result OpView Fault → Result CallView Fault
 writing asked = if_ok asked (λ ask. Ok (writes ask))
 
--- what a method asks for at a place
-abbrev pub call_by : Method → Place (List ℕ) → RequestView → List ℕ → Result CallView Fault
-call_by Get place a q = if takes_json a.fields then read_of place (form_of a.fields) else Err NotAcceptable
-call_by Post place a q = writing (post_of place a.body)
-call_by Put place a q = writing (put_call place q)
-call_by Delete place a q = writing (delete_of place q)
-call_by Other place a q = Err BadMethod
+-- GET: refused where the reader of a document takes XML alone
+abbrev pub get_of : Place (List ℕ) → RequestView → Result CallView Fault
+get_of place a = if takes_json a.fields then read_of place (form_of a.fields) else Err NotAcceptable
 
--- what a method asks for at a place whose names are still encoded: the method is looked at first, then whether the names are text
-abbrev pub called : Method → Place (List ℕ) → RequestView → List ℕ → Result CallView Fault
-called method place a q = if lists_method (allow_of place) method then if_ok (ok_or (decoded place) BadRequest) (λ p. call_by method p a q)
+-- what a request with this query asks for at a place, by its method
+abbrev pub call_by : Place (List ℕ) → RequestView → List ℕ → Result CallView Fault
+call_by place a q =
+    if bytes_eq a.method (codes "GET") then get_of place a
+    else (if bytes_eq a.method (codes "POST") then writing (post_of place a.body)
+    else (if bytes_eq a.method (codes "PUT") then writing (put_call place q)
+    else (if bytes_eq a.method (codes "DELETE") then writing (delete_of place q) else Err BadMethod)))
+
+-- the same at a place whose names are still encoded: the method is looked at first, then whether the names are text
+abbrev pub called : Place (List ℕ) → RequestView → List ℕ → Result CallView Fault
+called place a q = if lists_method (allow_of place) a.method then if_ok (ok_or (decoded place) BadRequest) (λ p. call_by p a q)
     else Ok (lacks (allow_of place))
 
 -- what a request asks for, or why it is refused
 abbrev pub call : RequestView → Result CallView Fault
 call a = if is_utf8 (path_in a.target)
-    then if_ok (ok_or (path_place (path_in a.target)) NotFound) (λ place. called (method_of a.method) place a (query_in a.target)) else Err BadRequest
+    then if_ok (ok_or (path_place (path_in a.target)) NotFound) (λ place. called place a (query_in a.target)) else Err BadRequest

@@ -3,9 +3,8 @@ ghost use Rattle.std.specs.Prelude.{◌≡◌, codes};
 ghost use Rattle.disco_message.specs.Fields.{values};
 ghost use Rattle.disco_calls.specs.Accept.{begins, form_of, has_word, have_word, takes_json};
 
-use disco_message::Request;
+use disco_message::{Request, eq_ignore_case};
 use disco_values::Form;
-use http1::text::eq_ignore_case;
 
 /// Whether a value begins with a word, in any case.
 fn begins(value: &[u8], word: &[u8]) -> bool

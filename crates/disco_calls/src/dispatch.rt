@@ -1,26 +1,23 @@
 //! From a request to what it asks for.
-ghost use Rattle.std.specs.Prelude.{[]};
 ghost use Rattle.disco_instance.specs.Instance.{Gives};
 ghost use Rattle.disco_registry.specs.Op.{op_view};
 ghost use Rattle.disco_calls.specs.Places.{place_view};
-ghost use Rattle.disco_calls.specs.declared.method.Method.TheVariants.{Get};
-ghost use Rattle.disco_calls.specs.Calls.{call, call_by, called, delete_of, post_of, put_call, read_of, call_view};
+ghost use Rattle.disco_calls.specs.Calls.{call, call_by, called, delete_of, get_of, post_of, put_call, read_of, call_view};
 
 use crate::accept::{form_of, takes_json};
 use crate::call::Call;
-use crate::method::{Method, allow_of, lists, method_of};
+use crate::method::{allow_of, lists};
 use crate::names::decoded;
 use crate::place::Place;
 use crate::query::split_target;
 use crate::routes::Routes;
 use disco_message::Request;
 use disco_operations::{
-    add_metadata, cancel, drop_status, entries_of_query, key_named, register_with, renew,
-    set_status, value_of,
+    add_metadata, cancel, drop_status, entries_of_query, key_named, register, renew, set_status,
+    value_of,
 };
 use disco_registry::Op;
 use disco_values::{DocKey, Fault, Form, Query, Text, upper};
-use json::Scratch;
 use std::alloc::Global;
 use std::str;
 
@@ -45,7 +42,7 @@ fn read_of(alloc: Global, place: Place<Text>, form: Form) -> Result<Call, Fault>
 
 /// What a GET asks for.
 fn call_of_get(alloc: Global, place: Place<Text>, request: &Request) -> Result<Call, Fault>
-    ensures { Gives call_view result (call_by Get place request.now []) }
+    ensures { Gives call_view result (get_of place request.now) }
 {
     if !takes_json(request) {
         return Err(Fault::NotAcceptable);
@@ -54,16 +51,11 @@ fn call_of_get(alloc: Global, place: Place<Text>, request: &Request) -> Result<C
 }
 
 /// What a POST with a body asks for.
-fn post_of(
-    alloc: Global,
-    place: Place<Text>,
-    body: &[u8],
-    scratch: &mut Scratch,
-) -> Result<Op, Fault>
+fn post_of(alloc: Global, place: Place<Text>, body: &[u8]) -> Result<Op, Fault>
     ensures { Gives op_view result (post_of place body.now) }
 {
     match place {
-        Place::App { app } => register_with(alloc, &app, body, scratch),
+        Place::App { app } => register(alloc, &app, body),
         _ => Err(Fault::BadMethod),
     }
 }
@@ -96,43 +88,39 @@ fn delete_of(alloc: Global, place: Place<Text>, query: &[u8]) -> Result<Op, Faul
     }
 }
 
-/// What a method asks for at a place.
+/// What a request with this query asks for at a place, by its method.
 fn call_by(
     alloc: Global,
-    method: Method,
     place: Place<Text>,
     request: &Request,
     query: &[u8],
-    scratch: &mut Scratch,
 ) -> Result<Call, Fault>
-    ensures { Gives call_view result (call_by method place request.now query.now) }
+    ensures { Gives call_view result (call_by place request.now query.now) }
 {
-    match method {
-        Method::Get => call_of_get(alloc, place, request),
-        Method::Post => Ok(Call::Write(post_of(alloc, place, request.body(), scratch)?)),
-        Method::Put => Ok(Call::Write(put_of(alloc, place, query)?)),
-        Method::Delete => Ok(Call::Write(delete_of(alloc, place, query)?)),
-        Method::Other => Err(Fault::BadMethod),
+    match request.method().as_str() {
+        "GET" => call_of_get(alloc, place, request),
+        "POST" => Ok(Call::Write(post_of(alloc, place, request.body())?)),
+        "PUT" => Ok(Call::Write(put_of(alloc, place, query)?)),
+        "DELETE" => Ok(Call::Write(delete_of(alloc, place, query)?)),
+        _ => Err(Fault::BadMethod),
     }
 }
 
-/// What a method asks for at a place whose names are still encoded.
+/// What a request with this query asks for at a place whose names are still encoded.
 fn call_at(
     alloc: Global,
-    method: Method,
     place: Place<&[u8]>,
     request: &Request,
     query: &[u8],
-    scratch: &mut Scratch,
 ) -> Result<Call, Fault>
-    ensures { Gives call_view result (called method (place_view place.entry) request.now query.now) }
+    ensures { Gives call_view result (called (place_view place.entry) request.now query.now) }
 {
     let allow = allow_of(&place);
-    if !lists(allow, method) {
+    if !lists(allow, request.method().as_str()) {
         return Ok(Call::Lacks(allow));
     }
     match decoded(alloc, place)? {
-        Some(place) => call_by(alloc, method, place, request, query, scratch),
+        Some(place) => call_by(alloc, place, request, query),
         None => Err(Fault::BadRequest),
     }
 }
@@ -149,33 +137,12 @@ fn call_at(
 pub fn call_of(alloc: Global, routes: &Routes, request: &Request) -> Result<Call, Fault>
     ensures { Gives call_view result (call request.now) }
 {
-    let mut scratch = Scratch::new(alloc);
-    call_of_with(alloc, routes, request, &mut scratch)
-}
-
-/// What a request asks for, as [`call_of`] tells it. The room that reading a registration needs is
-/// lent, so that who reads many makes it once.
-///
-/// # Errors
-///
-/// As of [`call_of`].
-pub fn call_of_with(
-    alloc: Global,
-    routes: &Routes,
-    request: &Request,
-    scratch: &mut Scratch,
-) -> Result<Call, Fault>
-    ensures { Gives call_view result (call request.now) }
-{
     let (path, query) = split_target(request.target());
     let Ok(path) = str::from_utf8(path) else {
         return Err(Fault::BadRequest);
     };
     match routes.find(path) {
-        Some(place) => {
-            let method = method_of(request.method());
-            call_at(alloc, method, place, request, query, scratch)
-        }
+        Some(place) => call_at(alloc, place, request, query),
         None => Err(Fault::NotFound),
     }
 }

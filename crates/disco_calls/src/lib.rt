@@ -16,6 +16,6 @@ mod route;
 mod routes;
 
 pub use call::Call;
-pub use dispatch::{call_of, call_of_with};
+pub use dispatch::call_of;
 pub use place::Place;
 pub use routes::Routes;
