@@ -27,7 +27,6 @@ use Rattle.disco_registry.specs.Op.{OpView}
 use Rattle.disco_registry.specs.declared.op.Applied.{Applied}
 use Rattle.disco_registry.proofs.Histories.{accepts_after}
 use Rattle.disco_message.specs.declared.status_line.Allow.{Allow}
-use Rattle.disco_message.specs.declared.status_line.StatusLine.TheVariants.{MethodNotAllowed}
 use Rattle.disco_calls.specs.Calls.{CallView, loads, shows, shows_id, writes, lacks}
 use Rattle.disco_server.specs.Replies.{IsAnswered, IsReply, Replies, ShowsDocument, IsDone, plain, refusal_answer, success_of, with_document}
 
@@ -87,7 +86,7 @@ module _ (old new : HubState) (now : ℕ) (y : ReplyView) where
       ]
 
 -- a path that lacks the method
-pub lacked : (s : HubState) (allow : Allow) (now : ℕ) (y : ReplyView) → y ≡ record { status = MethodNotAllowed; allow = Some allow; document = None; cert = None } → IsAnswered s s (Ok (lacks allow)) now y
+pub lacked : (s : HubState) (allow : Allow) (now : ℕ) (y : ReplyView) → y ≡ record { status = 405; allow = Some allow; document = None; cert = None } → IsAnswered s s (Ok (lacks allow)) now y
 lacked s allow now y is = λ p stands. (p, inl (is, refl), stands)
 
 -- a request that is refused for itself

@@ -14,8 +14,6 @@ use Rattle.disco_core.specs.State.{Rules}
 use Rattle.disco_hub.specs.State.{MayServe, HubStandsFor, HubState, rules_of}
 use Rattle.disco_message.specs.ReplyText.{ReplyView}
 use Rattle.disco_message.specs.StatusLine.{refusal}
-use Rattle.disco_message.specs.declared.status_line.StatusLine.{StatusLine}
-use Rattle.disco_message.specs.declared.status_line.StatusLine.TheVariants.{Success, NoContent, MethodNotAllowed, ServiceUnavailable}
 use Rattle.disco_calls.specs.Calls.{CallView, loads, shows, shows_id, writes, lacks}
 use Rattle.disco_server.specs.declared.shared.Shared.{Shared}
 
@@ -24,7 +22,7 @@ abbrev pub shared_text : Shared → List ℕ
 shared_text s = (arc_value s.payload).text
 
 -- a status alone
-abbrev pub plain : StatusLine → ReplyView
+abbrev pub plain : ℕ → ReplyView
 plain status = record { status = status; allow = None; document = None; cert = None }
 
 abbrev pub refusal_answer : Fault → ReplyView
@@ -32,12 +30,12 @@ refusal_answer fault = plain (refusal fault)
 
 -- a document, with its certificate
 abbrev pub with_document : Payload → ReplyView
-with_document d = record { status = Success; allow = None; document = Some d.text; cert = Some (cert_of d) }
+with_document d = record { status = 200; allow = None; document = Some d.text; cert = Some (cert_of d) }
 
 -- a registration has no content, each other operation that is accepted is a success
-abbrev pub success_of : OpView → StatusLine
-success_of (register r) = NoContent
-success_of _ = Success
+abbrev pub success_of : OpView → ℕ
+success_of (register r) = 204
+success_of _ = 200
 
 -- the document may be served, or the cause against it is told
 abbrev pub ShowsDocument : Past → Result DocKey Fault → ReplyView → Type 0
@@ -52,7 +50,7 @@ IsDone rules p ask now (Ok change) y q = (y ≡ plain (success_of ask)) × (q �
 -- the reply at a moment to what is asked for, where one thing has happened before and another after
 abbrev pub Replies : Rules → Past → Result CallView Fault → ℕ → ReplyView → Past → Type 0
 Replies rules p (Err fault) now y q = (y ≡ refusal_answer fault) × (q ≡ p)
-Replies rules p (Ok (lacks allow)) now y q = (y ≡ record { status = MethodNotAllowed; allow = Some allow; document = None; cert = None }) × (q ≡ p)
+Replies rules p (Ok (lacks allow)) now y q = (y ≡ record { status = 405; allow = Some allow; document = None; cert = None }) × (q ≡ p)
 Replies rules p (Ok (loads key)) now y q = ShowsDocument p (loaded rules.delta key (history p)) y × (q ≡ p)
 Replies rules p (Ok (shows key form)) now y q = ShowsDocument p (loaded true (doc_of_key key form) (history p)) y × (q ≡ p)
 Replies rules p (Ok (shows_id id form)) now y q = ShowsDocument p (loaded_by_id id form (history p)) y × (q ≡ p)
@@ -60,7 +58,7 @@ Replies rules p (Ok (writes ask)) now y q = IsDone rules p ask now (accept_after
 
 -- memory may always be refused, and then nothing has happened
 abbrev pub IsReply : Rules → Past → Result CallView Fault → ℕ → ReplyView → Past → Type 0
-IsReply rules p asked now y q = Replies rules p asked now y q ⊎ ((y ≡ plain ServiceUnavailable) × (q ≡ p))
+IsReply rules p asked now y q = Replies rules p asked now y q ⊎ ((y ≡ plain 503) × (q ≡ p))
 
 -- whatever has happened to a hub before, this is a reply to it, and the hub stands for what has happened after
 abbrev pub IsAnswered : HubState → HubState → Result CallView Fault → ℕ → ReplyView → Type 0

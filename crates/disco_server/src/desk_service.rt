@@ -3,13 +3,12 @@ ghost use Rattle.std.specs.Prelude.{◌≡◌};
 
 use crate::clock::Clock;
 use crate::gate::{Gate, Point};
-use crate::locked::answer_with;
+use crate::locked::answer;
 use crate::shared::Shared;
 use disco_calls::Routes;
 use disco_http::Service;
 use disco_message::{Reply, Request};
 use disco_press::{Desk, Naming, Seat};
-use json::Scratch;
 use std::alloc::Global;
 use std::sync::{Mutex, Wait};
 
@@ -35,8 +34,6 @@ pub struct DeskService<'a, J: Naming, R, C, G> {
     pub clock: C,
     /// The number of the connection, from 1.
     pub connection: u64,
-    /// Room that the reading of a registration needs, kept for the next.
-    scratch: Scratch,
 }
 
 impl<'a, J: Naming, R, C, G> DeskService<'a, J, R, C, G> {
@@ -56,7 +53,6 @@ impl<'a, J: Naming, R, C, G> DeskService<'a, J, R, C, G> {
             seat,
             clock,
             connection: 0,
-            scratch: Scratch::new(context.alloc),
         }
     }
 
@@ -78,7 +74,7 @@ impl<'a, J: Naming, R: Wait, C: Clock, G: Gate> Service for DeskService<'a, J, R
     fn call(&mut self, request: &Request) -> Reply<Shared> {
         self.context.gate.pass(Point::Received(self.connection));
         let now = self.clock.now();
-        let reply = answer_with(
+        let reply = answer(
             self.context.rt,
             self.context.alloc,
             &self.routes,
@@ -86,7 +82,6 @@ impl<'a, J: Naming, R: Wait, C: Clock, G: Gate> Service for DeskService<'a, J, R
             &mut self.seat,
             request,
             now,
-            &mut self.scratch,
         );
         self.context.gate.pass(Point::Answered(self.connection));
         reply

@@ -35,6 +35,6 @@ pub use locked::answer;
 pub use publisher::{Step, publish_step, publish_step_locked};
 pub use service::HubService;
 pub use shared::Shared;
-pub use startup::start;
+pub use startup::{start, start_with};
 pub use system_clock::SystemClock;
-pub use threads::timers;
+pub use threads::{start_timers, timers};

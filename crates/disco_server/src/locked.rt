@@ -12,11 +12,10 @@ use crate::desk::answer_read;
 use crate::replies::showing;
 use crate::shared::Shared;
 use crate::spin::spin_and_lock;
-use disco_calls::{Call, Routes, call_of_with};
+use disco_calls::{Call, Routes, call_of};
 use disco_message::{Reply, Request};
 use disco_press::{Desk, Looked, Naming, Seat};
 use disco_values::Fault;
-use json::Scratch;
 use std::alloc::Global;
 use std::sync::{Mutex, MutexGuard, Wait};
 
@@ -89,25 +88,6 @@ pub fn answer<J: Naming, R: Wait>(
     ensures told { IsLookOrCall seat.old seat.new (call request.now) now (reply_view shared_text result) }
     ensures known { IsPrefix seat.old.known seat.new.known }
 {
-    let mut scratch = Scratch::new(alloc);
-    answer_with(rt, alloc, routes, desk, seat, request, now, &mut scratch)
-}
-
-/// The reply to a request, as [`answer`] gives it. The room that reading a registration needs is
-/// lent, so that who answers many makes it once.
-pub fn answer_with<J: Naming, R: Wait>(
-    rt: &R,
-    alloc: Global,
-    routes: &Routes,
-    desk: &Mutex<Desk<J>>,
-    seat: &mut Seat<J>,
-    request: &Request,
-    now: u64,
-    scratch: &mut Scratch,
-) -> Reply<Shared>
-    ensures told { IsLookOrCall seat.old seat.new (call request.now) now (reply_view shared_text result) }
-    ensures known { IsPrefix seat.old.known seat.new.known }
-{
-    let called = call_of_with(alloc, routes, request, scratch);
+    let called = call_of(alloc, routes, request);
     answer_called(rt, desk, seat, called, now)
 }

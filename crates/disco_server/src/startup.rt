@@ -1,5 +1,5 @@
 //! Starts a server's workers.
-ghost use Rattle.std.specs.Prelude.{◌≡◌, ◌⊎◌, IfErr};
+ghost use Rattle.std.specs.Prelude.{◌≡◌, ◌⊎◌, IfErr, IfOk, Err, Ok};
 ghost use Rattle.disco_values.specs.declared.fault.Fault.TheVariants.{OutOfMemory, ReadFailed};
 
 use crate::clock::Clock;
@@ -13,7 +13,7 @@ use disco_values::Fault;
 use std::alloc::{AllocError, Global};
 use std::net::{Net, TcpListener, TcpStream};
 use std::sync::{Mutex, Wait};
-use std::thread::Threads;
+use std::thread::{Scope, Threads};
 use std::{rt, thread};
 
 /// A worker for each seat.
@@ -31,33 +31,117 @@ fn workers_for<'a, J: Naming, R, C: Clock + Copy, G>(
     Ok(workers)
 }
 
-/// Has each worker on a thread of its own take connections by the acceptor, and returns once all
-/// have ended.
-fn run<J, R, C, G>(
+/// Puts each worker on a thread of its own, and calls `ready` once all are there. No connection is taken
+/// before that, and none at all where a worker or `ready` is refused.
+fn begin<'s, 'a: 's, E, J, R, C, G, T, F>(
+    scope: &'s Scope<'s, E>,
+    rt: &'s R,
+    alloc: Global,
+    entrance: Entrance<'s>,
+    workers: Vec<Worker<'a, J, R, C, G>>,
+    ready: F,
+) -> Result<T, Fault>
+where
+    J: Naming + Send + Sync + 's,
+    R: Net<Listener = TcpListener, Stream = TcpStream> + Threads + Wait + rt::Clock + Sync + 's,
+    C: Clock + Copy + Send + 's,
+    G: Gate + Sync + 's,
+    F: FnOnce() -> Result<T, Fault>,
+    requires { F.pre ready }
+    ensures made { IfOk result (λ made. F.post ready (Ok made)) }
+    ensures fault { IfErr result (λ fault. (fault ≡ ReadFailed) ⊎ F.post ready (Err fault)) }
+{
+    let mut entry = entrance.acceptor.lock(rt);
+    for worker in workers {
+        let started = scope.spawn(move || work(rt, alloc, entrance, worker));
+        if started.is_err() {
+            entry.refuse(Refusal::ByHost);
+            return Err(Fault::ReadFailed);
+        }
+    }
+    let made = ready();
+    if made.is_err() {
+        entry.refuse(Refusal::ByHost);
+    }
+    made
+}
+
+/// Has the workers take connections by the acceptor, as [`begin`] lets them, and returns once all have
+/// ended.
+fn run<J, R, C, G, T, F>(
     rt: &R,
     alloc: Global,
     entrance: Entrance<'_>,
     workers: Vec<Worker<'_, J, R, C, G>>,
-)
+    ready: F,
+) -> Result<T, Fault>
 where
     J: Naming + Send + Sync,
     R: Net<Listener = TcpListener, Stream = TcpStream> + Threads + Wait + rt::Clock + Sync,
     C: Clock + Copy + Send,
     G: Gate + Sync,
+    F: FnOnce() -> Result<T, Fault>,
+    requires { F.pre ready }
+    ensures made { IfOk result (λ made. F.post ready (Ok made)) }
+    ensures fault { IfErr result (λ fault. (fault ≡ ReadFailed) ⊎ F.post ready (Err fault)) }
 {
-    thread::scope(thread::scope_env(), rt, move |scope| {
-        // No connection is taken before all workers are there.
-        let mut entry = entrance.acceptor.lock(rt);
-        for worker in workers {
-            if scope
-                .spawn(move || work(rt, alloc, entrance, worker))
-                .is_err()
-            {
-                entry.refuse(Refusal::ByHost);
-                break;
-            }
-        }
-    });
+    thread::scope(
+        thread::scope_env(),
+        rt,
+        move |scope|
+            requires { F.pre ready }
+        { begin(scope, rt, alloc, entrance, workers, ready) },
+    )
+}
+
+/// Serves as [`start`] does, and calls `ready` once all workers are there, before any of them takes a
+/// connection. Gives what it made.
+///
+/// # Errors
+///
+/// Those of [`start`], and what `ready` refuses as. Then none has taken a connection.
+pub fn start_with<'a, J, R, C, G, T, F>(
+    rt: &'a R,
+    alloc: Global,
+    listener: TcpListener,
+    desk: &'a Mutex<Desk<J>>,
+    seats: Vec<Seat<J>>,
+    limits: &Limits,
+    connections: u64,
+    clock: C,
+    gate: &'a G,
+    ready: F,
+) -> Result<T, Fault>
+where
+    J: Naming + Send + Sync,
+    R: Net<Listener = TcpListener, Stream = TcpStream> + Threads + Wait + rt::Clock + Sync,
+    C: Clock + Copy + Send,
+    G: Gate + Sync,
+    T: Drop,
+    F: FnOnce() -> Result<T, Fault>,
+    requires { F.pre ready }
+    ensures made { IfOk result (λ made. F.post ready (Ok made)) }
+    ensures fault { IfErr result (λ fault. (fault ≡ OutOfMemory) ⊎ ((fault ≡ ReadFailed) ⊎ F.post ready (Err fault))) }
+{
+    let waits = Waits::of_server();
+    let context = ServerContext {
+        rt,
+        alloc,
+        desk,
+        gate,
+    };
+    let known = Workers::new(alloc, seats.len())?;
+    let workers = workers_for(&context, seats, *limits, clock)?;
+    let acceptor = Mutex::new(Acceptor::new(connections));
+    let entrance = Entrance {
+        listener: &listener,
+        acceptor: &acceptor,
+        workers: &known,
+        waits: &waits,
+    };
+    let made = run(rt, alloc, entrance, workers, ready)?;
+    acceptor.into_inner().outcome()?;
+    Ok(made)
 }
 
 /// Serves the connections of a listener, with a worker on a thread of its own for each seat. Each
@@ -91,22 +175,16 @@ where
     G: Gate + Sync,
     ensures { IfErr result (λ fault. (fault ≡ OutOfMemory) ⊎ (fault ≡ ReadFailed)) }
 {
-    let waits = Waits::of_server();
-    let context = ServerContext {
+    start_with(
         rt,
         alloc,
+        listener,
         desk,
+        seats,
+        limits,
+        connections,
+        clock,
         gate,
-    };
-    let known = Workers::new(alloc, seats.len())?;
-    let workers = workers_for(&context, seats, *limits, clock)?;
-    let acceptor = Mutex::new(Acceptor::new(connections));
-    let entrance = Entrance {
-        listener: &listener,
-        acceptor: &acceptor,
-        workers: &known,
-        waits: &waits,
-    };
-    run(rt, alloc, entrance, workers);
-    acceptor.into_inner().outcome()
+        || Ok(()),
+    )
 }

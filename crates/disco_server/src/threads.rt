@@ -10,28 +10,13 @@ use disco_press::{Desk, Naming, Room};
 use disco_values::Fault;
 use std::sync::atomic::{AtomicBool, Ordering};
 use std::sync::{Mutex, MutexGuard, Wait};
-use std::thread::Threads;
+use std::thread::{Scope, Threads};
 use std::time::Duration;
 use std::{rt, thread};
 
 /// How many milliseconds a worker sleeps before it looks again whether it is to stop, and what is
 /// due.
 const NAP_MILLIS: u64 = 50;
-
-/// What ends the timed workers.
-#[derive(Clone, Copy)]
-struct Ends<'a> {
-    /// The caller's word.
-    stop: &'a AtomicBool,
-    /// The host refused a worker.
-    refused: &'a AtomicBool,
-}
-
-impl<'a> Ends<'a> {
-    fn have_come(&self) -> bool {
-        self.stop.load(Ordering::SeqCst) || self.refused.load(Ordering::SeqCst)
-    }
-}
 
 /// How much room the next go at a task takes, where it writes a document that names many instances.
 fn room_of_next<J: Naming>(desk: &Desk<J>, task: Task) -> Option<Room> {
@@ -72,10 +57,10 @@ fn tend<J: Naming, R: Wait + rt::Clock>(
     task: Task,
     now: u64,
     pauses: &mut Pauses,
-    ends: Ends<'_>,
+    stop: &AtomicBool,
 ) {
     for _ in rt.forever() {
-        if ends.have_come() {
+        if stop.load(Ordering::SeqCst) {
             return;
         }
         pauses.pause_if_due(rt);
@@ -95,15 +80,15 @@ fn clean<J: Naming, R: Wait + rt::Clock>(
     desk: &Mutex<Desk<J>>,
     now: u64,
     pauses: &mut Pauses,
-    ends: Ends<'_>,
+    stop: &AtomicBool,
 ) {
     let mut moment = now.saturating_sub(Task::Clean.period());
     for _ in rt.forever() {
-        if ends.have_come() || moment >= now {
+        if stop.load(Ordering::SeqCst) || moment >= now {
             return;
         }
         moment = next_go(moment, now);
-        tend(rt, desk, Task::Clean, moment, pauses, ends);
+        tend(rt, desk, Task::Clean, moment, pauses, stop);
     }
 }
 
@@ -113,32 +98,61 @@ fn tend_often<J: Naming, R: Wait + rt::Clock, C: Clock + Copy>(
     desk: &Mutex<Desk<J>>,
     mut clock: C,
     task: Task,
-    ends: Ends<'_>,
+    stop: &AtomicBool,
 ) {
     let mut timer = Timer::new(task.period(), clock.now());
     for _ in rt.forever() {
-        if ends.have_come() {
+        if stop.load(Ordering::SeqCst) {
             return;
         }
         let now = clock.now();
         if timer.is_due(now) {
             let mut pauses = Pauses::new(rt);
             match task {
-                Task::Clean => clean(rt, desk, now, &mut pauses, ends),
-                other => tend(rt, desk, other, now, &mut pauses, ends),
+                Task::Clean => clean(rt, desk, now, &mut pauses, stop),
+                other => tend(rt, desk, other, now, &mut pauses, stop),
             }
         }
         thread::sleep(rt, Duration::from_millis(NAP_MILLIS));
     }
 }
 
-/// Publishes and cleans every 30,000 milliseconds of the clock, and closes minutes and lets leases
-/// run out every 60,000, each on a thread of its own. Returns once `stop` is set.
+/// Starts the timed workers in a scope: they publish and clean every 30,000 milliseconds of the clock,
+/// and close minutes and let leases run out every 60,000, each on a thread of its own, until `stop` is
+/// set.
 ///
 /// # Errors
 ///
-/// `ReadFailed` alone, where the host refuses a thread. Then the others end at once, and what they
-/// did until then stays.
+/// `ReadFailed` alone, where the host refuses a thread. Then `stop` is set, so that the others end at
+/// once, and what they did until then stays.
+pub fn start_timers<'s, E, J, R, C>(
+    scope: &'s Scope<'s, E>,
+    rt: &'s R,
+    desk: &'s Mutex<Desk<J>>,
+    clock: C,
+    stop: &'s AtomicBool,
+) -> Result<(), Fault>
+where
+    J: Naming + Send + Sync + 's,
+    R: Threads + Wait + rt::Clock + Sync + 's,
+    C: Clock + Copy + Send + 's,
+    ensures { IfErr result (λ fault. fault ≡ ReadFailed) }
+{
+    for task in TASKS {
+        let worker = scope.spawn(move || tend_often(rt, desk, clock, task, stop));
+        if worker.is_err() {
+            stop.store(true, Ordering::SeqCst);
+            return Err(Fault::ReadFailed);
+        }
+    }
+    Ok(())
+}
+
+/// Runs the timed workers as [`start_timers`] starts them, and returns once all have ended.
+///
+/// # Errors
+///
+/// `ReadFailed` alone, as [`start_timers`].
 pub fn timers<J, R, C>(
     rt: &R,
     desk: &Mutex<Desk<J>>,
@@ -151,22 +165,9 @@ where
     C: Clock + Copy + Send,
     ensures { IfErr result (λ fault. fault ≡ ReadFailed) }
 {
-    let refused = AtomicBool::new(false);
-    let ends = Ends {
-        stop,
-        refused: &refused,
-    };
-    thread::scope(thread::scope_env(), rt, move |scope| {
-        for task in TASKS {
-            let worker = scope.spawn(move || tend_often(rt, desk, clock, task, ends));
-            if worker.is_err() {
-                ends.refused.store(true, Ordering::SeqCst);
-                break;
-            }
-        }
-    });
-    if refused.load(Ordering::SeqCst) {
-        return Err(Fault::ReadFailed);
-    }
-    Ok(())
+    thread::scope(
+        thread::scope_env(),
+        rt,
+        move |scope| start_timers(scope, rt, desk, clock, stop),
+    )
 }

@@ -1,6 +1,5 @@
-use Rattle.std.proofs.Common.{◌≡◌, MatchResult, subst}
+use Rattle.std.proofs.Common.{ℕ, ◌≡◌, MatchResult, subst}
 use Rattle.disco_message.specs.ReplyText.{reply_view}
-use Rattle.disco_message.specs.declared.status_line.StatusLine.{StatusLine}
 use Rattle.disco_registry.specs.Op.{op_view}
 use Rattle.disco_server.specs.Replies.{plain, refusal_answer, shared_text}
 use Rattle.disco_server.proofs.HubAnswers.{changes_by, written}
@@ -11,7 +10,7 @@ pub returns-clause-answered : goal.returns-clause-answered
 returns-clause-answered g c =
     let y = reply_view shared_text c.wrote.result in
     let w = c.write_as.ensures in
-    let shown = subst (λ (success : StatusLine). MatchResult c.write_as.result (λ a. y ≡ plain success) (λ e. y ≡ refusal_answer e)) c.success_of-success.ensures c.wrote.ensures in
+    let shown = subst (λ (success : ℕ). MatchResult c.write_as.result (λ a. y ≡ plain success) (λ e. y ≡ refusal_answer e)) c.success_of-success.ensures c.wrote.ensures in
     record {
       changes = changes_by c.write_as.result;
       noted = notes c.args.desk.now c.write_as.new.self c.write_as.result w.noted w.not_noted;
