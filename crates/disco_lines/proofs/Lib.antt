@@ -1,4 +1,5 @@
 mod Feeds
 mod First
+mod Fronts
 mod Split
 pub mod Whole

@@ -1,8 +1,9 @@
 //! Answer lines.
 ghost use Rattle.std.specs.Prelude.{◌≡◌, ◌⊎◌, ◌++◌, [], IfErr, OnErr, OnOk, codes, if◌then◌else◌};
 ghost use Rattle.disco_values.specs.declared.fault.Fault.TheVariants.{OutOfMemory, WriteFailed};
-ghost use Rattle.std.specs.Io.KnownBytes.{Appends, append_known};
+ghost use Rattle.std.specs.Io.KnownBytes.{Appends};
 ghost use Rattle.disco_http.specs.Causes.{Cause, Raises};
+ghost use Rattle.disco_lines.specs.Answered.{AppendsFront, AppendsUpTo};
 ghost use Rattle.disco_lines.specs.Answers.{answer_line, answer_lines, document_line, summary_text, refusal_line};
 ghost use Rattle.disco_lines.specs.Steps.{document_front};
 ghost use Rattle.std.specs.List.{flat_map};
@@ -10,7 +11,7 @@ ghost use Rattle.disco_world.specs.declared.event.Reply.TheVariants as reply;
 ghost use Rattle.disco_world.specs.declared.event.Reply.TheVariants.{Taken, Certified, Changed, Held};
 
 use disco_cache::Payload;
-use disco_http::{Failed, Sink, write_all};
+use disco_http::{Sink, write_all};
 use disco_hub::{Copied, Expired};
 use disco_lease::Minute;
 use disco_values::Fault;
@@ -180,25 +181,24 @@ fn write_answer<W: Write>(reply: &Reply, out: &mut W) -> io::Result<()>
 const FLUSH_AT: usize = 65_536;
 
 /// How many bytes can be gathered without more memory: less than enough, and one short line more.
-pub(crate) const ROOM: usize = 2 * FLUSH_AT + 64;
+const ROOM: usize = 2 * FLUSH_AT + 64;
 
 /// Writes bytes.
 fn write_bytes<W: Sink>(bytes: &[u8], out: &mut W) -> Result<(), Fault>
-    ensures written { OnOk result (Appends (W.contents out.old) (W.contents out.new) bytes.now) }
+    ensures written { OnOk result (AppendsUpTo (W.contents out.old) (W.contents out.new) bytes.now []) }
+    ensures front { IfErr result (λ e. AppendsFront (W.contents out.old) (W.contents out.new) e bytes.now) }
     ensures fault { IfErr result (λ e. e ≡ WriteFailed) }
     ensures cause { OnErr result (Raises (W.failed out.old) (W.failed out.new)) }
     ensures none_failed { OnOk result (W.failed out.new ≡ W.failed out.old) }
 {
-    match write_all(out, bytes) {
-        Ok(()) => Ok(()),
-        Err(Failed) => Err(Fault::WriteFailed),
-    }
+    write_all(out, bytes)
 }
 
 /// Writes what is gathered, and takes it out.
-pub(crate) fn write_buffered<W: Sink>(buffered: &mut Vec<u8>, out: &mut W) -> Result<(), Fault>
+fn write_buffered<W: Sink>(buffered: &mut Vec<u8>, out: &mut W) -> Result<(), Fault>
     ensures empty { OnOk result (buffered.new.items ≡ []) }
-    ensures written { OnOk result (Appends (W.contents out.old) (W.contents out.new) buffered.old.items) }
+    ensures written { OnOk result (AppendsUpTo (W.contents out.old) (W.contents out.new) buffered.old.items []) }
+    ensures front { IfErr result (λ e. AppendsFront (W.contents out.old) (W.contents out.new) e buffered.old.items) }
     ensures fault { IfErr result (λ e. e ≡ WriteFailed) }
     ensures cause { OnErr result (Raises (W.failed out.old) (W.failed out.new)) }
     ensures none_failed { OnOk result (W.failed out.new ≡ W.failed out.old) }
@@ -232,8 +232,8 @@ fn gather_front(payload: &Payload, buffered: &mut Vec<u8>) -> Result<(), Fault>
 
 /// Writes a document as it lies, behind what is gathered, and gathers the end of its line.
 fn write_long<W: Sink>(payload: &Payload, buffered: &mut Vec<u8>, out: &mut W) -> Result<(), Fault>
-    ensures told { OnOk result (Appends (append_known (W.contents out.old) buffered.old.items)
-        (append_known (W.contents out.new) buffered.new.items) (document_line payload.now)) }
+    ensures told { OnOk result (AppendsUpTo (W.contents out.old) (W.contents out.new) (buffered.old.items ++ document_line payload.now) buffered.new.items) }
+    ensures front { IfErr result (λ e. AppendsFront (W.contents out.old) (W.contents out.new) e (buffered.old.items ++ document_line payload.now)) }
     ensures fault { IfErr result (λ e. (e ≡ WriteFailed) ⊎ (e ≡ OutOfMemory)) }
     ensures cause { Cause WriteFailed (W.failed out.old) (W.failed out.new) result }
     ensures none_failed { OnOk result (W.failed out.new ≡ W.failed out.old) }
@@ -247,13 +247,9 @@ fn write_long<W: Sink>(payload: &Payload, buffered: &mut Vec<u8>, out: &mut W) -
 
 /// Gathers an answer line, and writes what is gathered where that is enough. A document that is
 /// enough by itself is written as it lies, behind what is gathered.
-pub(crate) fn gather_answer<W: Sink>(
-    reply: &Reply,
-    buffered: &mut Vec<u8>,
-    out: &mut W,
-) -> Result<(), Fault>
-    ensures told { OnOk result (Appends (append_known (W.contents out.old) buffered.old.items)
-        (append_known (W.contents out.new) buffered.new.items) (answer_line reply.now)) }
+fn gather_answer<W: Sink>(reply: &Reply, buffered: &mut Vec<u8>, out: &mut W) -> Result<(), Fault>
+    ensures told { OnOk result (AppendsUpTo (W.contents out.old) (W.contents out.new) (buffered.old.items ++ answer_line reply.now) buffered.new.items) }
+    ensures front { IfErr result (λ e. AppendsFront (W.contents out.old) (W.contents out.new) e (buffered.old.items ++ answer_line reply.now)) }
     ensures fault { IfErr result (λ e. (e ≡ WriteFailed) ⊎ (e ≡ OutOfMemory)) }
     ensures cause { Cause WriteFailed (W.failed out.old) (W.failed out.new) result }
     ensures none_failed { OnOk result (W.failed out.new ≡ W.failed out.old) }
@@ -270,17 +266,18 @@ pub(crate) fn gather_answer<W: Sink>(
     write_buffered(buffered, out)
 }
 
-/// Writes one line for each reply, in order. Memory is asked for at the start.
+/// Writes one line for each reply, in order. A document is not copied where it is long.
 ///
 /// # Errors
 ///
-/// `WriteFailed` where a write fails, with some of the lines perhaps written, and `OutOfMemory`.
+/// `WriteFailed` where a write fails, and `OutOfMemory`. Then a front of the lines was written.
 pub(crate) fn write_answers<W: Sink>(
     alloc: Global,
     replies: &[Reply],
     out: &mut W,
 ) -> Result<(), Fault>
     ensures written { OnOk result (Appends (W.contents out.old) (W.contents out.new) (answer_lines replies.now)) }
+    ensures front { IfErr result (λ e. AppendsFront (W.contents out.old) (W.contents out.new) e (answer_lines replies.now)) }
     ensures fault { IfErr result (λ e. (e ≡ WriteFailed) ⊎ (e ≡ OutOfMemory)) }
     // A failed write has raised the count of failures.
     ensures cause { Cause WriteFailed (W.failed out.old) (W.failed out.new) result }

@@ -6,7 +6,6 @@ mod answers;
 mod find;
 mod input;
 mod line;
-mod line_buffer;
 mod lines;
 mod load;
 mod put;

@@ -10,5 +10,4 @@ mod Rooms
 mod Shown
 mod Taken
 mod TakenDocuments
-mod Tellings
 mod Writes

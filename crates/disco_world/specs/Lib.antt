@@ -6,4 +6,3 @@ pub mod Events
 pub mod Levels
 pub mod Rounds
 pub mod Steps
-pub mod Telling

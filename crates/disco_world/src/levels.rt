@@ -10,7 +10,6 @@ ghost use Rattle.disco_world.specs.Steps.{cache_of};
 use disco_cache::Edition;
 use disco_hub::Hub;
 use disco_values::Settings;
-use json::Scratch;
 use std::alloc::Global;
 
 /// A hub, the edition that readers look into, and the one that is being copied.
@@ -19,8 +18,6 @@ pub(crate) struct CacheLevels {
     pub(crate) hub: Hub,
     pub(crate) published: Edition,
     pub(crate) next: Edition,
-    /// Room that the reading of a registration needs, kept for the next.
-    pub(crate) scratch: Scratch,
 }
 
 impl CacheLevels {
@@ -35,7 +32,6 @@ impl CacheLevels {
             hub: Hub::new(alloc, settings),
             published: Edition::new(alloc),
             next: Edition::new(alloc),
-            scratch: Scratch::new(alloc),
         }
     }
 }

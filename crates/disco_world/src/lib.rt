@@ -3,7 +3,7 @@
 //! [`run`] is the library's main theorem for a list of events: every served document is the
 //! registry at one version, restricted to what was asked for. For a load it is that of the moment,
 //! for a look one since the last published round began. A certified client's copy is exactly the
-//! registry of a run at a version. [`run_to`] says the same of replies that are told as they come.
+//! registry of a run at a version.
 #![tactic(auto)]
 
 mod asks;
@@ -16,11 +16,7 @@ mod loads;
 mod restarts;
 mod rounds;
 mod runs;
-mod steps;
-mod tell;
 
 pub use event::{Event, Reply, Step};
 pub use instance_summary::{InstanceSummaries, InstanceSummary};
 pub use runs::run;
-pub use steps::Steps;
-pub use tell::{Finished, Tell, run_to};

@@ -18,9 +18,7 @@ ghost use Rattle.disco_world.specs.Levels.{AreLevelsOf, AnswersEvent};
 ghost use Rattle.disco_world.specs.Steps.{AreHeld, AreReadable, Performs, cache_of, holders, reply_to, reply_to_give, reply_to_show, reply_to_take};
 ghost use Rattle.disco_world.specs.declared.event.Event.TheVariants as event;
 
-use crate::asks::{
-    add_metadata, cancel, copied_key, drop_status, key_given_up, set_status, status_given_up,
-};
+use crate::asks::{add_metadata, cancel, copied_key, drop_status, set_status};
 use crate::certified::{Given, give};
 use crate::clients::{Clients, Told, show, show_certified, take};
 use crate::event::{Event, Reply, Step};
@@ -31,7 +29,7 @@ use crate::restarts::restart;
 use crate::rounds::{begin, copy, look, publish};
 use disco_cache::Payload;
 use disco_hub::Hub;
-use disco_operations::register_with;
+use disco_operations::register;
 use disco_registry::{Applied, Op};
 use disco_values::{Fault, Key, Query, Settings};
 use std::alloc::Global;
@@ -125,7 +123,7 @@ fn answer(
 }
 
 /// Answers one event that looks at no earlier reply.
-pub(crate) fn answer_step(
+fn answer_step(
     alloc: Global,
     settings: &Settings,
     levels: &mut CacheLevels,
@@ -142,7 +140,7 @@ pub(crate) fn answer_step(
         Step::Register { now, app, json } => write(
             &mut levels.hub,
             *now,
-            register_with(alloc, app, json.as_slice(), &mut levels.scratch),
+            register(alloc, app, json.as_slice()),
         ),
         Step::Cancel { now, app, id } => write(&mut levels.hub, *now, cancel(alloc, app, id)),
         Step::Renew { now, app, id } => renew(&mut levels.hub, *now, copied_key(alloc, app, id)),
@@ -179,39 +177,6 @@ pub(crate) fn answer_step(
             showed(show_certified(alloc, &clients.certified, *client))
         }
         Step::Restart { run } => restart(alloc, settings, levels, *run),
-    }
-}
-
-/// Answers one event as [`answer_step`] does, and uses it up: the names of an instance that is renewed,
-/// or whose status changes, are moved into the operation, and not copied.
-pub(crate) fn answer_once(
-    alloc: Global,
-    settings: &Settings,
-    levels: &mut CacheLevels,
-    clients: &Clients,
-    step: &mut Step,
-) -> Reply
-    requires ruled { rules_of levels.old.hub ≡ rules settings.now }
-    requires room { levels.old.hub.docs.max ≡ settings.now.entries }
-    ensures does { (w : World) → AreHeld (holders clients.now) w → AreLevelsOf levels.old w
-        → AnswersEvent (rules_of levels.old.hub) w (event.Step step.old) result levels.old.hub levels.new (holders clients.now) }
-    ensures rules { rules_of levels.new.hub ≡ rules_of levels.old.hub }
-{
-    match step {
-        Step::Renew { now, app, id } => {
-            renew(&mut levels.hub, *now, key_given_up(alloc, app, id))
-        }
-        Step::SetStatus {
-            now,
-            app,
-            id,
-            status,
-        } => write(
-            &mut levels.hub,
-            *now,
-            status_given_up(alloc, app, id, status),
-        ),
-        _ => answer_step(alloc, settings, levels, clients, step),
     }
 }
 

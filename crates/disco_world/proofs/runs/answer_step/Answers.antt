@@ -15,8 +15,8 @@ use Rattle.disco_world.proofs.runs.answer_step.Goals as goal
 
 pub returns-in-Register-clause-does : goal.returns-in-Register-clause-does
 returns-in-Register-clause-does c = λ w held levels.
-    let gives = subst (λ (b : List ℕ). Gives op_view c.register_with.result (registers c.in-Register.app (registration_of b))) c.as_slice.ensures c.register_with.ensures in
-    rw c.in-Register.is (with_hub c.args.levels.now (record c.args.levels.now { hub = c.write.new.hub; scratch = c.register_with.new.scratch }) (holders c.args.clients.now) w (writes c.in-Register.now (registers c.in-Register.app (registration_of c.in-Register.json))) c.write.result refl refl held refl refl levels c.write.ensures.rounds refl refl (c.write.ensures.does (registers c.in-Register.app (registration_of c.in-Register.json)) gives w levels.levels.stands))
+    let gives = subst (λ (b : List ℕ). Gives op_view c.register.result (registers c.in-Register.app (registration_of b))) c.as_slice.ensures c.register.ensures in
+    rw c.in-Register.is (with_hub c.args.levels.now (record c.args.levels.now { hub = c.write.new.hub }) (holders c.args.clients.now) w (writes c.in-Register.now (registers c.in-Register.app (registration_of c.in-Register.json))) c.write.result refl refl held refl refl levels c.write.ensures.rounds refl refl (c.write.ensures.does (registers c.in-Register.app (registration_of c.in-Register.json)) gives w levels.levels.stands))
 
 pub returns-in-Cancel-clause-does : goal.returns-in-Cancel-clause-does
 returns-in-Cancel-clause-does c = λ w held levels.
