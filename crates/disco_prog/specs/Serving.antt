@@ -1,6 +1,7 @@
 -- What the words of `serve` name, and what it writes.
 use Rattle.std.specs.Prelude.{◌≡◌, ℕ, List, Option, ◌++◌, codes, decimal, unwrap_or}
 use Rattle.std.specs.Io.KnownBytes.{Appends}
+use Rattle.std.specs.Borrow.{MutBor}
 use Rattle.clap.specs.Words.{Row, Text}
 use Rattle.disco_options.specs.Options.{AreGiven, AreMatches, number_given, port_in, within}
 use Rattle.disco_options.specs.declared.subcommand.Subcommand.TheVariants.{Serve}
@@ -17,6 +18,10 @@ pub record IsServicePlan (run : ℕ) (rows : List Row) (s : Service) : Type 0 wh
 -- `listening 127.0.0.1:PORT`
 abbrev pub listening_line : ℕ → List ℕ
 listening_line port = codes "listening 127.0.0.1:" ++ decimal port ++ codes "\n"
+
+-- an output that is given back is the one that was lent, with this text behind what it held
+abbrev pub Tells : {W : Type 0} → (W → Option (List ℕ)) → MutBor W → MutBor W → List ℕ → Type 0
+Tells contents lent back text = (back.ghost_name ≡ lent.ghost_name) × Appends (contents lent.now) (contents back.now) text
 
 -- the words are `serve` and options, and it is said that connections are taken on the port that these give
 unfoldable pub SaysListening : List Text → Option (List ℕ) → Option (List ℕ) → Type 0

@@ -49,7 +49,7 @@ where
         → IsFailed (map string_bytes words.now) (I.remaining input.old)
         (Raises (I.failed input.old) (I.failed input.new)) (Raises (W.failed out.old) (W.failed out.new))
         (λ fault. Says fault (E.contents errors.old) (E.contents errors.new) (E.failed errors.old) (E.failed errors.new))
-        out.old out.new }
+        W.contents out.old out.new }
 
     // `serve` with status 0 has said where it listens.
     ensures listening { verb_of (map string_bytes words.now) ≡ Serve → faults_of Serve (map string_bytes words.now) ≡ [] → result ≡ 0

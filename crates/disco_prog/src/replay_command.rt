@@ -19,11 +19,8 @@ use std::alloc::Global;
 /// `replay` reads all events from `reader`, one a line, and writes an answer line for each to
 /// `out`. The status is 0 where all answers were written, and where help was asked for. It is 2 for
 /// words that are refused, with a message on `errors`. Else it is 1, with the one line
-/// `discovery: fault N` on `errors`; no answer is then written, but for those that went out before
-/// a write failed.
-///
-/// Where all answers were written, and no client took a document, the memory of the instances isn't
-/// given back: a program ends behind this call, and the host takes all at once.
+/// `discovery: fault N` on `errors`; nothing is then written, but for a front of the answer lines where
+/// a write failed or found no memory.
 pub fn replay<R: Source, W: Sink, E: Sink>(
     alloc: Global,
     reader: &mut R,
@@ -48,13 +45,13 @@ pub fn replay<R: Source, W: Sink, E: Sink>(
         → (input : List ℕ) (bad : Fault) → R.remaining reader.old ≡ Some input
         → IsFirstBadLine input bad → (result ≡ 1) × (out.new ≡ out.old) }
 
-    // Where the run is refused its fault is told, and no event is answered, unless memory or a write
-    // failed. A read or a write that failed has raised the count of failures.
+    // Where the run is refused its fault is told, and no answer is written; where the writing is, a front
+    // of the answer lines is. A read or a write that failed has raised the count of failures.
     ensures failed { faults_of Subcommand.Replay (map string_bytes words.now) ≡ [] → result ≡ 1
         → IsFailed (map string_bytes words.now) (R.remaining reader.old)
         (Raises (R.failed reader.old) (R.failed reader.new)) (Raises (W.failed out.old) (W.failed out.new))
         (λ fault. Says fault (E.contents errors.old) (E.contents errors.new) (E.failed errors.old) (E.failed errors.new))
-        out.old out.new }
+        W.contents out.old out.new }
 {
     match read_settings(alloc, Subcommand::Replay, words, 0) {
         Ok(settings) => match answer_input(alloc, &settings, reader, out) {

@@ -1,31 +1,29 @@
 //! The command `serve`.
-ghost use Rattle.std.specs.Prelude.{◌≡◌, ◌⊎◌, [], IfErr, OnOk, map, string_bytes};
+ghost use Rattle.std.specs.Prelude.{◌≡◌, [], IfOk, OnOk, map, string_bytes};
 ghost use Rattle.std.specs.Io.KnownBytes.{Appends};
 ghost use Rattle.clap.specs.Words.{found_of, rows_of};
 ghost use Rattle.disco_options.specs.Ending.{EndsBy};
 ghost use Rattle.disco_options.specs.Options.{faults_of};
 ghost use Rattle.disco_press.specs.Openings.{Opens};
-ghost use Rattle.disco_http.specs.Causes.{Cause};
-ghost use Rattle.disco_prog.specs.Serving.{IsServicePlan, SaysListening, listening_line};
-ghost use Rattle.disco_values.specs.declared.fault.Fault.TheVariants.{OutOfMemory, WriteFailed};
+ghost use Rattle.disco_prog.specs.Serving.{IsServicePlan, SaysListening, Tells, listening_line};
 
 use crate::service::Service;
 use clap::ArgMatches;
-use disco_http::{Failed, Sink, write_all};
+use disco_http::{Sink, write_all};
 use disco_message::Limits;
 use disco_options::{
     MOST_PORT, MOST_WORKERS, Subcommand, WORKERS, count, number_given, read_words, refused, report,
     report_address, settings_from,
 };
 use disco_press::{Desk, Naming, Opening, Seat, open};
-use disco_server::{Clock, Open, SystemClock, listen, start, timers};
+use disco_server::{Clock, Open, SystemClock, listen, start_timers, start_with};
 use disco_values::Fault;
 use std::alloc::Global;
 use std::net::{Net, TcpListener, TcpStream};
-use std::rt;
 use std::sync::atomic::{AtomicBool, Ordering};
 use std::sync::{Mutex, Wait};
-use std::thread::{Threads, join};
+use std::thread::{Scope, Threads};
+use std::{rt, thread};
 
 /// What the words of `serve` name; the run is `run` where they name none.
 fn service_from(matches: &ArgMatches<'_>, run: u64) -> Service
@@ -39,59 +37,82 @@ fn service_from(matches: &ArgMatches<'_>, run: u64) -> Service
     }
 }
 
-/// Serves connections beside the timed workers until so many have ended.
-fn run<J: Naming + Send + Sync, R>(
+/// Says that connections are taken, in one write where the host takes it whole. Gives the output back.
+fn say<'o, W: Sink>(alloc: Global, port: u16, out: &'o mut W) -> Result<&'o mut W, Fault>
+    ensures { IfOk result (λ said. Tells W.contents out.entry said (listening_line port)) }
+{
+    let line = format!(in alloc; "listening 127.0.0.1:{port}\n")?;
+    write_all(out, line.as_bytes())?;
+    Ok(out)
+}
+
+/// Serves connections beside the timed workers until so many have ended. It says that it does once all
+/// threads are there: where the host refuses one of them, nothing is said and none is served. Gives the
+/// output back.
+fn serve_in<'s, 'o, E, J: Naming + Send + Sync + 's, R, W: Sink>(
+    scope: &'s Scope<'s, E>,
+    rt: &'s R,
+    alloc: Global,
+    service: &Service,
+    listener: TcpListener,
+    desk: &'s Mutex<Desk<J>>,
+    seats: Vec<Seat<J>>,
+    stop: &'s AtomicBool,
+    out: &'o mut W,
+) -> Result<&'o mut W, Fault>
+where
+    R: Net<Listener = TcpListener, Stream = TcpStream> + Threads + Wait + rt::Clock + Sync + 's,
+    ensures { IfOk result (λ said. Tells W.contents out.entry said (listening_line service.entry.now.port)) }
+{
+    let clock = SystemClock::new(rt);
+    let port = service.port;
+    start_timers(scope, rt, desk, clock, stop)?;
+    let served = start_with(
+        rt,
+        alloc,
+        listener,
+        desk,
+        seats,
+        &Limits::of_server(),
+        service.connections,
+        clock,
+        &Open,
+        move || say(alloc, port, out),
+    );
+    stop.store(true, Ordering::SeqCst);
+    served
+}
+
+/// Serves connections beside the timed workers until so many have ended, and says so at the start.
+fn run<J: Naming + Send + Sync, R, W: Sink>(
     rt: &R,
     alloc: Global,
     service: &Service,
     listener: TcpListener,
     desk: &Mutex<Desk<J>>,
     seats: Vec<Seat<J>>,
+    out: &mut W,
 ) -> Result<(), Fault>
 where
     R: Net<Listener = TcpListener, Stream = TcpStream> + Threads + Wait + rt::Clock + Sync,
+    ensures said { OnOk result (Appends (W.contents out.old) (W.contents out.new) (listening_line service.now.port)) }
 {
-    let limits = Limits::of_server();
     let stop = AtomicBool::new(false);
-    let (limits, stop) = (&limits, &stop);
-    let clock = SystemClock::new(rt);
-    let (timed, served) = join(
-        rt,
-        move || timers(rt, desk, clock, stop),
-        move || {
-            let served = start(
-                rt,
-                alloc,
-                listener,
-                desk,
-                seats,
-                limits,
-                service.connections,
-                clock,
-                &Open,
-            );
-            stop.store(true, Ordering::SeqCst);
-            served
-        },
-    );
-    served?;
-    timed
-}
-
-/// Says that connections are taken, in one write where the host takes it whole.
-fn say<W: Sink>(alloc: Global, port: u16, out: &mut W) -> Result<(), Fault>
-    ensures said { OnOk result (Appends (W.contents out.old) (W.contents out.new) (listening_line port)) }
-    ensures fault { IfErr result (λ fault. (fault ≡ OutOfMemory) ⊎ (fault ≡ WriteFailed)) }
-    ensures cause { Cause WriteFailed (W.failed out.old) (W.failed out.new) result }
-{
-    let line = format!(in alloc; "listening 127.0.0.1:{port}\n")?;
-    match write_all(out, line.as_bytes()) {
-        Ok(()) => Ok(()),
-        Err(Failed) => Err(Fault::WriteFailed),
+    let stop = &stop;
+    let served = thread::scope(thread::scope_env(), rt, move |scope| {
+        serve_in(scope, rt, alloc, service, listener, desk, seats, stop, out)
+    });
+    match served {
+        Ok(out) => {
+            // The proof reads here what was written.
+            let _ = &*out;
+            Ok(())
+        }
+        Err(fault) => Err(fault),
     }
 }
 
-/// Opens a desk, says that connections are taken, and serves them.
+/// Opens a desk, and serves connections over it.
 fn open_and_serve<J: Naming + Send + Sync, R, W: Sink>(
     rt: &R,
     alloc: Global,
@@ -107,22 +128,19 @@ where
 {
     let (desk, seats) = open::<J, R>(rt, alloc, &service.settings, service.workers, opening)?;
     let desk = Mutex::new(desk);
-    let served = match say(alloc, service.port, out) {
-        Ok(()) => run(rt, alloc, service, listener, &desk, seats),
-        Err(fault) => Err(fault),
-    };
+    let served = run(rt, alloc, service, listener, &desk, seats, out);
     desk.into_inner().close(rt);
     served
 }
 
 /// Runs the command `serve` on the words behind the program's name, and gives the exit status.
 ///
-/// It listens on a port of 127.0.0.1, writes `listening 127.0.0.1:PORT` to `out`, and serves
-/// connections until so many have ended, which is never where none are named. Where the words name
-/// no run, it is the moment at which `serve` is called, in milliseconds since 1970. The status is 0
-/// then, and where help was asked for. It is 2 for words that are refused, with a message on
-/// `errors`. Else it is 1, with the line `discovery: fault N` on
-/// `errors`, and in front of it why where the host refuses the port.
+/// It listens on a port of 127.0.0.1, writes `listening 127.0.0.1:PORT` to `out` once all its threads
+/// are there, and serves connections until so many have ended, which is never where none are named.
+/// Where the words name no run, it is the moment at which `serve` is called, in milliseconds since 1970.
+/// The status is 0 then, and where help was asked for. It is 2 for words that are refused, with a
+/// message on `errors`. Else it is 1, with the line `discovery: fault N` on `errors`, and in front of it
+/// why where the host refuses the port.
 pub fn serve<J: Naming + Send + Sync, R, W: Sink, E: Sink>(
     rt: &R,
     alloc: Global,

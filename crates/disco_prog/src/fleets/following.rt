@@ -9,7 +9,9 @@ use disco_reconcile::Client;
 use disco_values::{Fault, Form};
 use std::alloc::{AllocError, Global};
 use std::net::{Net, SocketAddr, TcpListener, TcpStream};
-use std::thread::{Threads, map_vec};
+use std::sync::Wait;
+use std::thread;
+use std::thread::{JoinHandle, Scope, Threads};
 
 /// A client over a line.
 pub(super) type Follower = Client<Line>;
@@ -90,16 +92,41 @@ fn refresh_often(mut client: Follower, times: u64) -> Follower {
     client
 }
 
-/// Each client refreshes so often, each in a thread. Gives the clients back.
-pub(super) fn refresh_all<R: Threads + Sync>(
+/// Starts the clients, each on a thread of its own, in which it refreshes so often.
+fn start_refreshes<'s, E>(
+    scope: &'s Scope<'s, E>,
+    clients: Vec<Follower>,
+    times: u64,
+    started: &mut Vec<JoinHandle<Follower>>,
+) -> Result<(), Fault> {
+    for client in clients {
+        let Ok(one) = scope.spawn(move || refresh_often(client, times)) else {
+            return Err(Fault::ReadFailed);
+        };
+        started.push(one)?;
+    }
+    Ok(())
+}
+
+/// Each client refreshes so often, each on a thread of its own. Gives the clients back. Refused as
+/// `ReadFailed` where the host refuses one. Then all of them are dropped, those too that had a thread:
+/// the server waits for their connections.
+pub(super) fn refresh_all<R: Threads + Wait>(
     rt: &R,
+    alloc: Global,
     clients: Vec<Follower>,
     times: u64,
 ) -> Result<Vec<Follower>, Fault> {
-    let clients = map_vec(
+    let mut started = Vec::with_capacity(alloc, clients.len())?;
+    let mut refreshed = Vec::with_capacity(alloc, clients.len())?;
+    let all = thread::scope(
+        thread::scope_env(),
         rt,
-        clients,
-        &|client: Follower| { refresh_often(client, times) },
-    )?;
-    Ok(clients)
+        |scope| start_refreshes(scope, clients, times, &mut started),
+    );
+    for one in started {
+        refreshed.push(one.join(rt))?;
+    }
+    all?;
+    Ok(refreshed)
 }

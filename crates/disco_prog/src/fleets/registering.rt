@@ -7,9 +7,9 @@ use disco_server::{Clock, SystemClock};
 use disco_values::Fault;
 use disco_wire::read_registration;
 use std::alloc::Global;
-use std::rt;
 use std::sync::{Mutex, MutexGuard, Wait};
-use std::thread::{Threads, map_vec};
+use std::thread::{JoinHandle, Scope, Threads};
+use std::{rt, thread};
 
 /// The registration of the instance of a number.
 fn registration(alloc: Global, number: u64) -> Result<Op, Fault> {
@@ -53,7 +53,31 @@ fn register_some<J: Naming, R: Wait + rt::Clock>(
     Ok(())
 }
 
-/// Registers so many instances by so many writers, each a thread.
+/// Starts so many writers, each on a thread of its own.
+fn start_writers<'s, E, J: Naming + Send + Sync + 's, R: Threads + Wait + rt::Clock + Sync + 's>(
+    scope: &'s Scope<'s, E>,
+    rt: &'s R,
+    alloc: Global,
+    desk: &'s Mutex<Desk<J>>,
+    writers: u64,
+    instances: u64,
+) -> Result<Vec<JoinHandle<Result<(), Fault>>>, Fault>
+    requires { 0 < writers }
+{
+    let mut started = Vec::new(alloc);
+    for writer in 0..writers {
+        let Ok(one) = scope.spawn(move || register_some(
+            rt, alloc, desk, writer, writers, instances,
+        )) else {
+            return Err(Fault::ReadFailed);
+        };
+        started.push(one)?;
+    }
+    Ok(started)
+}
+
+/// Registers so many instances by so many writers, each on a thread of its own. Refused as `ReadFailed`
+/// where the host refuses one.
 pub(super) fn register_all<J: Naming + Send + Sync, R: Threads + Wait + rt::Clock + Sync>(
     rt: &R,
     alloc: Global,
@@ -63,17 +87,15 @@ pub(super) fn register_all<J: Naming + Send + Sync, R: Threads + Wait + rt::Cloc
 ) -> Result<(), Fault>
     requires { 0 < writers }
 {
-    let mut numbers = Vec::new(alloc);
-    for writer in 0..writers {
-        numbers.push(writer)?;
-    }
-    let registered = map_vec(
+    let started = thread::scope(
+        thread::scope_env(),
         rt,
-        numbers,
-        &|writer: u64| { register_some(rt, alloc, desk, writer, writers, instances) },
+        move |scope|
+            requires { 0 < writers }
+        { start_writers(scope, rt, alloc, desk, writers, instances) },
     )?;
-    for one in registered {
-        one?;
+    for one in started {
+        one.join(rt)?;
     }
     Ok(())
 }

@@ -5,7 +5,6 @@ ghost use Rattle.disco_reconcile.specs.State.{copy_of};
 
 use disco_client::Copy;
 use disco_follow::are_same;
-use disco_http::{Failed, Sink, write_all};
 use disco_press::{Desk, Naming};
 use disco_reconcile::{Client, Fetch};
 use disco_values::{DocKey, Fault, Form, Query};
@@ -69,18 +68,13 @@ pub fn lines_of<F: Fetch>(
     Ok(lines)
 }
 
-/// Writes a line for the registry, and one for each client.
-pub(super) fn show<J: Naming, R: Wait, F: Fetch, W: Sink>(
+/// A line for the registry as it is now, and one for each client.
+pub(super) fn lines_now<J: Naming, R: Wait, F: Fetch>(
     rt: &R,
     alloc: Global,
     desk: &Mutex<Desk<J>>,
     clients: &[Client<F>],
-    out: &mut W,
-) -> Result<(), Fault> {
+) -> Result<String, Fault> {
     let registry = copy_of(rt, alloc, desk)?;
-    let lines = lines_of(alloc, &registry, clients)?;
-    match write_all(out, lines.as_bytes()) {
-        Ok(()) => Ok(()),
-        Err(Failed) => Err(Fault::WriteFailed),
-    }
+    lines_of(alloc, &registry, clients)
 }

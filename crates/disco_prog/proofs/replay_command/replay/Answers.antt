@@ -1,4 +1,4 @@
-use Rattle.std.proofs.Common.{◌≡◌, [], inl, inr, refl, ap, subst}
+use Rattle.std.proofs.Common.{◌≡◌, [], inl, inr, refl, sym, ap, subst, ◌∙◌}
 use Rattle.clap.specs.Words.{HasKind, IsAmong, Kinds}
 use Rattle.clap.specs.declared.error.Error.{Error}
 use Rattle.clap.specs.Words.{kind_of}
@@ -13,10 +13,16 @@ no_memory kinds e none (inl memory) = ap status_of_kind memory
 no_memory kinds e none (inr among) = absurd (subst (IsAmong (kind_of e)) none among)
 
 pub returns-in-Ok-answer_input-clause-bad_line : goal.returns-in-Ok-answer_input-clause-bad_line
-returns-in-Ok-answer_input-clause-bad_line g c = λ none input bad e line. absurd (none_bad _ _ c.in-Ok-answer_input.ensures.answered.read input bad e line)
+returns-in-Ok-answer_input-clause-bad_line g c = λ none input bad e line. absurd (none_bad _ _ c.in-Ok-answer_input.ensures.answered.1.read input bad e line)
 
 pub returns-in-Err-answer_input-clause-failed : goal.returns-in-Err-answer_input-clause-failed
-returns-in-Err-answer_input-clause-failed g c = λ none one. (c.in-Err-answer_input.fault, inr (c.in-Ok.settings, c.in-Ok.ensures.settings, c.in-Err-answer_input.ensures.fault), c.report.ensures.says, c.in-Err-answer_input.ensures.unwritten)
+returns-in-Err-answer_input-clause-failed g c = λ none one. (
+  c.in-Err-answer_input.fault,
+  c.report.ensures.says,
+  inr (c.in-Ok.settings, c.in-Ok.ensures.settings, c.in-Err-answer_input.ensures.fault, c.in-Err-answer_input.ensures.left),
+)
 
 pub returns-in-Err-clause-failed : goal.returns-in-Err-clause-failed
-returns-in-Err-clause-failed g c = λ none one. (OutOfMemory, inl refl, c.refused.ensures.memory (no_memory _ c.in-Err.error none c.in-Err.ensures.faults), λ known written. absurd (known refl))
+returns-in-Err-clause-failed g c = λ none one.
+    let memory = no_memory _ c.in-Err.error none c.in-Err.ensures.faults in
+    (OutOfMemory, c.refused.ensures.memory memory, inl (refl, c.refused.ensures.unwritten (λ zero. let both = sym memory ∙ zero in absurd (cc))))
