@@ -4,7 +4,7 @@ use disco_trials::Outcome;
 use disco_values::{Fault, Form, Text};
 use disco_wire::{Mention, Shape, Wire, read_document};
 use disco_writer::text_full;
-use json::Writer;
+use serde_json::Value;
 use std::alloc::{AllocError, Global};
 use std::io;
 
@@ -13,9 +13,8 @@ fn push(out: &mut Vec<u8>, text: &str) -> Result<(), AllocError> {
 }
 
 fn push_quoted(alloc: Global, out: &mut Vec<u8>, text: &str) -> Result<(), AllocError> {
-    let mut quoted = Writer::new(Vec::new(alloc));
-    quoted.string(text)?;
-    out.extend_from_slice(quoted.into_inner().as_slice())
+    let quoted = Value::String(String::from_str(alloc, text)?).to_vec(alloc)?;
+    out.extend_from_slice(quoted.as_slice())
 }
 
 fn push_text(alloc: Global, out: &mut Vec<u8>, form: Form, mention: &Mention) -> Result<(), Fault> {

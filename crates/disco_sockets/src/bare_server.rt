@@ -3,7 +3,7 @@ use disco_connections::{
     Acceptor, Buffers, Post, Waits, Workers, next_connection, serve_connection,
 };
 use disco_http::Service;
-use disco_message::{Document, Limits, Reply, Request, StatusLine};
+use disco_message::{Document, Limits, Reply, Request, StatusCode};
 use std::alloc::Global;
 use std::net::{Net, TcpListener, TcpStream};
 use std::sync::{Mutex, Wait};
@@ -38,7 +38,7 @@ impl Service for Always {
 
     fn call(&mut self, _request: &Request) -> Reply<Nothing> {
         Reply {
-            status: StatusLine::NoContent,
+            status: StatusCode::NO_CONTENT,
             allow: None,
             document: None,
             cert: None,

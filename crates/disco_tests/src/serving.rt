@@ -1,6 +1,6 @@
 //! Connections of which one read or one write fails, each in turn.
 use disco_http::{Counted, End, Reader, Served, Service, Writer, serve};
-use disco_message::{Document, Limits, Reply, Request, StatusLine};
+use disco_message::{Document, Limits, Reply, Request, StatusCode};
 use disco_values::Fault;
 use std::alloc::{AllocError, Global};
 use std::io;
@@ -110,7 +110,7 @@ impl Service for Clerk {
     fn call(&mut self, _request: &Request) -> Reply<Page> {
         self.answered = self.answered.saturating_add(1);
         Reply {
-            status: StatusLine::Success,
+            status: StatusCode::OK,
             allow: None,
             document: Some(Page),
             cert: None,
