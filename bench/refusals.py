@@ -4,7 +4,9 @@ refusals.py ROOT FOLDER [--quick]
 A run of `discovery replay` in which one growth is refused may come to this, and to nothing else:
 
 - It answers as without a refusal.
-- It ends with status 1 and says `discovery: fault 1`; what was written before is a front of the answers.
+- It ends with status 1 and says `discovery: fault 1`, and no answer is written: all events are answered
+  before the first line is. A front of the lines could stand there only where a line of `held` of more than
+  64 KiB found no memory, and no row has one.
 - One event answers `fault 1`, and all others answer as they do in a run of the events without that one.
 - One load answers as without a refusal, and its document isn't kept: all others answer as they do
   without that load.
@@ -45,13 +47,14 @@ REFUSED = (1, b"discovery: fault 1\n")
 
 # What comes of a growth that is refused.
 UNSEEN = "nothing seen"
+NONE_WRITTEN = "ended with no answer"
 ENDED = "ended behind a front"
 ONE_REFUSED = "one event refused"
 UNKEPT = "a document not kept"
 STOPPED = "a run of leases stopped"
 UNSHOWN = "a message not shown"
 OTHER = "SOMETHING ELSE"
-ALL = (UNSEEN, ENDED, ONE_REFUSED, UNKEPT, STOPPED, UNSHOWN, OTHER)
+ALL = (UNSEEN, NONE_WRITTEN, ENDED, ONE_REFUSED, UNKEPT, STOPPED, UNSHOWN, OTHER)
 
 AT_ONCE = os.cpu_count() or 1
 
@@ -188,7 +191,7 @@ class Row:
         if came == self.wanted:
             return UNSEEN
         if (came.status, came.err) == REFUSED:
-            return ENDED if self.wanted.out.startswith(came.out) else None
+            return NONE_WRITTEN if came.out == b"" else None
         # Words that are refused are so without memory for their message too.
         if self.wanted.status == 2 and came == Came(2, self.wanted.out, b""):
             return UNSHOWN
