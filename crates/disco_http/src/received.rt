@@ -24,28 +24,6 @@ impl<R: Source> Reader<R> {
     ghost use Rattle.disco_http.specs.Replies.{HasNoReply, TakesReply, ReplyRefused};
     ghost use Rattle.disco_http.specs.Streams.{ahead, reader_limits, source_of, is_spent, Came};
 
-    /// Reads a reply, refused or not.
-    fn try_reply(&mut self, alloc: Global) -> Result<ReceivedReply, Fault>
-        ensures reply { IfOk result (λ reply. IfSome (ahead R.remaining self.old) (λ stream.
-            (rest : List ℕ) × TakesReply self.old.limits stream reply.head reply.body.items rest × (ahead R.remaining self.new ≡ Some rest))) }
-        ensures refused { IfErr result (λ fault. IfSome (ahead R.remaining self.old) (ReplyRefused self.old.limits fault)) }
-        ensures broken { IsErrOf result ReadFailed → IfSome (ahead R.remaining self.old) (λ stream.
-            Came (HasNoReply self.old.limits) stream (R.remaining self.new.source)) }
-        ensures limits { self.new.limits ≡ self.old.limits }
-        ensures fault { IfErr result (λ fault. IsTrue (is_of_reply fault)) }
-        ensures cause { Cause ReadFailed (R.failed self.old.source) (R.failed self.new.source) result }
-        ensures none_failed { OnOk result (R.failed self.new.source ≡ R.failed self.old.source) }
-    {
-        let Some(Found::ReplyHead(line)) = self.find(Part::ReplyHead)? else {
-            return Err(Fault::BadRequest);
-        };
-        let unread = &self.buffer[self.start..self.end];
-        let head = ReceivedHead::new(alloc, unread, &self.spans, &line)?;
-        self.consume(line.len);
-        let body = self.read_body(alloc, head.extent())?;
-        Ok(ReceivedReply { head, body })
-    }
-
     /// Reads a reply, its body by length, in chunks or, with neither, up to the end of the input.
     ///
     /// # Errors
@@ -69,8 +47,16 @@ impl<R: Source> Reader<R> {
         ensures none_failed { OnOk result (R.failed (source_of self.new) ≡ R.failed (source_of self.old)) }
         ensures spent { is_spent self.new ≡ is_err result }
     {
-        let result = self.try_reply(alloc);
-        self.spent = result.is_err();
-        result
+        let found = self.find(Part::ReplyHead);
+        self.spent = true;
+        let Some(Found::ReplyHead(line)) = found? else {
+            return Err(Fault::BadRequest);
+        };
+        let unread = &self.buffer[self.start..self.end];
+        let head = ReceivedHead::new(alloc, unread, &self.spans, &line)?;
+        self.consume(line.len);
+        let body = self.read_body(alloc, head.extent());
+        self.spent = body.is_err();
+        Ok(ReceivedReply { head, body: body? })
     }
 }

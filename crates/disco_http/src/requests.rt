@@ -27,30 +27,6 @@ impl<R: Source> Reader<R> {
         }
     }
 
-    /// Reads a request, refused or not.
-    fn try_request(&mut self, alloc: Global) -> Result<Option<Request>, Fault>
-        ensures request { IfOk result (λ found. IfSome found (λ request. IfSome (ahead R.remaining self.old) (λ stream.
-            (rest : List ℕ) × TakesRequest self.old.limits stream request rest × (ahead R.remaining self.new ≡ Some rest)))) }
-        ensures none { IfOk result (λ found. IfNone found (IfSome (ahead R.remaining self.old) (λ stream. stream ≡ []))) }
-        ensures refused { IfErr result (λ fault. IfSome (ahead R.remaining self.old) (Refused self.old.limits fault)) }
-        ensures broken { IsErrOf result ReadFailed → IfSome (ahead R.remaining self.old) (λ stream.
-            Came (HasNone self.old.limits) stream (R.remaining self.new.source)) }
-        ensures limits { self.new.limits ≡ self.old.limits }
-        ensures fault { IfErr result (λ fault. IsTrue (is_of_request fault)) }
-        ensures cause { Cause ReadFailed (R.failed self.old.source) (R.failed self.new.source) result }
-        ensures none_failed { OnOk result (R.failed self.new.source ≡ R.failed self.old.source) }
-    {
-        let Some(Found::RequestHead(line)) = self.find(Part::RequestHead)? else {
-            return Ok(None);
-        };
-        let room = mem::replace(&mut self.head, HeadRoom::new(alloc));
-        let unread = &self.buffer[self.start..self.end];
-        let head = Head::new(alloc, room, unread, &self.spans, &line)?;
-        self.consume(line.len);
-        let body = self.read_body(alloc, Extent::Framed(head.framing()))?;
-        Ok(Some(Request::new(head, body)))
-    }
-
     /// Reads a request. None at the end of the input, between requests.
     ///
     /// # Errors
@@ -76,9 +52,20 @@ impl<R: Source> Reader<R> {
         ensures none_failed { OnOk result (R.failed (source_of self.new) ≡ R.failed (source_of self.old)) }
         ensures spent { is_spent self.new ≡ is_err result }
     {
-        self.source.expect(self.stage());
-        let result = self.try_request(alloc);
-        self.spent = result.is_err();
-        result
+        let stage = self.stage();
+        self.source.expect(stage);
+        let found = self.find(Part::RequestHead);
+        self.spent = true;
+        let Some(Found::RequestHead(line)) = found? else {
+            self.spent = false;
+            return Ok(None);
+        };
+        let room = mem::replace(&mut self.head, HeadRoom::new(alloc));
+        let unread = &self.buffer[self.start..self.end];
+        let head = Head::new(alloc, room, unread, &self.spans, &line)?;
+        self.consume(line.len);
+        let body = self.read_body(alloc, Extent::Framed(head.framing()));
+        self.spent = body.is_err();
+        Ok(Some(Request::new(head, body?)))
     }
 }
