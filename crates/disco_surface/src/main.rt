@@ -1,0 +1,109 @@
+//! Each public name by the path of the crate that gives it, and each call once, as whoever has the list
+//! of public names alone would write it. Prints what the calls answer.
+#![tactic(auto)]
+
+ghost use Rattle.disco_press.specs.Openings.{Opens};
+
+mod copies;
+mod desks;
+mod documents;
+mod given;
+mod hubs;
+mod lists;
+mod records;
+mod servers;
+mod states;
+mod streams;
+
+use disco_instance::Fault;
+use disco_press::{Desk, Naming, Opening, Seat, open};
+use std::alloc::Global;
+use std::marker::Brand;
+use std::net::{Net, TcpListener, TcpStream};
+use std::process::ExitCode;
+use std::rt::Clock;
+use std::sync::{Mutex, MutexGuard, Wait};
+use std::thread::Threads;
+
+/// What takes one thread and no desk.
+fn tell_calls(alloc: Global, out: &mut String) -> Result<(), Fault> {
+    records::tell(alloc, out)?;
+    states::tell(alloc, out)?;
+    documents::tell(alloc, out)?;
+    hubs::tell(alloc, out)?;
+    copies::tell(alloc, out)?;
+    lists::tell(alloc, out)?;
+    streams::tell(alloc, out)?;
+    servers::tell_hub(alloc, out)
+}
+
+/// What a desk and a seat do under the lock.
+fn tell_locked<J: Naming, R: Wait>(
+    rt: &R,
+    alloc: Global,
+    desk: &Mutex<Desk<J>>,
+    seat: &mut Seat<J>,
+    out: &mut String,
+) -> Result<(), Fault> {
+    let mut guard = desk.lock(rt);
+    let told = desks::tell(rt, alloc, &mut *guard, seat, out);
+    let answered = servers::tell_desk(alloc, &mut *guard, seat, out);
+    MutexGuard::unlock(guard);
+    told.and(answered)
+}
+
+/// What takes a desk and its seats.
+fn tell_seats<J: Naming + Send + Sync, R>(
+    rt: &R,
+    alloc: Global,
+    desk: &Mutex<Desk<J>>,
+    seat: &mut Seat<J>,
+    seats: Vec<Seat<J>>,
+    out: &mut String,
+) -> Result<(), Fault>
+where
+    R: Net<Listener = TcpListener, Stream = TcpStream> + Threads + Wait + Clock + Sync,
+{
+    tell_locked(rt, alloc, desk, seat, out)?;
+    servers::tell_beside(rt, alloc, desk, seat, out)?;
+    servers::tell_running(rt, alloc, desk, seats, out)
+}
+
+/// What a desk answers until it is closed, and a seat behind it.
+fn tell_desk<J: Naming + Send + Sync, R>(
+    rt: &R,
+    alloc: Global,
+    opening: Opening,
+    out: &mut String,
+) -> Result<(), Fault>
+where
+    R: Net<Listener = TcpListener, Stream = TcpStream> + Threads + Wait + Clock + Sync,
+    requires opening { Opens J.list J.name J.parts opening }
+{
+    let (desk, mut seats) = open::<J, R>(rt, alloc, &hubs::settings(), 2, opening)?;
+    let mut seat = seats.pop().unwrap();
+    let desk = Mutex::new(desk);
+    let told = tell_seats(rt, alloc, &desk, &mut seat, seats, out);
+    desk.into_inner().close(rt);
+    told.and(desks::tell_shut(&mut seat, out))
+}
+
+/// All that is told, and why it ends early, if it does.
+fn tell_all<R>(rt: &R, alloc: Global, out: &mut String) -> Result<(), Fault>
+where
+    R: Net<Listener = TcpListener, Stream = TcpStream> + Threads + Wait + Clock + Sync,
+{
+    tell_calls(alloc, out)?;
+    tell_desk::<Brand, R>(rt, alloc, Opening::new(), out)
+}
+
+fn main(rt: HostRuntime) -> ExitCode {
+    let mut out = String::new(rt.alloc());
+    let told = tell_all(&rt, rt.alloc(), &mut out);
+    let printed = print!(rt; "{out}");
+    if told.is_ok() && printed.is_ok() {
+        ExitCode::SUCCESS
+    } else {
+        ExitCode::FAILURE
+    }
+}
