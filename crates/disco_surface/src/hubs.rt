@@ -1,7 +1,7 @@
 //! A hub, by each of its calls.
 use crate::given::{app, key, refusal, registration, say};
 use disco_cache::DocKey;
-use disco_hub::{Copied, Expired, Hub, Settings};
+use disco_hub::{Copied, Expired, Hub, Ready, Settings};
 use disco_instance::{Fault, Form, Key, Text};
 use disco_registry::Op;
 use disco_writer::Query;
@@ -22,7 +22,7 @@ pub(crate) fn settings() -> Settings {
 
 /// A registration that is made ready and done: whether it tells a change.
 fn register(alloc: Global, hub: &mut Hub) -> Result<u64, Fault> {
-    let ready = hub.ready(registration(alloc, "1")?, 1)?;
+    let ready: Ready = hub.ready(registration(alloc, "1")?, 1)?;
     let told = ready.change()?.is_some();
     let _ = hub.commit(ready);
     Ok(told as u64)

@@ -8,7 +8,7 @@ use disco_index::{Counts, VipIndex};
 use disco_instance::{Action, Entries, Fault, Key, Record, Status, Text};
 use disco_lease::LeaseBook;
 use disco_queue::ChangedQueue;
-use disco_registry::{Applied, Op, Registry};
+use disco_registry::{Applied, Op, Ready, Registry};
 use std::alloc::Global;
 use std::sync::Arc;
 
@@ -151,7 +151,7 @@ fn operation(alloc: Global, number: u64) -> Result<Op, Fault> {
 
 /// A registration that is made ready and done.
 fn register(alloc: Global, registry: &mut Registry) -> Result<bool, Fault> {
-    let ready = registry.ready(registration(alloc, "1")?, 1000)?;
+    let ready: Ready = registry.ready(registration(alloc, "1")?, 1000)?;
     Ok(matches!(registry.commit(ready), Applied::Changed(_)))
 }
 
