@@ -1,4 +1,5 @@
 //! What trials are given: settings, instances, and keys of documents.
+use disco_hub::Hub;
 use disco_instance::Record;
 use disco_options::settings_of;
 use disco_registry::Op;
@@ -21,6 +22,12 @@ pub(crate) fn defaults(alloc: Global) -> Result<Settings, Fault> {
         Ok(settings) => Ok(settings),
         Err(_) => Err(Fault::OutOfMemory),
     }
+}
+
+/// An empty hub.
+pub(crate) fn empty_hub(alloc: Global) -> Result<Hub, Fault> {
+    let settings = defaults(alloc)?;
+    Ok(Hub::new(alloc, &settings))
 }
 
 /// The record of the instance of an id, of app A.
