@@ -3,7 +3,7 @@ use Rattle.std.proofs.Common.{◌≡◌, ℕ, ◌+◌, ◌<◌, List, [], ◌∷
 use Rattle.std.specs.Io.KnownBytes.{Keeps, Consumes, prepend_known}
 use Rattle.httparse.specs.Ascii.{crlf_bytes}
 use Rattle.std.proofs.Math.Seq.{drop-append-add}
-use Rattle.httparse.specs.Grammar.{print_chunk_line, chunk_size, RequestHead, IsRequestHead, print_request, ResponseHead, IsResponseHead, print_response, HasNoChunkLine, HasNoSection}
+use Rattle.httparse.specs.Grammar.{print_chunk_line, chunk_size, ResponseHead, IsResponseHead, print_response, HasNoChunkLine, HasNoSection}
 use Rattle.httparse.proofs.GrammarLemmas.{request_unique, response_unique}
 use Rattle.httparse.proofs.ChunkLemmas.{chunk_line_unique}
 use Rattle.disco_message.specs.declared.framing.Framing.TheVariants.{Chunked}
@@ -14,7 +14,8 @@ use Rattle.disco_message.specs.Heading.{Heading, heading}
 use Rattle.disco_message.specs.Received.{Received, received}
 use Rattle.disco_http.specs.Bodies.{ReadsBody}
 use Rattle.disco_http.specs.Chunks.{HasSize, ReadsChunk, ReadsPieces}
-use Rattle.disco_http.specs.Found.{HasNoChunks, HasNoBody, HasNoExtent, HeadRead, ReplyRead, Turn, PiecesSoFar}
+use Rattle.disco_http.specs.Coming.{HeadAt}
+use Rattle.disco_http.specs.Found.{HasNoChunks, HasNoBody, HasNoExtent, ReplyRead}
 use Rattle.disco_http.specs.Replies.{HasNoReply, ReadsExtent}
 use Rattle.disco_http.specs.Requests.{HasNone}
 use Rattle.disco_http.specs.Streams.{Came}
@@ -53,17 +54,13 @@ line_is limits given after rest m n x y =
     let same = chunk_line_unique given x.0 y.0 after rest x.1 y.1 in
     (sym x.3 ∙ ap chunk_size same.0 ∙ y.3, same.1)
 
--- the line, with what came behind it
-line_came : (limits : Limits) (n : ℕ) (input after given : List ℕ) → (h : HasSize limits n input after) → HasSize limits n (print_chunk_line h.0 ++ given) given
-line_came limits n input after given h = (h.0, (h.1.0, refl), h.2, h.3)
-
 -- no line of a chunk came
 pub no_line_came : (limits : Limits) (given : List ℕ) → HasNoChunkLine given → HasNoChunks limits given
 no_line_came limits given none [] next rest reads last = none last.1.0 last.0 (last.1.1.0, reads ∙ last.1.1.1)
 no_line_came limits given none (piece ∷ pieces) next rest reads last = none reads.1.1.0 (piece ++ (crlf_bytes ++ reads.0)) reads.1.1.1
 
 -- a line came, and not all bytes of its chunk with a line end
-no_data : (limits : Limits) (n : ℕ) (text given : List ℕ) → 0 < n → HasSize limits n text given → length given < n + 2 → HasNoChunks limits text
+pub no_data : (limits : Limits) (n : ℕ) (text given : List ℕ) → 0 < n → HasSize limits n text given → length given < n + 2 → HasNoChunks limits text
 no_data limits n text given some here few [] next rest reads last =
     let same = line_is limits text given last.0 n 0 here (subst (λ (xs : List ℕ). HasSize limits 0 xs last.0) (sym reads) last.1) in
     omega (arith, some, same.0)
@@ -72,17 +69,8 @@ no_data limits n text given some here few (piece ∷ pieces) next rest reads las
     let two : length crlf_bytes ≡ 2 = refl in
     omega (arith, few, same.0, ap length same.1, length-append piece (crlf_bytes ++ reads.0), length-append crlf_bytes reads.0, two)
 
-pub no_data_came : (limits : Limits) (n : ℕ) (left mid : Option (List ℕ)) (b : Option (List ℕ)) → 0 < n → IfSome left (λ input. (after : List ℕ) × HasSize limits n input after × (mid ≡ Some after)) → IfSome mid (λ after. Came (λ given. length given < n + 2) after b) → IfSome left (λ input. Came (HasNoChunks limits) input b)
-no_data_came limits n None mid b some found cut = tt
-no_data_came limits n (Some input) mid b some found cut =
-    let after = found.0 in
-    let line = found.1 in
-    came_behind (HasNoChunks limits) input (print_chunk_line line.0) after b (λ given. length given < n + 2) line.1.1
-    (λ given few. no_data limits n (print_chunk_line line.0 ++ given) given some (line_came limits n input after given line) few)
-    (known_is mid after (λ after. Came (λ given. length given < n + 2) after b) found.2 cut)
-
 -- the line of size 0 came, and not all fields behind it
-no_fields : (limits : Limits) (text given : List ℕ) → HasSize limits 0 text given → HasNoSection given → HasNoChunks limits text
+pub no_fields : (limits : Limits) (text given : List ℕ) → HasSize limits 0 text given → HasNoSection given → HasNoChunks limits text
 no_fields limits text given here none [] next rest reads last =
     let same = line_is limits text given last.0 0 0 here (subst (λ (xs : List ℕ). HasSize limits 0 xs last.0) (sym reads) last.1) in
     let trailer = last.2 in
@@ -91,17 +79,8 @@ no_fields limits text given here none (piece ∷ pieces) next rest reads last =
     let same = line_is limits text given (piece ++ (crlf_bytes ++ reads.0)) 0 (length piece) here reads.1.1 in
     omega (arith, same.0, reads.1.0)
 
-pub no_trailer_came : (limits : Limits) (left now b : Option (List ℕ)) (old new : List ℕ) → IfSome left (λ input. Turn limits false old new input now) → IfSome now (λ after. Came HasNoSection after b) → IfSome left (λ input. Came (HasNoChunks limits) input b)
-no_trailer_came limits None now b old new turn cut = tt
-no_trailer_came limits (Some input) now b old new turn cut =
-    let after = turn.0 in
-    let line = turn.1 in
-    came_behind (HasNoChunks limits) input (print_chunk_line line.0) after b HasNoSection line.1.1
-    (λ given none. no_fields limits (print_chunk_line line.0 ++ given) given (line_came limits 0 input after given line) none)
-    (known_is now after (λ after. Came HasNoSection after b) turn.3 cut)
-
 -- behind a chunk that came
-no_more : (limits : Limits) (piece text given : List ℕ) → 0 < length piece → HasSize limits (length piece) text (piece ++ (crlf_bytes ++ given)) → HasNoChunks limits given → HasNoChunks limits text
+pub no_more : (limits : Limits) (piece text given : List ℕ) → 0 < length piece → HasSize limits (length piece) text (piece ++ (crlf_bytes ++ given)) → HasNoChunks limits given → HasNoChunks limits text
 no_more limits piece text given some here none [] next rest reads last =
     let same = line_is limits text (piece ++ (crlf_bytes ++ given)) last.0 (length piece) 0 here (subst (λ (xs : List ℕ). HasSize limits 0 xs last.0) (sym reads) last.1) in
     omega (arith, some, same.0)
@@ -111,48 +90,18 @@ no_more limits piece text given some here none (q ∷ pieces) next rest reads la
     sym (drop-append-add piece (crlf_bytes ++ given) 2) ∙ ap (drop (length piece + 2)) same.1 ∙ ap (λ n. drop (n + 2) (q ++ (crlf_bytes ++ reads.0))) same.0 ∙ drop-append-add q (crlf_bytes ++ reads.0) 2 in
     none pieces next rest (subst (λ (xs : List ℕ). ReadsPieces limits xs pieces next) (sym behind) reads.2) last
 
-chunk_came : (limits : Limits) (input piece after : List ℕ) (b : Option (List ℕ)) → ReadsChunk limits input piece after → Came (HasNoChunks limits) after b → Came (HasNoChunks limits) input b
-chunk_came limits input piece after b chunk cut =
-    let line = chunk.1 in
-    let front = print_chunk_line line.0 ++ (piece ++ crlf_bytes) in
-    let regroup : (xs : List ℕ) → print_chunk_line line.0 ++ (piece ++ (crlf_bytes ++ xs)) ≡ front ++ xs = λ xs.
-    ap (λ (ys : List ℕ). print_chunk_line line.0 ++ ys) (sym (append_assoc piece crlf_bytes xs)) ∙ sym (append_assoc (print_chunk_line line.0) (piece ++ crlf_bytes) xs) in
-    came_behind (HasNoChunks limits) input front after b (HasNoChunks limits) (line.1.1 ∙ regroup after)
-    (λ given none. subst (HasNoChunks limits) (regroup given) (no_more limits piece (print_chunk_line line.0 ++ (piece ++ (crlf_bytes ++ given))) given chunk.0 (line_came limits (length piece) input (piece ++ (crlf_bytes ++ after)) (piece ++ (crlf_bytes ++ given)) line) none))
-    cut
-
-pieces_came : (limits : Limits) (pieces : List (List ℕ)) (input next : List ℕ) (b : Option (List ℕ)) → ReadsPieces limits input pieces next → Came (HasNoChunks limits) next b → Came (HasNoChunks limits) input b
-pieces_came limits [] input next b reads cut = subst (λ (xs : List ℕ). Came (HasNoChunks limits) xs b) (sym reads) cut
-pieces_came limits (piece ∷ pieces) input next b reads cut =
-    chunk_came limits input piece reads.0 b reads.1 (pieces_came limits pieces reads.0 next b reads.2 cut)
-
-no_chunked : (limits : Limits) (given : List ℕ) → HasNoChunks limits given → HasNoBody limits Chunked given
+pub no_chunked : (limits : Limits) (given : List ℕ) → HasNoChunks limits given → HasNoBody limits Chunked given
 no_chunked limits given none body rest reads = none reads.0 reads.1 rest reads.2 reads.3
-
--- behind the chunks so far
-pub behind_chunks : (limits : Limits) (body : List ℕ) (first left b : Option (List ℕ)) → IfSome first (λ input. PiecesSoFar limits body input left) → IfSome left (λ input. Came (HasNoChunks limits) input b) → IfSome first (λ input. Came (HasNoBody limits Chunked) input b)
-behind_chunks limits body None left b so cut = tt
-behind_chunks limits body (Some input) left b so cut =
-    came_so (HasNoBody limits Chunked) (Some input) b (HasNoChunks limits) (no_chunked limits) (pieces_came limits so.0 input so.1 b so.2 (known_is left so.1 (λ input. Came (HasNoChunks limits) input b) so.4 cut))
 
 -- requests
 
-head_and : (limits : Limits) (h : RequestHead) (says : Heading) (given : List ℕ) → IsRequestHead h → heading h ≡ Ok says → HasNoBody limits says.framing given → HasNone limits (print_request h ++ given)
-head_and limits h says given is said none a rest takes =
-    let same = request_unique (print_request h ++ given) h takes.head given takes.after (is, refl) takes.begins.reads in
-    let as_said : Ok says ≡ Ok takes.says = sym said ∙ ap heading same.0 ∙ takes.heading in
+-- a head stands there, and not its whole body
+pub head_and : (limits : Limits) (given after : List ℕ) (says : Heading) → HeadAt limits given says after → HasNoBody limits says.framing after → HasNone limits given
+head_and limits given after says at none a rest takes =
+    let same = request_unique given at.0 takes.head after takes.after at.1.reads takes.begins.reads in
+    let as_said : Ok says ≡ Ok takes.says = sym at.2 ∙ ap heading same.0 ∙ takes.heading in
     let says_same : says ≡ takes.says = cc as_said in
-    none a.body rest (subst (λ (s : Heading). ReadsBody limits s.framing given a.body rest) (sym says_same) (subst (λ (xs : List ℕ). ReadsBody limits takes.says.framing xs a.body rest) (sym same.1) takes.body))
-
-pub no_body_came : (limits : Limits) (first mid b : Option (List ℕ)) (says : Heading) → IfSome first (λ stream. HeadRead limits stream says mid) → IfSome mid (λ after. Came (HasNoBody limits says.framing) after b) → IfSome first (λ stream. Came (HasNone limits) stream b)
-no_body_came limits None mid b says found cut = tt
-no_body_came limits (Some stream) mid b says found cut =
-    let h = found.0 in
-    let after = found.1 in
-    let reads = found.2.reads in
-    came_behind (HasNone limits) stream (print_request h) after b (HasNoBody limits says.framing) reads.1
-    (λ given none. head_and limits h says given reads.0 found.3 none)
-    (known_is mid after (λ after. Came (HasNoBody limits says.framing) after b) found.4 cut)
+    none a.body rest (subst (λ (s : Heading). ReadsBody limits s.framing after a.body rest) (sym says_same) (subst (λ (xs : List ℕ). ReadsBody limits takes.says.framing xs a.body rest) (sym same.1) takes.body))
 
 -- replies
 

@@ -1,11 +1,14 @@
 pub mod AnsweredRequests
+pub mod BodyTurns
 pub mod BrokenWrites
 pub mod CameBefore
 pub mod ChunkSteps
-pub mod EmptyLines
+pub mod Fuel
 pub mod Heads
 pub mod Known
 pub mod Messages
+pub mod MoreBytes
+pub mod ReadOn
 pub mod Refusals
 pub mod Slices
 pub mod StoppedBetween

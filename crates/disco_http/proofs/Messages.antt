@@ -31,7 +31,7 @@ module _ {H S : Type 0} (say : H → Result S Fault) (begins : List ℕ → H �
   abbrev Stands : List ℕ → ℕ → H → Type 0
   Stands u len h = (more : List ℕ) → begins (u ++ more) h (drop len u ++ more)
 
-  said : (says : S) (h : H) → Told say (Ok says) h → say h ≡ Ok says
+  pub said : (says : S) (h : H) → Told say (Ok says) h → say h ≡ Ok says
   said says h (inl e) = sym e
   said says h (inr e) = absurd (cc (e.0))
 
@@ -69,7 +69,7 @@ module _ {H S : Type 0} (say : H → Result S Fault) (begins : List ℕ → H �
       readable h after (Ok says) e ok = inr (says, e, no_memory says after)
       readable h after (Err fault) e ok = inr (absurd (cc ok))
 
-      behind : (fault : Fault) (h : H) (after : List ℕ) → Told say (Err fault) h → Behind fault h after
+      pub behind : (fault : Fault) (h : H) (after : List ℕ) → Told say (Err fault) h → Behind fault h after
       behind fault h after (inl e) = inl (sym e)
       behind fault h after (inr e) = subst (λ (f : Fault). Behind f h after) (sym (cc (e.0))) (readable h after (say h) refl e.1)
 

@@ -13,7 +13,7 @@ bytes_front limits part HeadTooLarge bytes h = inr h
 bytes_front limits part BadRequest bytes h = h
 bytes_front limits part fault bytes h = h
 
-by_front : (limits : Limits) (part : Part) (fault : Fault) (stream : List ℕ) → SomeFront limits part fault stream → PartRefused limits part fault stream
+pub by_front : (limits : Limits) (part : Part) (fault : Fault) (stream : List ℕ) → SomeFront limits part fault stream → PartRefused limits part fault stream
 by_front limits part ReadFailed stream h = tt
 by_front limits part BadRequest stream h = inl h
 by_front limits part fault stream h = h

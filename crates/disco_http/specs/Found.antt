@@ -24,16 +24,6 @@ use Rattle.disco_http.specs.Requests.{BeginsWithHead}
 use Rattle.disco_message.specs.Heading.{Heading, heading}
 use Rattle.disco_message.specs.Received.{Received, received}
 
--- an empty line stands behind a line in the bytes, the first of which follow none but CRs in their line, or not
-abbrev pub has_empty_line : Bool → List ℕ → Bool
-has_empty_line blank [] = false
-has_empty_line blank (b ∷ bytes) = (b == line_feed && blank) || has_empty_line (b == line_feed || (b == carriage_return && blank)) bytes
-
--- the bytes have what a part ends with
-abbrev pub has_end : Part → List ℕ → Bool
-has_end part.SizeLine bytes = list_any (λ b. b == line_feed) bytes
-has_end part bytes = has_empty_line false bytes
-
 -- a line of this length and size stands at the front
 abbrev pub IsLine : List ℕ → ℕ → ℕ → Type 0
 IsLine bytes len size = (len ≤ length bytes) × ((line : ChunkLine) × IsChunkLineAt bytes len size line)
@@ -57,36 +47,6 @@ Looked few part bytes spans (Ok (Some found)) = IsFound few part bytes spans fou
 Looked few part bytes spans (Ok None) = HasNo part bytes
 Looked few part bytes spans (Err fault) = BytesRefused few part fault bytes
 
--- why no chunk's line is read from the input
-abbrev pub SizeRefused : Limits → Fault → List ℕ → Type 0
-SizeRefused limits ReadFailed input = ⊤
-SizeRefused limits BadRequest input = LineRefused limits input
-SizeRefused limits fault input = ⊥
-
--- why the bytes of a chunk are refused
-abbrev pub DataRefused : ℕ → Fault → List ℕ → Type 0
-DataRefused size ReadFailed input = ⊤
-DataRefused size OutOfMemory input = ⊤
-DataRefused size BadRequest input = LacksChunk size input
-DataRefused size fault input = ⊥
-
--- why the fields behind the last chunk are refused
-abbrev pub TrailerRefused : Limits → Fault → List ℕ → Type 0
-TrailerRefused limits ReadFailed input = ⊤
-TrailerRefused limits HeadTooLarge input = PartRefused limits part.Trailer HeadTooLarge input
-TrailerRefused limits BadRequest input = PartRefused limits part.Trailer BadRequest input
-TrailerRefused limits fault input = ⊥
-
--- one turn: a chunk was appended to the body, or the line of size 0 was read
-abbrev pub Turn : Limits → Bool → List ℕ → List ℕ → List ℕ → Option (List ℕ) → Type 0
-Turn limits true old new input left = (piece : List ℕ) × (next : List ℕ) × ReadsChunk limits input piece next × (new ≡ old ++ piece) × (left ≡ Some next)
-Turn limits false old new input left = (next : List ℕ) × HasSize limits 0 input next × (new ≡ old) × (left ≡ Some next)
-
--- the body so far is that of the chunks so far
-abbrev pub PiecesSoFar : Limits → List ℕ → List ℕ → Option (List ℕ) → Type 0
-PiecesSoFar limits body input left = (pieces : List (List ℕ)) × (next : List ℕ) × ReadsPieces limits input pieces next × (body ≡ concat pieces)
-    × (left ≡ Some next)
-
 -- no chunks up to the last, with the fields behind it, stand at the front of these bytes
 abbrev pub HasNoChunks : Limits → List ℕ → Type 0
 HasNoChunks limits bytes = (pieces : List (List ℕ)) (next rest : List ℕ) → ReadsPieces limits bytes pieces next → ReadsLast limits next rest → ⊥
@@ -104,10 +64,6 @@ HasNoExtent limits UntilEnd bytes = ⊤
 abbrev pub IsRead : {H S : Type 0} → (H → Result S Fault) → (List ℕ → H → List ℕ → Type 0) → List ℕ → S → Option (List ℕ) → Type 0
 IsRead {H} say begins stream says left = (h : H) × (after : List ℕ) × begins stream h after × (say h ≡ Ok says) × (left ≡ Some after)
 
--- the same of the head of a request
-abbrev pub HeadRead : Limits → List ℕ → Heading → Option (List ℕ) → Type 0
-HeadRead limits stream says left = IsRead heading (BeginsWithHead limits) stream says left
-
--- and of the head of a reply
+-- the head of a reply
 abbrev pub ReplyRead : Limits → List ℕ → Received → Option (List ℕ) → Type 0
 ReplyRead limits stream says left = IsRead received (BeginsReply limits) stream says left

@@ -1,6 +1,7 @@
 pub mod Bodies
 pub mod Causes
 pub mod Chunks
+pub mod Coming
 pub mod Exchanges
 pub mod Found
 pub mod Parts
@@ -9,4 +10,5 @@ pub mod Requests
 pub mod Served
 pub mod Sinks
 pub mod Streams
+pub mod Unread
 pub mod Writes

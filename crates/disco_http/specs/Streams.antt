@@ -1,12 +1,13 @@
 -- What a reader has ahead.
-use Rattle.std.specs.Prelude.{ℕ, List, Option, Some, Bool, slice_range}
+use Rattle.std.specs.Prelude.{ℕ, List, Option, Some, Bool}
 use Rattle.std.specs.Io.KnownBytes.{Consumes, prepend_known}
 use Rattle.disco_http.specs.declared.reader.Reader.{Reader}
+use Rattle.disco_http.specs.Unread.{bytes_of}
 use Rattle.disco_message.specs.declared.limits.Limits.{Limits}
 
 -- the bytes that were read and not yet taken
 abbrev pub unread : {R : Type 0} → Reader R → List ℕ
-unread reader = slice_range reader.buffer.items reader.start reader.end
+unread reader = bytes_of reader.incoming.unread
 
 -- the bytes ahead: those, and then what the source gives, where that is known
 abbrev pub ahead : {R : Type 0} → (R → Option (List ℕ)) → Reader R → Option (List ℕ)

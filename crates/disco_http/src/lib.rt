@@ -2,9 +2,8 @@
 //! requests, and the replies are written. Whole inputs are read and whole texts written too.
 #![tactic(auto)]
 
-mod ahead;
-mod bodies;
-mod fill;
+mod body;
+mod incoming;
 mod parts;
 mod reader;
 mod received;
@@ -13,6 +12,8 @@ mod requests;
 mod service;
 mod session;
 mod source;
+mod steps;
+mod unread;
 mod whole;
 mod writer;
 
@@ -23,5 +24,6 @@ pub use replies::write_reply;
 pub use service::Service;
 pub use session::{End, Served, serve};
 pub use source::{Counted, Failed, Sink, Source, Stage};
+pub use steps::{Buffers, Next, Session};
 pub use whole::{read_all, write_all};
 pub use writer::Writer;

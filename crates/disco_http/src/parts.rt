@@ -1,9 +1,12 @@
 //! What stands at the front of bytes: a head, a chunk's line, or the fields behind the last chunk.
-ghost use Rattle.std.specs.Prelude.{◌≡◌, ◌==◌, ◌&&◌, ◌||◌, ◌≤◌, ◌<◌, IfErr, IsFalse, IsTrue, false, length, take};
-ghost use Rattle.disco_http.specs.Causes.{is_of_reply};
-ghost use Rattle.disco_http.specs.Found.{Looked, has_empty_line, has_end};
-ghost use Rattle.disco_http.specs.Parts.{HasNo};
+ghost use Rattle.std.specs.Prelude.{◌≡◌, ◌≤◌, ◌<◌, ◌++◌, ℕ, List, IfErr, IfNone, IfOk, IfSome, IsTrue, length, vec_len};
+ghost use Rattle.disco_http.specs.Coming.{is_of_bytes};
+ghost use Rattle.disco_http.specs.Found.{IsFound, Looked};
+ghost use Rattle.disco_http.specs.Parts.{HasNo, SomeFront};
+ghost use Rattle.disco_http.specs.Unread.{bytes_of};
 
+use crate::unread::Unread;
+use disco_message::Limits;
 use disco_values::Fault;
 use httparse::spans::{
     HeaderSpan, RequestSpans, ResponseSpans, parse_headers, parse_request, parse_response,
@@ -32,69 +35,11 @@ pub(crate) enum Found {
     Trailer(usize),
 }
 
-/// Whether a byte ends an empty line, where `blank` says that its line has none but CRs so far.
-fn ends_empty_line(byte: u8, blank: bool) -> bool
-    ensures { result ≡ (byte == 10 && blank) }
-{
-    byte == b'\n' && blank
-}
-
-/// Whether the line has none but CRs so far behind a byte.
-fn is_blank_behind(byte: u8, blank: bool) -> bool
-    ensures { result ≡ (byte == 10 || (byte == 13 && blank)) }
-{
-    byte == b'\n' || (byte == b'\r' && blank)
-}
-
-/// Whether an empty line stands behind a line in bytes.
-fn have_empty_line(bytes: &[u8]) -> bool
-    ensures { result ≡ has_empty_line false bytes.now }
-{
-    let mut left = bytes;
-    let mut blank = false;
-    while let [first, rest @ ..] = left {
-        if ends_empty_line(*first, blank) {
-            return true;
-        }
-        blank = is_blank_behind(*first, blank);
-        left = rest;
-    }
-    false
-}
-
-/// Whether bytes have what a part ends with.
-fn have_end(part: Part, bytes: &[u8]) -> bool
-    ensures { result ≡ has_end part bytes.now }
-{
-    match part {
-        Part::SizeLine => bytes.contains(&b'\n'),
-        Part::RequestHead | Part::ReplyHead | Part::Trailer => have_empty_line(bytes),
-    }
-}
-
-/// Whether it is worth to look at bytes again for a part, of which the first `looked` were looked at
-/// and the first `seen` don't have what a part ends with: it came behind these, or the bytes are twice
-/// as many as were looked at, so that a wrong one isn't told late.
-pub(crate) fn may_have(part: Part, bytes: &[u8], looked: usize, seen: usize) -> bool
-    requires looked { (looked ≤ seen) × (looked < length bytes.now) }
-    requires seen { seen ≤ length bytes.now }
-    ensures none { IsFalse result → HasNo part (take seen bytes.now) → HasNo part bytes.now }
-{
-    if bytes.len() - looked >= looked {
-        return true;
-    }
-    have_end(part, &bytes[seen.saturating_sub(2)..])
-}
-
 /// The part at the front of bytes, if it is whole.
-pub(crate) fn parse_at(
-    part: Part,
-    bytes: &[u8],
-    spans: &mut [HeaderSpan],
-) -> Result<Option<Found>, Fault>
+fn parse_at(part: Part, bytes: &[u8], spans: &mut [HeaderSpan]) -> Result<Option<Found>, Fault>
     ensures looked { Looked (length spans.old) part bytes.now spans.new result }
     ensures length { length spans.new ≡ length spans.old }
-    ensures fault { IfErr result (λ fault. IsTrue (is_of_reply fault)) }
+    ensures fault { IfErr result (λ fault. IsTrue (is_of_bytes fault)) }
 {
     match part {
         Part::RequestHead => match parse_request(bytes, spans) {
@@ -121,4 +66,30 @@ pub(crate) fn parse_at(
             Err(_) => Err(Fault::BadRequest),
         },
     }
+}
+
+/// The part at the front of what came, if it is whole.
+///
+/// Refused as `HeadTooLarge` or `BadRequest` for what came, whatever follows it.
+pub(crate) fn find(
+    limits: &Limits,
+    part: Part,
+    unread: &Unread,
+    spans: &mut Vec<HeaderSpan>,
+) -> Result<Option<Found>, Fault>
+    requires size { vec_len unread.now.buffer ≤ limits.now.head }
+    requires places { vec_len spans.old ≡ limits.now.fields }
+    ensures found { IfOk result (λ found. IfSome found (IsFound limits.now.fields part (bytes_of unread.now) spans.new.items)) }
+    ensures none { IfOk result (λ found. IfNone found (HasNo part (bytes_of unread.now))) }
+    ensures small { IfOk result (λ found. IfNone found (length (bytes_of unread.now) < limits.now.head)) }
+    ensures refused { IfErr result (λ fault. (more : List ℕ) → SomeFront limits.now part fault (bytes_of unread.now ++ more)) }
+    ensures fault { IfErr result (λ fault. IsTrue (is_of_bytes fault)) }
+    ensures places { vec_len spans.new ≡ vec_len spans.old }
+{
+    let bytes = unread.bytes();
+    let found = parse_at(part, bytes, spans)?;
+    if found.is_none() && bytes.len() >= limits.head {
+        return Err(Fault::HeadTooLarge);
+    }
+    Ok(found)
 }

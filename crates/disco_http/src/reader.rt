@@ -1,13 +1,15 @@
 //! A source with a buffer in front of it.
-ghost use Rattle.std.specs.Prelude.{◌≡◌, ◌⊎◌, ◌-◌, ◌+◌, ◌≤◌, ◌<◌, IsTrue, IsFalse, IsErrOf, Ok, vec_len, IfOk, IfErr, OnOk, OnErr, length, take};
-ghost use Rattle.std.specs.Io.KnownBytes.{Keeps, IsAtEnd};
-ghost use Rattle.disco_http.specs.Causes.{Counts, Cause};
+ghost use Rattle.std.specs.Prelude.{◌≡◌, ◌⊎◌, ◌<◌, ◌++◌, ℕ, List, IsTrue, IsFalse, IsErrOf, Ok, false, true, vec_len, IfOk, IfErr, OnOk, OnErr, length};
+ghost use Rattle.std.specs.Io.KnownBytes.{Keeps, Consumes, IsAtEnd};
+ghost use Rattle.disco_values.specs.declared.fault.Fault.TheVariants.{ReadFailed};
+ghost use Rattle.disco_http.specs.Causes.{Cause};
+ghost use Rattle.disco_http.specs.declared.incoming.Phase.TheVariants as phase;
 
-use crate::fill::read_from;
+use crate::incoming::{Incoming, Phase, Room};
 use crate::source::{Failed, Source};
-use disco_message::{HeadRoom, Limits, Request};
+use crate::unread::Unread;
+use disco_message::{Limits, Request};
 use disco_values::Fault;
-use httparse::spans::{EMPTY_HEADER_SPAN, HeaderSpan};
 use std::alloc::{AllocError, Global};
 
 /// A source with a buffer in front of it, which holds what was read and not yet taken. The buffer
@@ -18,17 +20,12 @@ pub struct Reader<R> {
     /// What a connection may ask for.
     pub limits: Limits,
     pub(crate) source: R,
-    pub(crate) buffer: Vec<u8>,
-    pub(crate) start: usize,
-    pub(crate) end: usize,
-    pub(crate) spans: Vec<HeaderSpan>,
-    pub(crate) head: HeadRoom,
-    pub(crate) body: Vec<u8>,
+    pub(crate) incoming: Incoming,
+    pub(crate) room: Room,
     pub(crate) spent: bool,
-    ghost ordered: { start ≤ end },
-    ghost within: { end ≤ vec_len buffer },
-    ghost room: { vec_len buffer ≡ limits.head },
-    ghost places: { vec_len spans ≡ limits.fields },
+    ghost size: { vec_len incoming.unread.buffer ≡ limits.head },
+    ghost places: { vec_len room.spans ≡ limits.fields },
+    ghost between: { IsFalse spent → incoming.phase ≡ phase.Head },
 }
 
 impl<R: Source> Reader<R> {
@@ -47,17 +44,16 @@ impl<R: Source> Reader<R> {
         ensures source { IfOk result (λ reader. source_of reader ≡ source) }
         ensures spent { IfOk result (λ reader. IsFalse (is_spent reader)) }
     {
-        let buffer = vec![in alloc; 0; limits.head]?;
-        let spans = vec![in alloc; EMPTY_HEADER_SPAN; limits.fields]?;
+        let incoming = Incoming {
+            unread: Unread::new(alloc, limits.head)?,
+            phase: Phase::Head,
+        };
+        let room = Room::new(alloc, limits.fields)?;
         Ok(Reader {
             limits,
             source,
-            buffer,
-            start: 0,
-            end: 0,
-            spans,
-            head: HeadRoom::new(alloc),
-            body: Vec::new(alloc),
+            incoming,
+            room,
             spent: false,
         })
     }
@@ -74,23 +70,20 @@ impl<R: Source> Reader<R> {
         let Reader {
             limits,
             source: _source,
-            buffer,
-            start: _,
-            end: _,
-            spans,
-            head,
-            body,
+            incoming,
+            room,
             spent: _,
         } = self;
+        let mut unread = incoming.unread;
+        unread.clear();
         Reader {
             limits,
             source,
-            buffer,
-            start: 0,
-            end: 0,
-            spans,
-            head,
-            body,
+            incoming: Incoming {
+                unread,
+                phase: Phase::Head,
+            },
+            room,
             spent: false,
         }
     }
@@ -102,7 +95,7 @@ impl<R: Source> Reader<R> {
         ensures source { source_of self.new ≡ source_of self.old }
         ensures spent { is_spent self.new ≡ is_spent self.old }
     {
-        (self.head, self.body) = request.into_room();
+        self.room.keep(request);
     }
 
     /// Reads nothing more.
@@ -124,83 +117,24 @@ impl<R: Source> Reader<R> {
 }
 
 impl<R: Source> Reader<R> {
-    ghost use Rattle.disco_http.specs.Streams.{ahead, unread};
+    ghost use Rattle.disco_http.specs.Streams.{unread};
 
-    /// The bytes that were read and not yet taken.
-    pub(crate) fn unread(&self) -> &[u8]
-        ensures bytes { result.now ≡ unread self.now }
-        ensures size { length result.now ≡ self.now.end - self.now.start }
-    {
-        &self.buffer[self.start..self.end]
-    }
-
-    /// Moves what is unread to the front of the buffer.
-    fn compact(&mut self)
-        ensures same { unread self.new ≡ unread self.old }
-        ensures source { self.new.source ≡ self.old.source }
-        ensures limits { self.new.limits ≡ self.old.limits }
-        ensures front { self.new.start ≡ 0 }
-        ensures size { self.new.end ≡ self.old.end - self.old.start }
-    {
-        let (start, end) = (self.start, self.end);
-        self.buffer.copy_within(start..end, 0);
-        self.start = 0;
-        self.end = end - start;
-    }
-
-    /// Reads once, behind what is unread. 0 is the end of the input.
-    fn read_behind(&mut self) -> Result<usize, Failed>
-        requires { self.old.end < vec_len self.old.buffer }
-        ensures ahead { Keeps (ahead R.remaining self.old) (ahead R.remaining self.new) }
-        ensures start { self.new.start ≡ self.old.start }
-        ensures limits { self.new.limits ≡ self.old.limits }
-        ensures more { IfOk result (λ n. self.new.end ≡ self.old.end + n) }
-        ensures none { result ≡ Ok 0 → unread self.new ≡ unread self.old }
-        ensures end { result ≡ Ok 0 → IsAtEnd (R.remaining self.new.source) }
-        ensures front { OnOk result (take (self.old.end - self.old.start) (unread self.new) ≡ unread self.old) }
-        ensures broken { OnErr result (unread self.new ≡ unread self.old) }
-        ensures cause { Counts (R.failed self.old.source) (R.failed self.new.source) result }
-    {
-        let count = read_from(&mut self.source, self.buffer.as_mut_slice(), self.end)?;
-        self.end += count;
-        Ok(count)
-    }
-
-    /// Makes room for a read. False where the whole buffer is unread.
-    fn make_room(&mut self) -> bool
-        ensures same { unread self.new ≡ unread self.old }
-        ensures source { self.new.source ≡ self.old.source }
-        ensures limits { self.new.limits ≡ self.old.limits }
-        ensures size { self.new.end - self.new.start ≡ self.old.end - self.old.start }
-        ensures room { IsTrue result → self.new.end < vec_len self.new.buffer }
-        ensures full { IsFalse result → self.new.end - self.new.start ≡ self.new.limits.head }
-    {
-        // Where nothing is unread, what comes next is read into the memory that was used last.
-        if self.start == self.end || self.end == self.buffer.len() {
-            self.compact();
-        }
-        self.end < self.buffer.len()
-    }
-
-    /// Reads once, and makes room for it. False at the end of the input.
+    /// Reads once, behind what is unread. False at the end of the input.
     pub(crate) fn more(&mut self) -> Result<bool, Fault>
-        ensures ahead { Keeps (ahead R.remaining self.old) (ahead R.remaining self.new) }
+        requires { length (unread self.old) < self.old.limits.head }
+        ensures came { OnOk result ((came : List ℕ) × (unread self.new ≡ unread self.old ++ came)
+            × Consumes (R.remaining self.old.source) (R.remaining self.new.source) came) }
+        ensures grown { result ≡ Ok true → length (unread self.old) < length (unread self.new) }
+        ensures end { result ≡ Ok false → (unread self.new ≡ unread self.old) × IsAtEnd (R.remaining self.new.source) }
+        ensures broken { OnErr result ((unread self.new ≡ unread self.old) × Keeps (R.remaining self.old.source) (R.remaining self.new.source)) }
+        ensures phase { self.new.incoming.phase ≡ self.old.incoming.phase }
         ensures limits { self.new.limits ≡ self.old.limits }
-        ensures grown { IfOk result (λ more. IsTrue more → self.old.end - self.old.start < self.new.end - self.new.start) }
-        ensures at_end { IfOk result (λ more. IsFalse more → IsAtEnd (R.remaining self.new.source)) }
-        ensures same { IfOk result (λ more. IsFalse more → unread self.new ≡ unread self.old) }
-        ensures front { OnOk result (take (self.old.end - self.old.start) (unread self.new) ≡ unread self.old) }
-        ensures broken { IsErrOf result Fault.ReadFailed → unread self.new ≡ unread self.old }
-        ensures room { IfOk result (λ more. IsFalse more → self.new.end - self.new.start < self.new.limits.head) }
-        ensures full { IsErrOf result Fault.HeadTooLarge → (unread self.new ≡ unread self.old) × (self.new.end - self.new.start ≡ self.new.limits.head) }
-        ensures fault { IfErr result (λ fault. (fault ≡ Fault.HeadTooLarge) ⊎ (fault ≡ Fault.ReadFailed)) }
-        ensures cause { Cause Fault.ReadFailed (R.failed self.old.source) (R.failed self.new.source) result }
+        ensures spent { self.new.spent ≡ self.old.spent }
+        ensures fault { IfErr result (λ fault. fault ≡ ReadFailed) }
+        ensures cause { Cause ReadFailed (R.failed self.old.source) (R.failed self.new.source) result }
         ensures none_failed { OnOk result (R.failed self.new.source ≡ R.failed self.old.source) }
     {
-        if !self.make_room() {
-            return Err(Fault::HeadTooLarge);
-        }
-        match self.read_behind() {
+        match self.incoming.unread.read_from(&mut self.source) {
             Ok(count) => Ok(count > 0),
             Err(Failed) => Err(Fault::ReadFailed),
         }

@@ -14,7 +14,7 @@ use disco_message::{Document, Reply};
 use disco_values::Fault;
 
 /// The bytes of the document, but for a reply without content.
-fn body_of<D: Document>(reply: &Reply<D>) -> &[u8]
+pub(crate) fn body_of<D: Document>(reply: &Reply<D>) -> &[u8]
     ensures { result.now ≡ reply_body reply.now.status (option_map D.content reply.now.document) }
 {
     if reply.status.as_u16() == 204 {
@@ -27,7 +27,7 @@ fn body_of<D: Document>(reply: &Reply<D>) -> &[u8]
 }
 
 /// The number of bytes of the document, if there is one.
-fn size_of<D: Document>(reply: &Reply<D>) -> Option<u64>
+pub(crate) fn size_of<D: Document>(reply: &Reply<D>) -> Option<u64>
     ensures { result ≡ option_map length (option_map D.content reply.now.document) }
 {
     match &reply.document {

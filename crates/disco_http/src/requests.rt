@@ -1,31 +1,18 @@
 //! Requests that are read.
-ghost use Rattle.std.specs.Prelude.{◌≡◌, ◌⊎◌, [], ℕ, List, IfOk, IfErr, IfNone, IfSome, IsErrOf, IsFalse, IsTrue, is_err, Ok, Some, OnOk, ◌-◌, drop};
-ghost use Rattle.std.specs.Io.KnownBytes.{prepend_known};
-ghost use Rattle.httparse.specs.Spans.{IsRequestOf, IsRequestWithin};
-ghost use Rattle.disco_values.specs.declared.fault.Fault.TheVariants.{BadRequest, UnsupportedCoding, OutOfMemory, ReadFailed};
-ghost use Rattle.disco_http.specs.Causes.{Cause, is_of_reply, is_of_request};
+ghost use Rattle.std.specs.Prelude.{◌≡◌, [], ℕ, List, IfOk, IfErr, IfNone, IfSome, IsErrOf, IsFalse, IsTrue, is_err, None, Ok, Some, OnOk};
+ghost use Rattle.disco_values.specs.declared.fault.Fault.TheVariants.{BadRequest, ReadFailed};
+ghost use Rattle.disco_http.specs.Causes.{Cause, is_of_request};
 
-use crate::parts::{Found, Part};
 use crate::reader::Reader;
-use crate::source::{Source, Stage};
-use disco_message::{Extent, Head, HeadRoom, Request};
+use crate::source::Source;
+use disco_message::Request;
 use disco_values::Fault;
-use httparse::spans::RequestSpans;
 use std::alloc::Global;
-use std::mem;
 
 impl<R: Source> Reader<R> {
+    ghost use Rattle.disco_http.specs.Coming.{IsBetween};
     ghost use Rattle.disco_http.specs.Requests.{HasNone, TakesRequest, Refused};
     ghost use Rattle.disco_http.specs.Streams.{ahead, reader_limits, source_of, is_spent, Came};
-
-    /// What was read of the next request.
-    fn stage(&self) -> Stage {
-        if self.start == self.end {
-            Stage::Between
-        } else {
-            Stage::Head
-        }
-    }
 
     /// Reads a request. None at the end of the input, between requests.
     ///
@@ -52,20 +39,40 @@ impl<R: Source> Reader<R> {
         ensures none_failed { OnOk result (R.failed (source_of self.new) ≡ R.failed (source_of self.old)) }
         ensures spent { is_spent self.new ≡ is_err result }
     {
-        let stage = self.stage();
-        self.source.expect(stage);
-        let found = self.find(Part::RequestHead);
+        let mut told = self.incoming.stage();
+        self.source.expect(told);
         self.spent = true;
-        let Some(Found::RequestHead(line)) = found? else {
-            self.spent = false;
-            return Ok(None);
-        };
-        let room = mem::replace(&mut self.head, HeadRoom::new(alloc));
-        let unread = &self.buffer[self.start..self.end];
-        let head = Head::new(alloc, room, unread, &self.spans, &line)?;
-        self.consume(line.len);
-        let body = self.read_body(alloc, Extent::Framed(head.framing()));
-        self.spent = body.is_err();
-        Ok(Some(Request::new(head, body?)))
+        loop {
+            let found = self.incoming.advance(alloc, &self.limits, &mut self.room)?;
+            if let Some(request) = found {
+                self.spent = false;
+                return Ok(Some(request));
+            }
+            let stage = self.incoming.stage();
+            if stage != told {
+                self.source.expect(stage);
+                told = stage;
+            }
+            if !self.more()? {
+                return self.end();
+            }
+        }
+    }
+
+    /// What is told at the end of the input: no request, where nothing came of one.
+    fn end(&mut self) -> Result<Option<Request>, Fault>
+        ensures none { result ≡ Ok None → IsBetween self.old.incoming }
+        ensures refused { IfErr result (λ fault. (fault ≡ BadRequest) × (IsBetween self.old.incoming → ⊥)) }
+        ensures some { IfOk result (λ found. found ≡ None) }
+        ensures spent { self.new.spent ≡ is_err result }
+        ensures incoming { self.new.incoming ≡ self.old.incoming }
+        ensures limits { self.new.limits ≡ self.old.limits }
+        ensures source { self.new.source ≡ self.old.source }
+    {
+        self.spent = !self.incoming.is_between();
+        if self.spent {
+            return Err(Fault::BadRequest);
+        }
+        Ok(None)
     }
 }

@@ -50,7 +50,7 @@ pub(crate) enum Step {
 }
 
 /// How a connection ends behind a request, if it does.
-fn end_behind(closes: bool, last: bool) -> Option<End>
+pub(crate) fn end_behind(closes: bool, last: bool) -> Option<End>
     ensures { result ≡ end_behind closes last }
 {
     if last {

@@ -1,0 +1,57 @@
+-- What a session has done with the bytes that it was given, however they were cut.
+use Rattle.std.specs.Prelude.{◌≡◌, ◌⊎◌, ℕ, ◌-◌, ◌≤◌, Bool, List, [], ◌∷◌, ◌++◌, drop, length, Option, None, is_some, ⊤}
+use Rattle.std.specs.List.{concat}
+use Rattle.disco_values.specs.declared.fault.Fault.TheVariants.{OutOfMemory}
+use Rattle.disco_values.specs.declared.fault.Fault as fault
+use Rattle.disco_message.specs.declared.limits.Limits.{Limits}
+use Rattle.disco_message.specs.RequestView as message
+use Rattle.disco_message.specs.ReplyText.{ReplyView, reply_text, reply_view}
+use Rattle.disco_http.specs.Coming.{StandsFor}
+use Rattle.disco_http.specs.Requests.{HasNone, Refused, TakesRequest}
+use Rattle.disco_http.specs.Served.{end_behind, refused}
+use Rattle.disco_http.specs.declared.incoming.Incoming.{Incoming}
+use Rattle.disco_http.specs.declared.steps.Outgoing.{Outgoing}
+use Rattle.disco_http.specs.declared.steps.Session.{Session}
+use Rattle.disco_http.specs.declared.steps.State.{State}
+use Rattle.disco_http.specs.declared.steps.State.TheVariants.{Waits, Looks, Writes, Over}
+
+-- these requests stand at the front of what was given, one after another, and then the rest
+abbrev pub Fronts : Limits → List ℕ → List message.RequestView → List ℕ → Type 0
+Fronts limits given [] rest = given ≡ rest
+Fronts limits given (a ∷ asks) rest = (next : List ℕ) × TakesRequest limits given a next × Fronts limits next asks rest
+
+-- the text of a reply that goes out
+abbrev pub text_of : {D : Type 0} → (D → List ℕ) → Outgoing D → List ℕ
+text_of content o = reply_text (reply_view content o.reply) (is_some o.end)
+
+-- what a session still has to put out
+abbrev pub unsent : {D : Type 0} → (D → List ℕ) → State D → List ℕ
+unsent content (Writes o) = drop (length (text_of content o) - o.left) (text_of content o)
+unsent content state = []
+
+-- what it holds of the bytes behind the requests that it answered: where it waits for more, no whole request
+abbrev pub Holds : {D : Type 0} → (D → List ℕ) → Limits → Incoming → State D → List ℕ → Type 0
+Holds content limits incoming Waits rest = StandsFor limits incoming rest × HasNone limits rest
+Holds content limits incoming Looks rest = StandsFor limits incoming rest
+Holds content limits incoming (Writes o) rest = (o.end ≡ None → StandsFor limits incoming rest) × (o.left ≤ length (text_of content o))
+Holds content limits incoming (Over end) rest = ⊤
+
+-- it was given these bytes, has answered these requests of them by these texts, and this is what it put out
+pub record HasDone {D : Type 0} (content : D → List ℕ) (session : Session D) (given : List ℕ) (asks : List message.RequestView) (texts : List (List ℕ))
+    (out : List ℕ) : Type 0 where
+  pub rest : List ℕ
+  pub fronts : Fronts session.limits given asks rest
+  pub holds : Holds content session.limits session.incoming session.state rest
+  pub put : out ++ unsent content session.state ≡ concat texts
+
+-- one request more is answered by the service
+abbrev pub AnswersNext : {D S : Type 0} → (D → List ℕ) → (S → message.RequestView → ReplyView → S → Type 0) → Session D → S → S → List ℕ → List message.RequestView
+    → List (List ℕ) → List ℕ → Type 0
+AnswersNext content answers session old new given asks texts out = (a : message.RequestView) × (r : ReplyView) × (last : Bool) × answers old a r new
+    × HasDone content session given (asks ++ a ∷ []) (texts ++ reply_text r (is_some (end_behind a.closes last)) ∷ []) out
+
+-- what follows is refused, whatever comes behind it, or memory is lacking
+abbrev pub RefusesNext : {D : Type 0} → (D → List ℕ) → Session D → List ℕ → List message.RequestView → List (List ℕ) → List ℕ → Type 0
+RefusesNext content session given asks texts out = (f : fault.Fault)
+    × ((f ≡ OutOfMemory) ⊎ ((more : List ℕ) (rest : List ℕ) → Fronts session.limits given asks rest → Refused session.limits f (rest ++ more)))
+    × HasDone content session given asks (texts ++ reply_text (refused f) true ∷ []) out

@@ -1,0 +1,289 @@
+//! One connection from its first byte to its end, step by step and without a socket.
+ghost use Rattle.std.specs.Prelude.{◌≤◌, vec_len};
+ghost use Rattle.std.specs.Vec.{vec_capacity};
+
+use crate::incoming::{Incoming, Phase, Room};
+use crate::replies::{body_of, size_of};
+use crate::service::Service;
+use crate::session::{End, end_behind};
+use crate::source::Stage;
+use crate::unread::Unread;
+use crate::writer::SMALL_BODY;
+use disco_message::{Document, HEAD_ROOM, Limits, Reply, Request, push_bytes, push_head, refusal};
+use disco_values::Fault;
+use std::alloc::{AllocError, Global};
+
+/// What a session does next.
+#[derive(Clone, Copy, Debug, PartialEq, Eq)]
+pub enum Next {
+    /// It waits for bytes: [`Session::take`] or [`Session::end_input`].
+    Read,
+    /// Bytes came at which it hasn't looked: [`Session::answer`].
+    Answer,
+    /// It has bytes to put out: [`Session::text`] and [`Session::sent`].
+    Write,
+    /// It is over.
+    Over(End),
+}
+
+/// A reply that is going out.
+#[derive(Drop)]
+pub(crate) struct Outgoing<D> {
+    pub(crate) reply: Reply<D>,
+    /// How the connection ends behind it, if it does.
+    pub(crate) end: Option<End>,
+    /// How many bytes of it are still to be written.
+    pub(crate) left: usize,
+}
+
+/// How far a session is.
+#[derive(Drop)]
+pub(crate) enum State<D> {
+    /// It has no whole request.
+    Waits,
+    /// It may have one.
+    Looks,
+    Writes(Outgoing<D>),
+    Over(End),
+}
+
+/// What a worker lends to the session that it steps: places for the fields of a head, the room of the
+/// last request, and room for the head of a reply with a small body.
+#[derive(Drop)]
+pub struct Buffers {
+    room: Room,
+    text: Vec<u8>,
+    ghost fits: { 4352 ≤ vec_capacity text },
+}
+
+impl Buffers {
+    /// Buffers for sessions within these limits.
+    ///
+    /// # Errors
+    ///
+    /// `AllocError` where memory is refused.
+    pub fn new(alloc: Global, limits: Limits) -> Result<Buffers, AllocError> {
+        Ok(Buffers {
+            room: Room::new(alloc, limits.fields)?,
+            text: Vec::with_capacity(alloc, HEAD_ROOM + SMALL_BODY)?,
+        })
+    }
+
+    /// Puts the head of a reply into the room, and its body behind it where that is small.
+    fn put<D: Document>(&mut self, reply: &Reply<D>, last: bool) -> usize {
+        let body = body_of(reply);
+        self.text.clear();
+        push_head(
+            &mut self.text,
+            reply.status,
+            reply.allow,
+            size_of(reply),
+            reply.cert,
+            last,
+        );
+        let head = self.text.len();
+        if body.len() <= SMALL_BODY {
+            push_bytes(&mut self.text, body);
+        }
+        head + body.len()
+    }
+}
+
+/// One connection from its first byte to its end, without a socket.
+#[derive(Drop)]
+pub struct Session<D> {
+    limits: Limits,
+    incoming: Incoming,
+    /// How many requests were answered.
+    requests: u64,
+    /// The input has ended.
+    has_ended: bool,
+    state: State<D>,
+    ghost size: { vec_len incoming.unread.buffer ≤ limits.head },
+}
+
+impl<D: Document + Drop> Session<D> {
+    ghost use Rattle.std.specs.Prelude.{◌+◌, length};
+    ghost use Rattle.disco_http.specs.Unread.{bytes_of};
+
+    /// A connection of which nothing came. Takes no memory.
+    pub fn new(alloc: Global, limits: Limits) -> Session<D> {
+        Session {
+            limits,
+            incoming: Incoming {
+                unread: Unread::none(alloc),
+                phase: Phase::Head,
+            },
+            requests: 0,
+            has_ended: false,
+            state: State::Waits,
+        }
+    }
+
+    /// What it does next.
+    pub fn next(&self) -> Next {
+        match &self.state {
+            State::Waits => Next::Read,
+            State::Looks => Next::Answer,
+            State::Writes(_) => Next::Write,
+            State::Over(end) => Next::Over(*end),
+        }
+    }
+
+    /// What came of the next request.
+    pub fn stage(&self) -> Stage {
+        self.incoming.stage()
+    }
+
+    /// How many bytes it takes next at most: some, where it waits for bytes.
+    pub fn room(&self) -> usize
+        ensures fits { length (bytes_of self.now.incoming.unread) + result ≤ self.now.limits.head }
+    {
+        match self.state {
+            State::Waits => self
+                .limits
+                .head
+                .saturating_sub(self.incoming.unread.bytes().len()),
+            _ => 0,
+        }
+    }
+
+    /// How many bytes of memory it keeps of what came.
+    pub fn held(&self) -> usize {
+        self.incoming.held()
+    }
+
+    /// How many bytes of the reply that is going out are still to be written.
+    pub fn unsent(&self) -> usize {
+        match &self.state {
+            State::Writes(outgoing) => outgoing.left,
+            _ => 0,
+        }
+    }
+
+    /// Takes bytes that came, as many as there is room for. Answers how many.
+    ///
+    /// # Errors
+    ///
+    /// `AllocError` where memory is refused. Then none were taken.
+    pub fn take(&mut self, bytes: &[u8]) -> Result<usize, AllocError> {
+        let count = bytes.len().min(self.room());
+        if count == 0 {
+            return Ok(0);
+        }
+        self.incoming.unread.append(&bytes[..count])?;
+        self.state = State::Looks;
+        Ok(count)
+    }
+
+    /// Is told that the input has ended. A request of which some came is refused then.
+    pub fn end_input(&mut self) {
+        if let State::Waits = self.state {
+            self.has_ended = true;
+            self.state = State::Looks;
+        }
+    }
+
+    /// Ends at once, since a read or a write failed.
+    pub fn fail(&mut self, fault: Fault) {
+        self.state = State::Over(End::Fault(fault));
+    }
+
+    /// Has a reply go out.
+    fn put(&mut self, buffers: &mut Buffers, reply: Reply<D>, end: Option<End>) {
+        let left = buffers.put(&reply, end.is_some());
+        self.state = State::Writes(Outgoing { reply, end, left });
+    }
+
+    /// Refuses what came.
+    fn refuse(&mut self, buffers: &mut Buffers, fault: Fault) {
+        let reply = Reply {
+            status: refusal(fault),
+            allow: None,
+            document: None,
+            cert: None,
+        };
+        self.put(buffers, reply, Some(End::Fault(fault)));
+    }
+
+    /// Has the answer to a request go out.
+    fn reply_to<S: Service<Body = D>>(
+        &mut self,
+        buffers: &mut Buffers,
+        service: &mut S,
+        request: Request,
+    ) {
+        self.requests = self.requests.saturating_add(1);
+        let last = self.requests >= self.limits.requests;
+        let reply = service.call(&request);
+        let end = end_behind(request.closes(), last);
+        buffers.room.keep(request);
+        self.put(buffers, reply, end);
+    }
+
+    /// Waits for bytes. At the end of the input it is over, or refuses what came of a request.
+    fn wait(&mut self, alloc: Global, buffers: &mut Buffers) {
+        if !self.has_ended {
+            self.state = State::Waits;
+            self.incoming.unread.release(alloc);
+        } else if self.incoming.is_between() {
+            self.state = State::Over(End::Closed);
+        } else {
+            self.refuse(buffers, Fault::BadRequest);
+        }
+    }
+
+    /// The next whole request of what came, if there is one.
+    fn advance(&mut self, alloc: Global, buffers: &mut Buffers) -> Result<Option<Request>, Fault> {
+        buffers.room.fit(self.limits.fields)?;
+        self.incoming
+            .advance(alloc, &self.limits, &mut buffers.room)
+    }
+
+    /// Looks at what came: the next whole request is answered by the service, and what can be none is
+    /// refused.
+    pub fn answer<S: Service<Body = D>>(
+        &mut self,
+        alloc: Global,
+        buffers: &mut Buffers,
+        service: &mut S,
+    ) {
+        if !matches!(self.state, State::Looks) {
+            return;
+        }
+        match self.advance(alloc, buffers) {
+            Ok(Some(request)) => self.reply_to(buffers, service, request),
+            Ok(None) => self.wait(alloc, buffers),
+            Err(fault) => self.refuse(buffers, fault),
+        }
+    }
+
+    /// The bytes that are to be written next: some, where there are any.
+    pub fn text<'a>(&'a self, buffers: &'a mut Buffers) -> &'a [u8] {
+        let State::Writes(outgoing) = &self.state else {
+            return b"";
+        };
+        let size = buffers.put(&outgoing.reply, outgoing.end.is_some());
+        let from = size.saturating_sub(outgoing.left);
+        if from < buffers.text.len() {
+            &buffers.text[from..]
+        } else {
+            let body = body_of(&outgoing.reply);
+            &body[body.len().saturating_sub(outgoing.left)..]
+        }
+    }
+
+    /// Is told that so many of these bytes were written.
+    pub fn sent(&mut self, count: usize) {
+        if let State::Writes(outgoing) = &mut self.state {
+            outgoing.left = outgoing.left.saturating_sub(count);
+            if outgoing.left > 0 {
+                return;
+            }
+            self.state = match outgoing.end {
+                Some(end) => State::Over(end),
+                None => State::Looks,
+            };
+        }
+    }
+}
