@@ -1,21 +1,19 @@
 -- What the turns of a body come to.
-use Rattle.std.proofs.Common.{◌≡◌, ℕ, ◌+◌, ◌-◌, ◌<◌, ◌≤◌, ◌++◌, List, [], ◌∷◌, Some, length, take, drop, ap, ◌∙◌, sym, refl, subst, arith, inl, inr, append_assoc, append-nil, length-append, ◌⊎◌}
+use Rattle.std.proofs.Common.{◌≡◌, ℕ, ◌+◌, ◌-◌, ◌<◌, ◌≤◌, ◌++◌, List, [], ◌∷◌, Some, length, take, drop, ap, ◌∙◌, sym, refl, subst, arith, inl, inr, append_assoc, append-nil, length-append}
 use Rattle.std.specs.List.{concat}
 use Rattle.httparse.specs.Ascii.{crlf_bytes}
 use Rattle.httparse.specs.Grammar.{ChunkLine, IsChunkLine, print_chunk_line, print_extension, print_end, crlf}
 use Rattle.disco_values.specs.declared.fault.Fault.{Fault}
 use Rattle.disco_values.specs.declared.fault.Fault.TheVariants.{BadRequest, BodyTooLarge, HeadTooLarge}
-use Rattle.disco_message.specs.declared.framing.Framing.{Framing}
 use Rattle.disco_message.specs.declared.framing.Framing.TheVariants.{Sized, Chunked}
 use Rattle.disco_message.specs.declared.limits.Limits.{Limits}
 use Rattle.disco_message.specs.declared.received.Extent.{Extent}
 use Rattle.disco_message.specs.declared.received.Extent.TheVariants.{Framed, UntilEnd}
 use Rattle.disco_http.specs.declared.body.Left.{Left}
-use Rattle.disco_http.specs.declared.body.Left.TheVariants.{Bytes, Line, Chunk, Trailer, ToEnd}
+use Rattle.disco_http.specs.declared.body.Left.TheVariants.{Line, Chunk, Trailer}
 use Rattle.disco_http.specs.declared.parts.Part.TheVariants as part
-use Rattle.disco_http.specs.Bodies.{ReadsBody}
 use Rattle.disco_http.specs.Chunks.{HasSize, LacksChunk, LineRefused, NextRefused, ReadsPieces}
-use Rattle.disco_http.specs.Coming.{Awaits, BodyAt, InChunk, PiecesAt, ReadsWhole}
+use Rattle.disco_http.specs.Coming.{Awaits, BodyAt, PiecesAt, ReadsWhole}
 use Rattle.disco_http.specs.Found.{HasNoChunks, IsLine, IsTrailer}
 use Rattle.disco_http.specs.Parts.{HasNo, SomeFront}
 use Rattle.disco_http.specs.Replies.{ExtentRefused}

@@ -1,9 +1,9 @@
 -- What came of a stream before a read failed.
-use Rattle.std.proofs.Common.{◌≡◌, ℕ, ◌+◌, ◌<◌, List, [], ◌∷◌, ◌++◌, Option, Some, None, IfSome, Ok, length, drop, false, sym, ◌∙◌, ap, subst, refl, arith, append_assoc, length-append}
+use Rattle.std.proofs.Common.{◌≡◌, ℕ, ◌+◌, ◌<◌, List, [], ◌∷◌, ◌++◌, Option, Some, None, IfSome, Ok, length, drop, sym, ◌∙◌, ap, subst, refl, arith, append_assoc, length-append}
 use Rattle.std.specs.Io.KnownBytes.{Keeps, Consumes, prepend_known}
 use Rattle.httparse.specs.Ascii.{crlf_bytes}
 use Rattle.std.proofs.Math.Seq.{drop-append-add}
-use Rattle.httparse.specs.Grammar.{print_chunk_line, chunk_size, ResponseHead, IsResponseHead, print_response, HasNoChunkLine, HasNoSection}
+use Rattle.httparse.specs.Grammar.{chunk_size, ResponseHead, IsResponseHead, print_response, HasNoChunkLine, HasNoSection}
 use Rattle.httparse.proofs.GrammarLemmas.{request_unique, response_unique}
 use Rattle.httparse.proofs.ChunkLemmas.{chunk_line_unique}
 use Rattle.disco_message.specs.declared.framing.Framing.TheVariants.{Chunked}
@@ -13,7 +13,7 @@ use Rattle.disco_message.specs.declared.received.Extent.TheVariants.{Framed, Unt
 use Rattle.disco_message.specs.Heading.{Heading, heading}
 use Rattle.disco_message.specs.Received.{Received, received}
 use Rattle.disco_http.specs.Bodies.{ReadsBody}
-use Rattle.disco_http.specs.Chunks.{HasSize, ReadsChunk, ReadsPieces}
+use Rattle.disco_http.specs.Chunks.{HasSize, ReadsPieces}
 use Rattle.disco_http.specs.Coming.{HeadAt}
 use Rattle.disco_http.specs.Found.{HasNoChunks, HasNoBody, HasNoExtent, ReplyRead}
 use Rattle.disco_http.specs.Replies.{HasNoReply, ReadsExtent}

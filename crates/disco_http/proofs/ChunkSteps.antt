@@ -1,14 +1,12 @@
 -- Chunks one after another.
-use Rattle.std.proofs.Common.{◌≡◌, ℕ, ◌+◌, ◌≤◌, List, [], ◌∷◌, ◌++◌, Option, Some, None, length, take, drop, sym, ◌∙◌, ap, refl, arith, inl, inr, subst, IfSome, append_assoc, append-nil, true, false, length-append}
+use Rattle.std.proofs.Common.{◌≡◌, ℕ, ◌+◌, List, [], ◌∷◌, ◌++◌, Option, Some, None, length, take, drop, sym, ◌∙◌, ap, refl, arith, subst, IfSome, append_assoc, append-nil, length-append}
 use Rattle.std.specs.List.{concat}
 use Rattle.std.specs.Io.KnownBytes.{Consumes}
 use Rattle.std.proofs.Math.Seq.{drop-append-add, drop-append_seam, take-append-add}
 use Rattle.std.proofs.lemmas.List.{take_at, take-append-drop, length-take}
 use Rattle.httparse.specs.Ascii.{crlf_bytes}
-use Rattle.disco_values.specs.declared.fault.Fault.{Fault}
-use Rattle.disco_values.specs.declared.fault.Fault.TheVariants.{OutOfMemory, HeadTooLarge, BadRequest, ReadFailed}
 use Rattle.disco_message.specs.declared.limits.Limits.{Limits}
-use Rattle.disco_http.specs.Chunks.{HasSize, ReadsChunk, ReadsPieces, LacksChunk, NextRefused, ChunksRefused}
+use Rattle.disco_http.specs.Chunks.{ReadsChunk, ReadsPieces, LacksChunk}
 
 pub known_is : (a : Option (List ℕ)) (now : List ℕ) (P : List ℕ → Type 0) → a ≡ Some now → IfSome a P → P now
 known_is a now P e h = subst (λ (x : Option (List ℕ)). IfSome x P) e h

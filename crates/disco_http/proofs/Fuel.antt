@@ -1,5 +1,5 @@
 -- How many bytes more may come.
-use Rattle.std.proofs.Common.{◌≡◌, ◌⊎◌, ℕ, zero, suc, ◌+◌, ◌-◌, ◌*◌, ◌<◌, ◌≤◌, arith, inl, inr, refl, subst}
+use Rattle.std.proofs.Common.{◌≡◌, ◌⊎◌, ℕ, zero, suc, ◌+◌, ◌*◌, ◌<◌, ◌≤◌, arith, inl, inr, refl, subst}
 use Rattle.std.proofs.lemmas.Nat.{mul-le}
 use Rattle.disco_http.specs.declared.body.Left.{Left}
 use Rattle.disco_http.specs.declared.body.Left.TheVariants.{Line, Chunk, Trailer}

@@ -1,26 +1,14 @@
 -- A head that is found in the buffer stands in the stream, whatever follows.
-use Rattle.std.proofs.Common.{◌≡◌, ℕ, ◌≤◌, List, ◌++◌, Option, Ok, Err, IfSome, length, take, drop, sym, ◌∙◌, ap, arith, append_assoc, rules}
-use Rattle.std.specs.Io.KnownBytes.{Keeps}
+use Rattle.std.proofs.Common.{◌≡◌, ℕ, ◌≤◌, List, ◌++◌, length, take, drop, sym, ◌∙◌, ap, arith, append_assoc}
 use Rattle.std.proofs.lemmas.List.{length-map, length-take}
-use Rattle.httparse.specs.Grammar.{RequestHead, ResponseHead, Field, print_request, print_response}
-use Rattle.httparse.specs.Spans.{IsRequestAt, IsRequestOf, IsRequestWithin, IsResponseAt, IsResponseOf, IsResponseWithin, AreFieldsAt, header_bytes, name_and_value}
+use Rattle.httparse.specs.Grammar.{RequestHead, ResponseHead, Field, print_response}
+use Rattle.httparse.specs.Spans.{IsRequestAt, IsResponseAt, AreFieldsAt, header_bytes, name_and_value}
 use Rattle.httparse.specs.declared.spans.HeaderSpan.{HeaderSpan}
 use Rattle.httparse.specs.declared.spans.RequestSpans.{RequestSpans}
 use Rattle.httparse.specs.declared.spans.ResponseSpans.{ResponseSpans}
-use Rattle.disco_values.specs.declared.fault.Fault.{Fault}
 use Rattle.disco_message.specs.declared.limits.Limits.{Limits}
-use Rattle.disco_message.specs.declared.received.Extent.TheVariants.{Framed}
-use Rattle.disco_message.specs.Heading.{Heading, heading}
-use Rattle.disco_message.specs.Received.{Received, received}
-use Rattle.disco_http.specs.declared.parts.Part.TheVariants as part
-use Rattle.disco_http.specs.declared.reader.Reader.{Reader}
-use Rattle.disco_http.specs.Found.{ReplyRead}
-use Rattle.disco_http.specs.Parts.{PartRefused}
-use Rattle.disco_http.specs.Replies.{BeginsReply, ExtentRefused, ReplyRefused}
-use Rattle.disco_http.specs.Requests.{BeginsWithHead, Refused}
-use Rattle.disco_http.specs.Streams.{ahead, unread}
-use Rattle.disco_http.proofs.Messages.{Told, head_read, head_refused, no_room}
-use Rattle.disco_http.proofs.Slices.{unread_fits}
+use Rattle.disco_http.specs.Replies.{BeginsReply}
+use Rattle.disco_http.specs.Requests.{BeginsWithHead}
 
 few_fields : (u : List ℕ) (spans : List HeaderSpan) (count : ℕ) (fields : List Field) (most : ℕ) → AreFieldsAt u spans count fields → length spans ≤ most → length fields ≤ most
 few_fields u spans count fields most are few =

@@ -10,6 +10,7 @@ pub mod Messages
 pub mod MoreBytes
 pub mod ReadOn
 pub mod Refusals
+pub mod SessionSteps
 pub mod Slices
 pub mod StoppedBetween
 pub mod Taken

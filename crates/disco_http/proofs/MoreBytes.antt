@@ -1,5 +1,5 @@
 -- What stands in bytes stands there whatever follows.
-use Rattle.std.proofs.Common.{◌≡◌, ℕ, ◌++◌, List, [], ◌∷◌, length, ap, ◌∙◌, append_assoc, subst}
+use Rattle.std.proofs.Common.{ℕ, ◌++◌, List, [], ◌∷◌, length, ap, ◌∙◌, append_assoc, subst}
 use Rattle.httparse.specs.Ascii.{crlf_bytes}
 use Rattle.httparse.proofs.GrammarLemmas.{ReadsRequest-append, ReadsSection-append}
 use Rattle.httparse.proofs.ChunkLemmas.{ReadsChunkLine-append}
@@ -15,7 +15,7 @@ use Rattle.disco_http.specs.declared.incoming.Phase.{Phase}
 use Rattle.disco_http.specs.declared.incoming.Phase.TheVariants as phase
 use Rattle.disco_http.specs.Bodies.{ReadsBody}
 use Rattle.disco_http.specs.Chunks.{HasSize, ReadsChunk, ReadsPieces, ReadsTrailer, ReadsLast}
-use Rattle.disco_http.specs.Coming.{BodyAt, InChunk, PhaseAt, PiecesAt, ReadsWhole}
+use Rattle.disco_http.specs.Coming.{BodyAt, PhaseAt, PiecesAt, ReadsWhole}
 use Rattle.disco_http.specs.Replies.{ReadsExtent}
 use Rattle.disco_http.specs.Requests.{BeginsWithHead}
 

@@ -1,8 +1,6 @@
 -- Only what code keeps: nothing here is to be believed.
-use Rattle.std.specs.Prelude.{◌≡◌, ℕ, ◌≤◌, ⊤, Bool, true, false, ◌==◌, ◌&&◌, ◌||◌, ◌++◌, List, [], ◌∷◌, length, drop, Option, Some, None}
+use Rattle.std.specs.Prelude.{◌≡◌, ℕ, ◌≤◌, ⊤, List, length, drop, Option, Some, None}
 use Rattle.std.specs.Prelude.{Result, Ok, Err}
-use Rattle.std.specs.List.{concat, list_any}
-use Rattle.httparse.specs.Ascii.{carriage_return, line_feed}
 use Rattle.httparse.specs.Grammar.{ChunkLine, Field, LineEnd, print_section, ReadsSection}
 use Rattle.httparse.specs.Spans.{IsRequestWithin, IsRequestOf, IsResponseWithin, IsResponseOf, IsChunkLineAt}
 use Rattle.httparse.specs.declared.spans.HeaderSpan.{HeaderSpan}
@@ -11,17 +9,14 @@ use Rattle.disco_http.specs.declared.parts.Found.{Found}
 use Rattle.disco_http.specs.declared.parts.Found.TheVariants as found
 use Rattle.disco_http.specs.declared.parts.Part.{Part}
 use Rattle.disco_http.specs.declared.parts.Part.TheVariants as part
-use Rattle.disco_values.specs.declared.fault.Fault.TheVariants.{OutOfMemory, HeadTooLarge, BadRequest, ReadFailed}
 use Rattle.disco_message.specs.declared.limits.Limits.{Limits}
 use Rattle.disco_message.specs.declared.framing.Framing.{Framing}
 use Rattle.disco_message.specs.declared.received.Extent.{Extent}
 use Rattle.disco_message.specs.declared.received.Extent.TheVariants.{Framed, UntilEnd}
 use Rattle.disco_http.specs.Bodies.{ReadsBody}
-use Rattle.disco_http.specs.Chunks.{HasSize, LacksChunk, LineRefused, ReadsChunk, ReadsLast, ReadsPieces}
-use Rattle.disco_http.specs.Parts.{HasNo, BytesRefused, PartRefused}
+use Rattle.disco_http.specs.Chunks.{ReadsLast, ReadsPieces}
+use Rattle.disco_http.specs.Parts.{HasNo, BytesRefused}
 use Rattle.disco_http.specs.Replies.{BeginsReply}
-use Rattle.disco_http.specs.Requests.{BeginsWithHead}
-use Rattle.disco_message.specs.Heading.{Heading, heading}
 use Rattle.disco_message.specs.Received.{Received, received}
 
 -- a line of this length and size stands at the front

@@ -8,6 +8,7 @@ pub mod Parts
 pub mod Replies
 pub mod Requests
 pub mod Served
+pub mod Sessions
 pub mod Sinks
 pub mod Streams
 pub mod Unread

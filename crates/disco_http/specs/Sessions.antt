@@ -1,5 +1,5 @@
 -- What a session has done with the bytes that it was given, however they were cut.
-use Rattle.std.specs.Prelude.{◌≡◌, ◌⊎◌, ℕ, ◌-◌, ◌≤◌, Bool, List, [], ◌∷◌, ◌++◌, drop, length, Option, None, is_some, ⊤}
+use Rattle.std.specs.Prelude.{◌≡◌, ◌⊎◌, ℕ, ◌-◌, ◌≤◌, Bool, List, [], ◌∷◌, ◌++◌, IsTrue, Option, drop, length, None, is_some, nat_le, true, ⊤}
 use Rattle.std.specs.List.{concat}
 use Rattle.disco_values.specs.declared.fault.Fault.TheVariants.{OutOfMemory}
 use Rattle.disco_values.specs.declared.fault.Fault as fault
@@ -10,6 +10,9 @@ use Rattle.disco_http.specs.Coming.{StandsFor}
 use Rattle.disco_http.specs.Requests.{HasNone, Refused, TakesRequest}
 use Rattle.disco_http.specs.Served.{end_behind, refused}
 use Rattle.disco_http.specs.declared.incoming.Incoming.{Incoming}
+use Rattle.disco_http.specs.declared.session.End.{End}
+use Rattle.disco_http.specs.declared.steps.Next.{Next}
+use Rattle.disco_http.specs.declared.steps.Next.TheVariants as next
 use Rattle.disco_http.specs.declared.steps.Outgoing.{Outgoing}
 use Rattle.disco_http.specs.declared.steps.Session.{Session}
 use Rattle.disco_http.specs.declared.steps.State.{State}
@@ -29,6 +32,17 @@ abbrev pub unsent : {D : Type 0} → (D → List ℕ) → State D → List ℕ
 unsent content (Writes o) = drop (length (text_of content o) - o.left) (text_of content o)
 unsent content state = []
 
+-- this reply goes out, and nothing of it is out
+abbrev pub IsGoing : {D : Type 0} → (D → List ℕ) → ReplyView → Option End → State D → Type 0
+IsGoing {D} content r end state = (o : Outgoing D) × (state ≡ Writes o) × (reply_view content o.reply ≡ r) × (o.end ≡ end) × (o.left ≡ length (text_of content o))
+
+-- what it says is next: where it waits for bytes it holds no whole request, and all that it has to put out is out
+abbrev pub next_of : {D : Type 0} → State D → Next
+next_of Waits = next.Read
+next_of Looks = next.Answer
+next_of (Writes o) = next.Write
+next_of (Over end) = next.Over end
+
 -- what it holds of the bytes behind the requests that it answered: where it waits for more, no whole request
 abbrev pub Holds : {D : Type 0} → (D → List ℕ) → Limits → Incoming → State D → List ℕ → Type 0
 Holds content limits incoming Waits rest = StandsFor limits incoming rest × HasNone limits rest
@@ -44,14 +58,25 @@ pub record HasDone {D : Type 0} (content : D → List ℕ) (session : Session D)
   pub holds : Holds content session.limits session.incoming session.state rest
   pub put : out ++ unsent content session.state ≡ concat texts
 
+-- whether the request that was answered last was the last that a connection may make
+abbrev pub is_limit : {D : Type 0} → Session D → Bool
+is_limit session = nat_le session.limits.requests session.requests
+
 -- one request more is answered by the service
 abbrev pub AnswersNext : {D S : Type 0} → (D → List ℕ) → (S → message.RequestView → ReplyView → S → Type 0) → Session D → S → S → List ℕ → List message.RequestView
     → List (List ℕ) → List ℕ → Type 0
-AnswersNext content answers session old new given asks texts out = (a : message.RequestView) × (r : ReplyView) × (last : Bool) × answers old a r new
-    × HasDone content session given (asks ++ a ∷ []) (texts ++ reply_text r (is_some (end_behind a.closes last)) ∷ []) out
+AnswersNext content answers session old new given asks texts out = (a : message.RequestView) × (r : ReplyView) × answers old a r new
+    × HasDone content session given (asks ++ a ∷ []) (texts ++ reply_text r (is_some (end_behind a.closes (is_limit session))) ∷ []) out
 
--- what follows is refused, whatever comes behind it, or memory is lacking
+-- what follows is refused: whatever comes behind it, at the end of the input, or for want of memory
 abbrev pub RefusesNext : {D : Type 0} → (D → List ℕ) → Session D → List ℕ → List message.RequestView → List (List ℕ) → List ℕ → Type 0
-RefusesNext content session given asks texts out = (f : fault.Fault)
-    × ((f ≡ OutOfMemory) ⊎ ((more : List ℕ) (rest : List ℕ) → Fronts session.limits given asks rest → Refused session.limits f (rest ++ more)))
+RefusesNext content session given asks texts out = (f : fault.Fault) × (rest : List ℕ) × Fronts session.limits given asks rest
+    × ((f ≡ OutOfMemory) ⊎ (((more : List ℕ) → Refused session.limits f (rest ++ more)) ⊎ (IsTrue session.has_ended × Refused session.limits f rest)))
     × HasDone content session given asks (texts ++ reply_text (refused f) true ∷ []) out
+
+-- what a look at what came does: it answers the next request, refuses it, or waits for more, and at the end of the input it is over
+abbrev pub Answered : {D S : Type 0} → (D → List ℕ) → (S → message.RequestView → ReplyView → S → Type 0) → Session D → Session D → S → S → Type 0
+Answered content answers before session old new = (given : List ℕ) (asks : List message.RequestView) (texts : List (List ℕ)) (out : List ℕ)
+    → HasDone content before given asks texts out
+    → AnswersNext content answers session old new given asks texts out
+    ⊎ ((new ≡ old) × (RefusesNext content session given asks texts out ⊎ HasDone content session given asks texts out))

@@ -57,6 +57,9 @@ pub struct Buffers {
 }
 
 impl Buffers {
+    ghost use Rattle.std.specs.Prelude.{◌≡◌, ◌⊎◌, ◌++◌, [], ℕ, List, length, option_map};
+    ghost use Rattle.disco_message.specs.ReplyText.{reply_body, reply_text, reply_view};
+
     /// Buffers for sessions within these limits.
     ///
     /// # Errors
@@ -70,7 +73,12 @@ impl Buffers {
     }
 
     /// Puts the head of a reply into the room, and its body behind it where that is small.
-    fn put<D: Document>(&mut self, reply: &Reply<D>, last: bool) -> usize {
+    fn put<D: Document>(&mut self, reply: &Reply<D>, last: bool) -> usize
+        ensures size { result ≡ length (reply_text (reply_view D.content reply.now) last) }
+        ensures text { (rest : List ℕ) × (reply_text (reply_view D.content reply.now) last ≡ self.new.text.items ++ rest)
+            × ((rest ≡ []) ⊎ (rest ≡ reply_body reply.now.status (option_map D.content reply.now.document))) }
+        ensures room { vec_len self.new.room.spans ≡ vec_len self.old.room.spans }
+    {
         let body = body_of(reply);
         self.text.clear();
         push_head(
@@ -103,11 +111,23 @@ pub struct Session<D> {
 }
 
 impl<D: Document + Drop> Session<D> {
-    ghost use Rattle.std.specs.Prelude.{◌+◌, length};
+    ghost use Rattle.std.specs.Prelude.{◌≡◌, ◌⊎◌, ◌+◌, ◌-◌, ◌^◌, ◌≤◌, ◌<◌, ◌++◌, [], ℕ, List, IfErr, IfNone, IfOk, IfSome, IsFalse, IsSome, IsTrue, OnErr, Some, length, min, take};
+    ghost use Rattle.disco_message.specs.RequestView as message;
+    ghost use Rattle.disco_values.specs.declared.fault.Fault.TheVariants.{BadRequest, OutOfMemory};
+    ghost use Rattle.disco_message.specs.ReplyText.{ReplyView, reply_view};
+    ghost use Rattle.disco_http.specs.Coming.{IsBetween, StandsFor, WaitsOn};
+    ghost use Rattle.disco_http.specs.Requests.{Refused, TakesRequest};
+    ghost use Rattle.disco_http.specs.Served.{end_behind, refused};
+    ghost use Rattle.disco_http.specs.Sessions.{Answered, HasDone, IsGoing, is_limit, next_of, unsent};
+    ghost use Rattle.disco_http.specs.declared.incoming.Phase.TheVariants as phase;
     ghost use Rattle.disco_http.specs.Unread.{bytes_of};
+    ghost use Rattle.disco_http.specs.declared.steps.State.TheVariants as state;
 
     /// A connection of which nothing came. Takes no memory.
-    pub fn new(alloc: Global, limits: Limits) -> Session<D> {
+    pub fn new(alloc: Global, limits: Limits) -> Session<D>
+        ensures done { HasDone D.content result [] [] [] [] }
+        ensures limits { result.limits ≡ limits }
+    {
         Session {
             limits,
             incoming: Incoming {
@@ -116,12 +136,14 @@ impl<D: Document + Drop> Session<D> {
             },
             requests: 0,
             has_ended: false,
-            state: State::Waits,
+            state: State::Looks,
         }
     }
 
     /// What it does next.
-    pub fn next(&self) -> Next {
+    pub fn next(&self) -> Next
+        ensures { result ≡ next_of self.now.state }
+    {
         match &self.state {
             State::Waits => Next::Read,
             State::Looks => Next::Answer,
@@ -138,6 +160,7 @@ impl<D: Document + Drop> Session<D> {
     /// How many bytes it takes next at most: some, where it waits for bytes.
     pub fn room(&self) -> usize
         ensures fits { length (bytes_of self.now.incoming.unread) + result ≤ self.now.limits.head }
+        ensures waits { 0 < result → self.now.state ≡ state.Waits }
     {
         match self.state {
             State::Waits => self
@@ -166,7 +189,12 @@ impl<D: Document + Drop> Session<D> {
     /// # Errors
     ///
     /// `AllocError` where memory is refused. Then none were taken.
-    pub fn take(&mut self, bytes: &[u8]) -> Result<usize, AllocError> {
+    pub fn take(&mut self, bytes: &[u8]) -> Result<usize, AllocError>
+        ensures taken { IfOk result (λ n. (given : List ℕ) (asks : List message.RequestView) (texts : List (List ℕ)) (out : List ℕ)
+            → HasDone D.content self.old given asks texts out → HasDone D.content self.new (given ++ take n bytes.now) asks texts out) }
+        ensures refused { OnErr result ((given : List ℕ) (asks : List message.RequestView) (texts : List (List ℕ)) (out : List ℕ)
+            → HasDone D.content self.old given asks texts out → HasDone D.content self.new given asks texts out) }
+    {
         let count = bytes.len().min(self.room());
         if count == 0 {
             return Ok(0);
@@ -177,7 +205,10 @@ impl<D: Document + Drop> Session<D> {
     }
 
     /// Is told that the input has ended. A request of which some came is refused then.
-    pub fn end_input(&mut self) {
+    pub fn end_input(&mut self)
+        ensures done { (given : List ℕ) (asks : List message.RequestView) (texts : List (List ℕ)) (out : List ℕ)
+            → HasDone D.content self.old given asks texts out → HasDone D.content self.new given asks texts out }
+    {
         if let State::Waits = self.state {
             self.has_ended = true;
             self.state = State::Looks;
@@ -185,18 +216,32 @@ impl<D: Document + Drop> Session<D> {
     }
 
     /// Ends at once, since a read or a write failed.
-    pub fn fail(&mut self, fault: Fault) {
+    pub fn fail(&mut self, fault: Fault)
+        ensures { self.new.state ≡ state.Over (End.Fault fault) }
+    {
         self.state = State::Over(End::Fault(fault));
     }
 
     /// Has a reply go out.
-    fn put(&mut self, buffers: &mut Buffers, reply: Reply<D>, end: Option<End>) {
+    fn put(&mut self, buffers: &mut Buffers, reply: Reply<D>, end: Option<End>)
+        ensures goes { IsGoing D.content (reply_view D.content reply) end self.new.state }
+        ensures limits { self.new.limits ≡ self.old.limits }
+        ensures incoming { self.new.incoming ≡ self.old.incoming }
+        ensures ended { self.new.has_ended ≡ self.old.has_ended }
+        ensures requests { self.new.requests ≡ self.old.requests }
+    {
         let left = buffers.put(&reply, end.is_some());
         self.state = State::Writes(Outgoing { reply, end, left });
     }
 
     /// Refuses what came.
-    fn refuse(&mut self, buffers: &mut Buffers, fault: Fault) {
+    fn refuse(&mut self, buffers: &mut Buffers, fault: Fault)
+        ensures goes { IsGoing D.content (refused fault) (Some (End.Fault fault)) self.new.state }
+        ensures limits { self.new.limits ≡ self.old.limits }
+        ensures incoming { self.new.incoming ≡ self.old.incoming }
+        ensures ended { self.new.has_ended ≡ self.old.has_ended }
+        ensures requests { self.new.requests ≡ self.old.requests }
+    {
         let reply = Reply {
             status: refusal(fault),
             allow: None,
@@ -212,7 +257,12 @@ impl<D: Document + Drop> Session<D> {
         buffers: &mut Buffers,
         service: &mut S,
         request: Request,
-    ) {
+    )
+        ensures goes { (r : ReplyView) × S.answers service.old request r service.new × IsGoing D.content r (end_behind request.closes (is_limit self.new)) self.new.state }
+        ensures counted { self.new.requests ≡ min (self.old.requests + 1) (2 ^ 64 - 1) }
+        ensures limits { self.new.limits ≡ self.old.limits }
+        ensures incoming { self.new.incoming ≡ self.old.incoming }
+    {
         self.requests = self.requests.saturating_add(1);
         let last = self.requests >= self.limits.requests;
         let reply = service.call(&request);
@@ -222,7 +272,15 @@ impl<D: Document + Drop> Session<D> {
     }
 
     /// Waits for bytes. At the end of the input it is over, or refuses what came of a request.
-    fn wait(&mut self, alloc: Global, buffers: &mut Buffers) {
+    fn wait(&mut self, alloc: Global, buffers: &mut Buffers)
+        ensures waits { IsFalse self.old.has_ended → (self.new.state ≡ state.Waits) × (bytes_of self.new.incoming.unread ≡ bytes_of self.old.incoming.unread)
+            × (self.new.incoming.phase ≡ self.old.incoming.phase) }
+        ensures over { IsTrue self.old.has_ended → (IsBetween self.old.incoming × (self.new.state ≡ state.Over End.Closed))
+            ⊎ ((IsBetween self.old.incoming → ⊥) × IsGoing D.content (refused BadRequest) (Some (End.Fault BadRequest)) self.new.state) }
+        ensures limits { self.new.limits ≡ self.old.limits }
+        ensures ended { self.new.has_ended ≡ self.old.has_ended }
+        ensures requests { self.new.requests ≡ self.old.requests }
+    {
         if !self.has_ended {
             self.state = State::Waits;
             self.incoming.unread.release(alloc);
@@ -234,7 +292,17 @@ impl<D: Document + Drop> Session<D> {
     }
 
     /// The next whole request of what came, if there is one.
-    fn advance(&mut self, alloc: Global, buffers: &mut Buffers) -> Result<Option<Request>, Fault> {
+    fn advance(&mut self, alloc: Global, buffers: &mut Buffers) -> Result<Option<Request>, Fault>
+        ensures whole { IfOk result (λ found. IfSome found (λ request. (given more : List ℕ) → StandsFor self.old.limits self.old.incoming given
+            → TakesRequest self.old.limits (given ++ more) request (bytes_of self.new.incoming.unread ++ more))) }
+        ensures phase { IfOk result (λ found. IsSome found → self.new.incoming.phase ≡ phase.Head) }
+        ensures waits { IfOk result (λ found. IfNone found (WaitsOn self.old.limits self.old.incoming self.new.incoming)) }
+        ensures refused { IfErr result (λ fault. (fault ≡ OutOfMemory) ⊎ ((given more : List ℕ) → StandsFor self.old.limits self.old.incoming given
+            → Refused self.old.limits fault (given ++ more))) }
+        ensures limits { self.new.limits ≡ self.old.limits }
+        ensures ended { self.new.has_ended ≡ self.old.has_ended }
+        ensures requests { self.new.requests ≡ self.old.requests }
+    {
         buffers.room.fit(self.limits.fields)?;
         self.incoming
             .advance(alloc, &self.limits, &mut buffers.room)
@@ -247,7 +315,11 @@ impl<D: Document + Drop> Session<D> {
         alloc: Global,
         buffers: &mut Buffers,
         service: &mut S,
-    ) {
+    )
+        ensures answered { self.old.state ≡ state.Looks → Answered D.content S.answers self.old self.new service.old service.new }
+        ensures counted { (self.new.requests ≡ self.old.requests) ⊎ (self.new.requests ≡ min (self.old.requests + 1) (2 ^ 64 - 1)) }
+        ensures other { (self.old.state ≡ state.Looks → ⊥) → (self.new ≡ self.old) × (service.new ≡ service.old) }
+    {
         if !matches!(self.state, State::Looks) {
             return;
         }
@@ -259,7 +331,10 @@ impl<D: Document + Drop> Session<D> {
     }
 
     /// The bytes that are to be written next: some, where there are any.
-    pub fn text<'a>(&'a self, buffers: &'a mut Buffers) -> &'a [u8] {
+    pub fn text<'a>(&'a self, buffers: &'a mut Buffers) -> &'a [u8]
+        ensures front { (given : List ℕ) (asks : List message.RequestView) (texts : List (List ℕ)) (out : List ℕ) → HasDone D.content self.now given asks texts out
+            → (rest : List ℕ) × (unsent D.content self.now.state ≡ result.now ++ rest) }
+    {
         let State::Writes(outgoing) = &self.state else {
             return b"";
         };
@@ -274,7 +349,10 @@ impl<D: Document + Drop> Session<D> {
     }
 
     /// Is told that so many of these bytes were written.
-    pub fn sent(&mut self, count: usize) {
+    pub fn sent(&mut self, count: usize)
+        ensures sent { (given : List ℕ) (asks : List message.RequestView) (texts : List (List ℕ)) (out : List ℕ) → HasDone D.content self.old given asks texts out
+            → count ≤ length (unsent D.content self.old.state) → HasDone D.content self.new given asks texts (out ++ take count (unsent D.content self.old.state)) }
+    {
         if let State::Writes(outgoing) = &mut self.state {
             outgoing.left = outgoing.left.saturating_sub(count);
             if outgoing.left > 0 {

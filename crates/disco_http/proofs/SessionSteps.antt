@@ -1,0 +1,89 @@
+-- The steps of a session.
+use Rattle.std.proofs.Common.{◌≡◌, ◌⊎◌, ℕ, ◌+◌, ◌-◌, ◌≤◌, ◌++◌, List, [], ◌∷◌, ap, ◌∙◌, sym, refl, subst, append_assoc, append-nil, arith, Bool, true, false, IsTrue, IsFalse, Option, None, is_some, drop, inl, inr, length, length-append, length-drop, take}
+use Rattle.std.specs.List.{concat}
+use Rattle.std.proofs.lemmas.List.{drop-drop, take-append-drop, take_all}
+use Rattle.std.proofs.lemmas.List.Folds.{concat-append}
+use Rattle.std.proofs.Math.Seq.{drop-append-add, drop-append_seam}
+use Rattle.disco_message.specs.declared.limits.Limits.{Limits}
+use Rattle.disco_message.specs.RequestView as message
+use Rattle.disco_http.specs.Requests.{TakesRequest}
+use Rattle.disco_message.specs.ReplyText.{ReplyView, reply_text}
+use Rattle.disco_http.specs.declared.session.End.{End}
+use Rattle.disco_http.specs.declared.incoming.Incoming.{Incoming}
+use Rattle.disco_http.specs.declared.steps.State.{State}
+use Rattle.disco_http.specs.Coming.{StandsFor}
+use Rattle.disco_http.specs.Sessions.{Fronts, Holds, IsGoing, text_of, unsent}
+use Rattle.disco_http.proofs.MoreBytes.{body_more, head_more}
+
+pub takes_more : (limits : Limits) (given rest more : List ℕ) (a : message.RequestView) → TakesRequest limits given a rest → TakesRequest limits (given ++ more) a (rest ++ more)
+takes_more limits given rest more a t = record {
+  head = t.head;
+  after = t.after ++ more;
+  begins = head_more limits given t.head t.after more t.begins;
+  says = t.says;
+  heading = t.heading;
+  body = body_more limits t.says.framing t.after a.body rest more t.body;
+  asks = t.asks;
+}
+
+pub fronts_more : (limits : Limits) (given rest more : List ℕ) (asks : List message.RequestView) → Fronts limits given asks rest → Fronts limits (given ++ more) asks (rest ++ more)
+fronts_more limits given rest more [] h = ap (λ (xs : List ℕ). xs ++ more) h
+fronts_more limits given rest more (a ∷ asks) h = (h.0 ++ more, takes_more limits given h.0 more a h.1, fronts_more limits h.0 rest more asks h.2)
+
+pub fronts_next : (limits : Limits) (given rest next : List ℕ) (asks : List message.RequestView) (a : message.RequestView) → Fronts limits given asks rest → TakesRequest limits rest a next → Fronts limits given (asks ++ a ∷ []) next
+fronts_next limits given rest next [] a h t = (next, subst (λ (xs : List ℕ). TakesRequest limits xs a next) (sym h) t, refl)
+fronts_next limits given rest next (b ∷ asks) a h t = (h.0, h.1, fronts_next limits h.0 rest next asks a h.2 t)
+
+-- what is unsent of a text of which so many bytes are left
+pub left_size : (text : List ℕ) (left : ℕ) → left ≤ length text → length (drop (length text - left) text) ≡ left
+left_size text left fits = omega (arith, length-drop (length text - left) text, fits)
+
+-- some of it was put out
+pub part_sent : (text out all : List ℕ) (left count less : ℕ) → left ≤ length text → count ≤ left → less ≡ left - count → out ++ drop (length text - left) text ≡ all → (out ++ take count (drop (length text - left) text)) ++ drop (length text - less) text ≡ all
+part_sent text out all left count less fits few is put =
+    let rest = drop (length text - left) text in
+    let at : length text - less ≡ (length text - left) + count = omega (arith, fits, few, is) in
+    let behind : drop (length text - less) text ≡ drop count rest = ap (λ n. drop n text) at ∙ sym (drop-drop count (length text - left) text) in
+    append_assoc out (take count rest) (drop (length text - less) text) ∙ ap (λ (xs : List ℕ). out ++ (take count rest ++ xs)) behind ∙ ap (λ (xs : List ℕ). out ++ xs) (take-append-drop count rest) ∙ put
+
+-- the rest of it was put out
+pub all_sent : (text out all : List ℕ) (left count : ℕ) → left ≤ length text → count ≤ left → left ≤ count → out ++ drop (length text - left) text ≡ all → (out ++ take count (drop (length text - left) text)) ++ [] ≡ all
+all_sent text out all left count fits few many put =
+    let rest = drop (length text - left) text in
+    append-nil (out ++ take count rest) ∙ ap (λ (xs : List ℕ). out ++ xs) (take_all count rest (omega (arith, left_size text left fits, many))) ∙ put
+
+nothing_left : (xs : List ℕ) → drop (length xs - 0) xs ≡ []
+nothing_left xs =
+    let size : length xs - 0 ≡ length xs = omega arith in
+    ap (λ n. drop n xs) size ∙ ap (drop (length xs)) (sym (append-nil xs)) ∙ drop-append_seam xs []
+
+-- the end of a text whose last part is a body
+pub end_of : (text front rest body : List ℕ) (left : ℕ) → text ≡ front ++ rest → (rest ≡ []) ⊎ (rest ≡ body) → left ≤ length text → length front ≤ length text - left → drop (length text - left) text ≡ drop (length body - left) body ++ []
+end_of text front rest body left is (inl none) fits far =
+    let size : length text ≡ length front = ap length (is ∙ ap (λ (xs : List ℕ). front ++ xs) none ∙ append-nil front) in
+    let zero : left ≡ 0 = omega (arith, size, fits, far) in
+    ap (λ n. drop (length text - n) text) zero ∙ nothing_left text ∙ sym (nothing_left body) ∙ ap (λ n. drop (length body - n) body) (sym zero) ∙ sym (append-nil (drop (length body - left) body))
+end_of text front rest body left is (inr all) fits far =
+    let whole : text ≡ front ++ body = is ∙ ap (λ (xs : List ℕ). front ++ xs) all in
+    let at : length text - left ≡ length front + (length body - left) = omega (arith, ap length whole, length-append front body, fits, far) in
+    ap (λ n. drop n text) at ∙ ap (drop (length front + (length body - left))) whole ∙ drop-append-add front body (length body - left) ∙ sym (append-nil (drop (length body - left) body))
+
+-- one text more
+pub one_text : (texts : List (List ℕ)) (out text : List ℕ) → out ++ [] ≡ concat texts → out ++ text ≡ concat (texts ++ text ∷ [])
+one_text texts out text put = ap (λ (xs : List ℕ). xs ++ text) (sym (append-nil out) ∙ put) ∙ ap (λ (xs : List ℕ). concat texts ++ xs) (sym (append-nil text)) ∙ sym (concat-append texts (text ∷ []))
+
+-- a reply that goes out, and nothing of it is out
+pub going_put : {D : Type 0} (content : D → List ℕ) (state : State D) (r : ReplyView) (end : Option End) (texts : List (List ℕ)) (out : List ℕ) → IsGoing content r end state → out ++ [] ≡ concat texts → out ++ unsent content state ≡ concat (texts ++ reply_text r (is_some end) ∷ [])
+going_put content state r end texts out g put =
+    let text = text_of content g.0 in
+    let same : text ≡ reply_text r (is_some end) = ap (λ v. reply_text v (is_some g.0.end)) g.2 ∙ ap (λ e. reply_text r (is_some e)) g.3 in
+    let zero : length text - g.0.left ≡ 0 = omega (arith, g.4) in
+    ap (λ s. out ++ unsent content s) g.1 ∙ ap (λ n. out ++ drop n text) zero ∙ ap (λ (xs : List ℕ). out ++ xs) same ∙ one_text texts out (reply_text r (is_some end)) put
+
+pub going_holds : {D : Type 0} (content : D → List ℕ) (limits : Limits) (incoming : Incoming) (state : State D) (r : ReplyView) (end : Option End) (rest : List ℕ) → IsGoing content r end state → (end ≡ None → StandsFor limits incoming rest) → Holds content limits incoming state rest
+going_holds content limits incoming state r end rest g stands =
+    subst (λ s. Holds content limits incoming s rest) (sym g.1) ((λ none. stands (sym g.3 ∙ none)), omega (arith, g.4))
+
+pub true_or_false : (b : Bool) → IsTrue b ⊎ IsFalse b
+true_or_false true = inl refl
+true_or_false false = inr refl
