@@ -1,21 +1,26 @@
-"""A fleet of clients of `discovery serve`, on loopback, with kept and with new connections."""
+"""A fleet of clients of `discovery serve`, on loopback, each with one connection that it keeps."""
 
 import asyncio
 import resource
-import statistics
+import socket
 import subprocess
 import sys
 import time
 
 PORT = 18771
 BASE = "/eureka/v2"
-CLIENTS = 1_000
-# 30 seconds of a client's, with its clock made faster by 30.
-PERIOD = 1.0
+APPS = 100
+# Each so often a client asks for the delta in place of a heartbeat.
+DELTA = 10
 # How long a client waits for a reply, in seconds.
-PATIENCE = 30
-# How often a request is sent again over a new connection: a kept one may have ended.
-TRIES = 3
+PATIENCE = 60
+# A connection ends behind so many requests.
+REQUESTS = 1_000
+# Those who do harm, of each kind, and those who come and go.
+HARMFUL = 1_000
+VISITORS = 200
+# The instances of the document that is read slowly.
+INSTANCES = 10_000
 
 BODY = (
     '{"instance":{"instanceId":"i%d","hostName":"h%d","app":"APP%d","ipAddr":"10.0.0.1",'
@@ -23,145 +28,199 @@ BODY = (
 )
 
 
+def text_of(method, path, body=""):
+    return (
+        "%s %s%s HTTP/1.1\r\nHost: a\r\nContent-Type: application/json\r\nContent-Length: %d\r\n\r\n%s"
+        % (method, BASE, path, len(body), body)
+    ).encode()
+
+
+def registration(number):
+    app = number % APPS
+    return text_of("POST", "/apps/APP%d" % app, BODY % (number, number, app))
+
+
 class Tally:
     """What came of all requests."""
 
     def __init__(self):
         self.waits = []
-        self.errors = 0
-        self.connections = 0
+        self.unanswered = 0
+        self.wrong = 0
         self.ended = 0
 
-    def line(self, name, seconds):
-        waits = sorted(self.waits)
-        p99 = waits[int(len(waits) * 0.99)]
+    def line(self, name, before, resident):
+        waits = sorted(self.waits) or [0.0]
         print(
-            "%-30s %7d requests, %d errors, p50 %.0f ms, p99 %.0f ms, longest %.0f ms,"
-            " %.0f connections a second, %d that had ended"
+            "%s: %d requests, %d without a reply, %d answered otherwise, %d connections that the server ended,"
+            " p50 %.1f ms, p99 %.1f ms, longest %.0f ms, memory %.1f MB before and %.1f MB with them"
             % (
                 name,
-                len(waits),
-                self.errors,
-                statistics.median(waits) * 1000,
-                p99 * 1000,
-                waits[-1] * 1000,
-                self.connections / seconds,
+                len(self.waits),
+                self.unanswered,
+                self.wrong,
                 self.ended,
+                waits[len(waits) // 2] * 1000,
+                waits[int(len(waits) * 0.99)] * 1000,
+                waits[-1] * 1000,
+                before / 1000,
+                resident / 1000,
             ),
             flush=True,
         )
 
 
+async def reply_of(reader):
+    """The status of the next reply, which is read to its end."""
+    head = await reader.readuntil(b"\r\n\r\n")
+    for field in head.split(b"\r\n"):
+        name, _, value = field.partition(b":")
+        if name.lower() == b"content-length":
+            await reader.readexactly(int(value))
+    return int(head[9:12])
+
+
 class Client:
-    def __init__(self, number, keeps, tally):
+    """One that looks before each request whether its connection was ended."""
+
+    def __init__(self, number, tally):
         self.number = number
-        self.keeps = keeps
         self.tally = tally
         self.line = None
+        self.made = 0
+
+    async def connect(self):
+        self.line = await asyncio.open_connection("127.0.0.1", PORT)
+        self.made = 0
+
+    async def ask(self, text, counts=True):
+        if self.line is not None and self.line[0].at_eof():
+            self.tally.ended += self.made < REQUESTS
+            self.close()
+        begun = time.monotonic()
+        try:
+            async with asyncio.timeout(PATIENCE):
+                if self.line is None:
+                    await self.connect()
+                self.made += 1
+                self.line[1].write(text)
+                status = await reply_of(self.line[0])
+        except (OSError, TimeoutError, asyncio.IncompleteReadError):
+            self.tally.unanswered += 1
+            self.close()
+            return
+        if counts:
+            self.tally.waits.append(time.monotonic() - begun)
+        self.tally.wrong += status not in (200, 204)
 
     def close(self):
         if self.line:
             self.line[1].close()
         self.line = None
 
-    async def once(self, text):
-        """One request over the line; None where it had ended."""
-        if self.line is None:
-            self.line = await asyncio.open_connection("127.0.0.1", PORT)
-            self.tally.connections += 1
-        reader, writer = self.line
-        try:
-            writer.write(text)
-            await writer.drain()
-            head = await reader.readuntil(b"\r\n\r\n")
-        except (ConnectionError, asyncio.IncompleteReadError):
-            self.close()
-            return None
-        length = 0
-        for field in head.split(b"\r\n"):
-            name, _, value = field.partition(b":")
-            if name.lower() == b"content-length":
-                length = int(value)
-        await reader.readexactly(length)
-        if not self.keeps:
-            self.close()
-        return int(head[9:12])
-
-    async def ask(self, method, path, body=""):
-        close = "" if self.keeps else "Connection: close\r\n"
-        text = "%s %s%s HTTP/1.1\r\nHost: a\r\n%sContent-Length: %d\r\n\r\n%s" % (
-            method, BASE, path, close, len(body), body,
-        )
-        begun = time.monotonic()
-        status = None
-        try:
-            async with asyncio.timeout(PATIENCE):
-                for _ in range(TRIES):
-                    status = await self.once(text.encode())
-                    if status is not None:
-                        break
-                    self.tally.ended += 1
-        except (OSError, TimeoutError, asyncio.IncompleteReadError):
-            self.close()
-        self.tally.waits.append(time.monotonic() - begun)
-        if status not in (200, 204):
-            self.tally.errors += 1
-
-    async def live(self, clients, until):
-        await asyncio.sleep(PERIOD * self.number / clients)
-        app = self.number % 100
-        await self.ask("POST", "/apps/APP%d" % app, BODY % (self.number, self.number, app))
-        while time.monotonic() < until:
-            await asyncio.sleep(PERIOD)
-            await self.ask("PUT", "/apps/APP%d/i%d" % (app, self.number))
-            if clients == CLIENTS:
-                await self.ask("GET", "/apps/delta")
+    async def live(self, clients, period, until):
+        await asyncio.sleep(period * self.number / clients)
+        await self.ask(registration(self.number), counts=False)
+        beat = text_of("PUT", "/apps/APP%d/i%d" % (self.number % APPS, self.number))
+        delta = text_of("GET", "/apps/delta")
+        turn = self.number
+        while time.monotonic() + period < until:
+            await asyncio.sleep(period)
+            turn += 1
+            await self.ask(delta if turn % DELTA == 0 else beat)
+        await asyncio.sleep(max(0, until - time.monotonic()))
         self.close()
 
 
-async def run_fleet(name, clients, keeps, seconds):
-    tally = Tally()
-    begun = time.monotonic()
-    fleet = [Client(number, keeps, tally) for number in range(clients)]
-    await asyncio.gather(*(client.live(clients, begun + seconds) for client in fleet))
-    tally.line(name, time.monotonic() - begun)
+def resident(server):
+    with open("/proc/%d/status" % server.pid, encoding="ascii") as lines:
+        return next(int(line.split()[1]) for line in lines if line.startswith("VmRSS:"))
+
+
+async def again(until, todo):
+    """Does it again and again, whatever comes of it."""
+    while time.monotonic() < until:
+        try:
+            await todo()
+        except (OSError, asyncio.IncompleteReadError):
+            pass
+        await asyncio.sleep(0.1)
+
+
+async def drip(front):
+    reader, writer = await asyncio.open_connection("127.0.0.1", PORT)
+    try:
+        writer.write(front)
+        while not reader.at_eof():
+            writer.write(b"x")
+            await writer.drain()
+            await asyncio.sleep(5)
+    finally:
+        writer.close()
+
+
+async def read_slowly():
+    line = socket.socket()
+    line.setsockopt(socket.SOL_SOCKET, socket.SO_RCVBUF, 4_096)
+    line.setblocking(False)
+    loop = asyncio.get_running_loop()
+    try:
+        await loop.sock_connect(line, ("127.0.0.1", PORT))
+        await loop.sock_sendall(line, text_of("GET", "/apps"))
+        while await loop.sock_recv(line, 2_048):
+            await asyncio.sleep(20)
+    finally:
+        line.close()
 
 
 async def stay_silent():
-    client = Client(0, True, Tally())
-    await client.ask("GET", "/apps/delta")
-    await asyncio.sleep(40)
-    await client.ask("GET", "/apps/delta")
-    well = client.tally.connections == 1 and client.tally.errors == 0
-    client.close()
-    print("a connection that is silent for 40 seconds: %s" % ("kept" if well else "LOST"), flush=True)
-
-
-async def drip(line):
-    try:
-        for byte in b"GET /eureka/v2/apps HTTP/1.1\r\nHost: a\r\nX-A: bbbbbbbbbbbb":
-            line[1].write(bytes([byte]))
-            await line[1].drain()
-            await asyncio.sleep(10)
-    except ConnectionError:
-        pass
-
-
-async def wait_behind_slow():
-    lines = [await asyncio.open_connection("127.0.0.1", PORT) for _ in range(200)]
-    slow = [asyncio.ensure_future(drip(line)) for line in lines]
-    await asyncio.sleep(1)
     reader, writer = await asyncio.open_connection("127.0.0.1", PORT)
-    begun = time.monotonic()
-    writer.write(b"GET /eureka/v2/apps/delta HTTP/1.1\r\nHost: a\r\n\r\n")
-    head = await reader.readuntil(b"\r\n\r\n")
-    print(
-        "behind 200 that send a byte every ten seconds: answered %s after %.0f seconds"
-        % (head[9:12].decode(), time.monotonic() - begun),
-        flush=True,
-    )
-    for task in slow:
-        task.cancel()
+    try:
+        await reader.read(1)
+    finally:
+        writer.close()
+
+
+async def come_and_go():
+    client = Client(0, Tally())
+    try:
+        await client.ask(text_of("GET", "/apps/APP0"))
+    finally:
+        client.close()
+
+
+def harm(until):
+    head = b"GET /eureka/v2/apps HTTP/1.1\r\nHost: a\r\nX-A: "
+    body = b"PUT /eureka/v2/apps/A/1 HTTP/1.1\r\nHost: a\r\nContent-Length: 100000\r\n\r\n"
+    kinds = [lambda: drip(head), lambda: drip(body), read_slowly, stay_silent]
+    todos = [kind for kind in kinds for _ in range(HARMFUL)] + [come_and_go] * VISITORS
+    return [asyncio.ensure_future(again(until, todo)) for todo in todos]
+
+
+async def register_all():
+    client = Client(0, Tally())
+    for number in range(INSTANCES):
+        if client.made == REQUESTS:
+            client.close()
+        await client.ask(registration(100_000 + number))
+    client.close()
+
+
+async def run_fleet(name, server, clients, period, seconds, harmful=False):
+    if harmful:
+        await register_all()
+    before = resident(server)
+    tally = Tally()
+    until = time.monotonic() + seconds
+    others = harm(until) if harmful else []
+    fleet = [Client(number, tally) for number in range(clients)]
+    living = asyncio.gather(*(client.live(clients, period, until) for client in fleet))
+    await asyncio.sleep(max(0, seconds - 2))
+    with_them = resident(server)
+    await living
+    for other in others:
+        other.cancel()
+    tally.line(name, before, with_them)
 
 
 def with_server(program, workers, todo):
@@ -172,30 +231,30 @@ def with_server(program, workers, todo):
     try:
         if not server.stdout.readline().startswith(b"listening"):
             sys.exit("the server doesn't listen")
-        asyncio.run(todo)
+        asyncio.run(todo(server))
     finally:
         server.terminate()
         server.wait()
 
 
-async def all_of_64(seconds):
-    await run_fleet("1,000 clients, kept", CLIENTS, True, seconds)
-    await run_fleet("1,000 clients, new", CLIENTS, False, seconds)
-    await stay_silent()
-    await wait_behind_slow()
-
-
-async def all_of_4(seconds):
-    await run_fleet("64 clients of 4 workers, kept", 64, True, seconds)
-
-
 def main():
     program = [sys.argv[1]]
-    seconds = float(sys.argv[3]) if len(sys.argv) > 3 else 30
-    soft, hard = resource.getrlimit(resource.RLIMIT_NOFILE)
-    resource.setrlimit(resource.RLIMIT_NOFILE, (min(hard, 8192), hard))
-    with_server(program, 4, all_of_4(seconds))
-    with_server(program, 64, all_of_64(seconds))
+    seconds = float(sys.argv[3]) if len(sys.argv) > 3 else 300
+    _, hard = resource.getrlimit(resource.RLIMIT_NOFILE)
+    resource.setrlimit(resource.RLIMIT_NOFILE, (hard, hard))
+    for workers in (4, 64):
+        for clients, period, harmful in ((10_000, 20, False), (1_000, 3, False), (1_000, 3, True)):
+            name = "%d workers, %d clients each %d seconds%s" % (
+                workers,
+                clients,
+                period,
+                ", beside those who do harm" if harmful else "",
+            )
+            with_server(
+                program,
+                workers,
+                lambda server: run_fleet(name, server, clients, period, seconds, harmful),
+            )
 
 
 main()

@@ -1,4 +1,3 @@
 pub mod Acceptors
-pub mod Draining
 pub mod Ending
 pub mod Waits

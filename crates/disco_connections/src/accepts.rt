@@ -1,50 +1,81 @@
 //! How a connection is accepted, and which failures of it pass.
-ghost use Rattle.std.specs.Prelude.{◌≡◌, IsFalse, IsTrue, None, Some, pos};
+ghost use Rattle.std.specs.Prelude.{◌≡◌, ◌≢◌, ◌+◌, ◌-◌, ◌^◌, None, Some, min, pos};
+ghost use Rattle.disco_connections.specs.Acceptors.{IsOpen};
+ghost use Rattle.disco_connections.specs.declared.acceptor.Refusal.TheVariants.{ByHost};
+ghost use Rattle.disco_connections.specs.declared.accepts.Accepted.TheVariants.{Taken, Nothing, Gone, Later, Refused};
+ghost use Rattle.disco_connections.specs.declared.accepts.Failure as failure;
 
-use disco_http::Failed;
+use crate::acceptor::{Acceptor, Refusal};
 use std::net::OpenListener;
-use std::time::Duration;
-use std::{rt, thread};
 
-/// How often an accept is tried again whose failure passes, at most.
-const TURNS: u64 = 1 << 32;
+/// What a failure of an accept is.
+#[derive(Clone, Copy, Debug, PartialEq, Eq)]
+enum Failure {
+    /// No connection waits.
+    Nothing,
+    /// The connection was gone again, or was refused on its way.
+    Gone,
+    /// Descriptors or memory are lacking.
+    Lacking,
+    /// It lasts.
+    Lasting,
+}
 
-/// How many milliseconds it is waited before an accept is tried again.
-const PAUSE_MILLIS: u64 = 50;
-
-/// Whether a failure of an accept passes, by Linux's number for it: the connection was gone again or
-/// was refused on its way, or descriptors or memory were lacking.
-fn passes(number: Option<i32>) -> bool
+/// What a failure is, by Linux's number for it.
+fn failure_of(number: Option<i32>) -> Failure
     // The connection was aborted, there is no descriptor, and what was given is no listener.
-    ensures gone { number ≡ Some (pos 103) → IsTrue result }
-    ensures lacking { number ≡ Some (pos 24) → IsTrue result }
-    ensures lasting { number ≡ Some (pos 22) → IsFalse result }
-    ensures unnumbered { number ≡ None → IsFalse result }
+    ensures gone { number ≡ Some (pos 103) → result ≡ Failure.Gone }
+    ensures lacking { number ≡ Some (pos 24) → result ≡ Failure.Lacking }
+    ensures lasting { number ≡ Some (pos 22) → result ≡ Failure.Lasting }
+    ensures unnumbered { number ≡ None → result ≡ Failure.Lasting }
 {
     match number {
-        // Interrupted, nothing there, and a connection that is gone or was refused on its way.
-        Some(1 | 4 | 11 | 64 | 71 | 92 | 95 | 100 | 101 | 103 | 110 | 112 | 113) => true,
+        Some(11) => Failure::Nothing,
+        // Interrupted, and a connection that is gone or was refused on its way.
+        Some(1 | 4 | 64 | 71 | 92 | 95 | 100 | 101 | 103 | 110 | 112 | 113) => Failure::Gone,
         // No memory, no descriptor, no buffer.
-        Some(12 | 23 | 24 | 105) => true,
-        _ => false,
+        Some(12 | 23 | 24 | 105) => Failure::Lacking,
+        _ => Failure::Lasting,
     }
 }
 
-/// The next connection, as soon as there is one. Fails where the host refuses it for good.
-pub(crate) fn accept<L: OpenListener, R: rt::Clock>(
-    rt: &R,
-    listener: &L,
-) -> Result<L::Stream, Failed> {
-    for _ in 0..TURNS {
-        match listener.accept() {
-            Ok((stream, _)) => return Ok(stream),
-            Err(error) => {
-                if !passes(error.raw_os_error()) {
-                    break;
-                }
-            }
-        }
-        thread::sleep(rt, Duration::from_millis(PAUSE_MILLIS));
+/// What an accept came to.
+#[derive(Drop)]
+pub enum Accepted<T> {
+    /// A connection, with its number from 1.
+    Taken(T, u64),
+    /// No connection waits.
+    Nothing,
+    /// None was taken, and the next may be at once.
+    Gone,
+    /// None was taken for want of descriptors or memory.
+    Later,
+    /// No connection more is taken.
+    Refused,
+}
+
+/// Accepts the next connection by an acceptor, without waiting for one. One that is shut takes none,
+/// and where the host refuses a connection for good it is shut.
+pub fn accept<L: OpenListener>(listener: &L, acceptor: &mut Acceptor) -> Accepted<L::Stream>
+    ensures taken { (stream : L.Stream) → (number : ℕ) → result ≡ Taken stream number
+        → IsOpen acceptor.old × (number ≡ min (acceptor.old.taken + 1) (2 ^ 64 - 1)) × (acceptor.new ≡ record acceptor.old { taken = number }) }
+    ensures refused { result ≡ Refused → (acceptor.new ≡ acceptor.old) ⊎ (acceptor.new ≡ record acceptor.old { refused = Some ByHost }) }
+    ensures same { (result ≡ Nothing) ⊎ ((result ≡ Gone) ⊎ (result ≡ Later)) → acceptor.new ≡ acceptor.old }
+{
+    if !acceptor.is_open() {
+        return Accepted::Refused;
     }
-    Err(Failed)
+    let error = match listener.accept() {
+        Ok((stream, _)) => return Accepted::Taken(stream, acceptor.take()),
+        Err(error) => error,
+    };
+    match failure_of(error.raw_os_error()) {
+        Failure::Nothing => Accepted::Nothing,
+        Failure::Gone => Accepted::Gone,
+        Failure::Lacking => Accepted::Later,
+        Failure::Lasting => {
+            acceptor.refuse(Refusal::ByHost);
+            Accepted::Refused
+        }
+    }
 }

@@ -1,26 +1,28 @@
-//! Connections of sockets, and the workers that serve them: [`listen`] opens a listener,
-//! [`next_connection`] takes a connection by the [`Acceptor`], and [`serve_connection`] serves it to its end. A
-//! connection that is silent gives way to one that waits: what [`Workers`] know of one another.
+//! Connections of sockets, and how workers serve them: [`listen`] opens a listener, and the [`Hall`] has
+//! all its connections. A worker takes the next one that is ready, serves it until it would wait, and
+//! puts it back, so a connection that is silent or slow keeps no worker.
 #![tactic(auto)]
 
 mod acceptor;
 mod accepts;
 mod close;
-mod leftover;
+mod connection;
+mod deadline;
+mod entrance;
+mod hall;
 mod listener;
-mod next;
-mod post;
-mod queue;
-mod socket;
-mod timed_source;
-mod waiting;
+mod place;
+mod places;
+mod room;
 mod waits;
-mod workers;
 
 pub use acceptor::{Acceptor, Refusal};
+pub use accepts::{Accepted, accept};
+pub use connection::Connection;
+pub use deadline::Deadline;
+pub use entrance::Entrance;
+pub use hall::Hall;
 pub use listener::listen;
-pub use next::next_connection;
-pub use post::Post;
-pub use socket::{Buffers, serve_connection};
-pub use waits::Waits;
-pub use workers::Workers;
+pub use place::Place;
+pub use room::Room;
+pub use waits::{Phase, Waits};

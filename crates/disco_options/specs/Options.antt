@@ -58,10 +58,11 @@ replay_app = with_settings (new_app (codes "replay"))
 
 abbrev pub serve_app : App
 serve_app =
-    with_settings (with_rule (with_rule (with_rule (new_app (codes "serve"))
+    with_settings (with_rule (with_rule (with_rule (with_rule (new_app (codes "serve"))
     (needed (number_rule (codes "port") 1 65535)))
     (number_rule (codes "workers") 1 64))
     (any_number (codes "connections")))
+    (number_rule (codes "open") 1 65536))
 
 abbrev pub follow_app : App
 follow_app =

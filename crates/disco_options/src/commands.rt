@@ -5,8 +5,8 @@ ghost use Rattle.disco_options.specs.Options.{AreMatches, app_for, faults_of, fa
 ghost use Rattle.disco_options.specs.Options.{fleet_app, follow_app, replay_app, serve_app};
 
 use crate::limits::{
-    MOST_PORT, MOST_THREADS, MOST_WORKERS, bounds_and_default, most_port, most_threads, pause,
-    workers,
+    MOST_OPEN, MOST_PORT, MOST_THREADS, MOST_WORKERS, bounds_and_default, most_port, most_threads,
+    open, pause, workers,
 };
 use crate::options::{flag, needed, number, text, with_settings};
 use crate::subcommand::Subcommand;
@@ -32,9 +32,10 @@ fn serve_command<'a>(alloc: Global) -> Result<Command<'a>, AllocError>
     ensures { IfOk result (λ c. app_of c ≡ serve_app) }
 {
     let port = most_port!(up_to, "The port of 127.0.0.1 to listen on");
-    let workers = workers!(
+    let workers = workers!(bounds_and_default, "How many requests are answered at once");
+    let open = open!(
         bounds_and_default,
-        "How many connections are served at once; a silent one gives way to one that waits"
+        "How many connections are open at once; for one more the one silent longest ends"
     );
     let connections = "After how many connections the server ends; 0 is no end [default: 0]";
     let run =
@@ -43,7 +44,8 @@ fn serve_command<'a>(alloc: Global) -> Result<Command<'a>, AllocError>
         .about("Serves Eureka's REST operations at /eureka/v2")
         .arg(needed(number(alloc, "port", "P", 1, MOST_PORT, port)))?
         .arg(number(alloc, "workers", "N", 1, MOST_WORKERS, workers))?
-        .arg(number(alloc, "connections", "N", 0, u64::MAX, connections))?;
+        .arg(number(alloc, "connections", "N", 0, u64::MAX, connections))?
+        .arg(number(alloc, "open", "N", 1, MOST_OPEN, open))?;
     with_settings(alloc, command, run)
 }
 

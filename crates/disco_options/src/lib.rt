@@ -11,7 +11,7 @@ mod subcommand;
 
 pub use commands::read_words;
 pub use faults::{refused, report, report_address, without_words};
-pub use limits::{MOST_PORT, MOST_THREADS, MOST_WORKERS, PAUSE, WORKERS};
+pub use limits::{MOST_OPEN, MOST_PORT, MOST_THREADS, MOST_WORKERS, OPEN, PAUSE, WORKERS};
 pub use options::{count, flag_given, number_given, text_given};
 pub use settings::{read_settings, settings_from, settings_of};
 pub use subcommand::Subcommand;

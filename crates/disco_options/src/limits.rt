@@ -36,6 +36,13 @@ macro_rules! workers {
     };
 }
 
+/// Connections of a server that are open at once.
+macro_rules! open {
+    ($with:ident $(, $text:literal)?) => {
+        $with!(65536, 16384 $(, $text)?)
+    };
+}
+
 /// Threads that register, and clients, of a fleet.
 macro_rules! most_threads {
     ($with:ident $(, $text:literal)?) => {
@@ -53,6 +60,7 @@ macro_rules! pause {
 pub(crate) use bounds_and_default;
 pub(crate) use most_port;
 pub(crate) use most_threads;
+pub(crate) use open;
 pub(crate) use pause;
 pub(crate) use workers;
 
@@ -64,6 +72,12 @@ pub const MOST_WORKERS: u64 = workers!(most);
 
 /// How many workers a server has by default.
 pub const WORKERS: u64 = workers!(default);
+
+/// How many connections of a server are open at once, at most.
+pub const MOST_OPEN: u64 = open!(most);
+
+/// How many of them by default.
+pub const OPEN: u64 = open!(default);
 
 /// How many threads of one kind a fleet has at most: writers, and clients.
 pub const MOST_THREADS: u64 = most_threads!(number);

@@ -7,13 +7,14 @@ use Rattle.disco_options.specs.Options.{AreGiven, AreMatches, number_given, port
 use Rattle.disco_options.specs.declared.subcommand.Subcommand.TheVariants.{Serve}
 use Rattle.disco_prog.specs.declared.service.Service.{Service}
 
--- the settings, of which the run is this one where none is given, the port, the workers (4 where none are given) and the connections (0, which is no
--- end) are those given
+-- the settings, of which the run is this one where none is given, the port, the workers (4 where none are given), the connections (0, which is no
+-- end) and how many of them are open at once (16,384) are those given
 pub record IsServicePlan (run : ℕ) (rows : List Row) (s : Service) : Type 0 where
   pub settings : AreGiven run rows s.settings
   pub port : s.port ≡ port_in rows
   pub workers : s.workers ≡ within 64 4 (number_given (codes "workers") rows)
   pub connections : s.connections ≡ unwrap_or (number_given (codes "connections") rows) 0
+  pub places : s.places ≡ within 65536 16384 (number_given (codes "open") rows)
 
 -- `listening 127.0.0.1:PORT`
 abbrev pub listening_line : ℕ → List ℕ

@@ -12,8 +12,8 @@ use clap::ArgMatches;
 use disco_http::{Sink, write_all};
 use disco_message::Limits;
 use disco_options::{
-    MOST_PORT, MOST_WORKERS, Subcommand, WORKERS, count, number_given, read_words, refused, report,
-    report_address, settings_from,
+    MOST_OPEN, MOST_PORT, MOST_WORKERS, OPEN, Subcommand, WORKERS, count, number_given, read_words,
+    refused, report, report_address, settings_from,
 };
 use disco_press::{Desk, Naming, Opening, Seat, open};
 use disco_server::{Clock, Open, SystemClock, listen, start_timers, start_with};
@@ -34,6 +34,7 @@ fn service_from(matches: &ArgMatches<'_>, run: u64) -> Service
         port: count(matches, "port", MOST_PORT, 1) as u16,
         workers: count(matches, "workers", MOST_WORKERS, WORKERS) as usize,
         connections: number_given(matches, "connections").unwrap_or(0),
+        places: count(matches, "open", MOST_OPEN, OPEN) as usize,
     }
 }
 
@@ -75,6 +76,7 @@ where
         seats,
         &Limits::of_server(),
         service.connections,
+        service.places,
         clock,
         &Open,
         move || say(alloc, port, out),

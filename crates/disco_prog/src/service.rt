@@ -11,6 +11,8 @@ pub(crate) struct Service {
     pub(crate) workers: usize,
     /// After how many connections it ends; 0 is no end.
     pub(crate) connections: u64,
+    /// How many connections are open at once, at most.
+    pub(crate) places: usize,
     pub(crate) ghost some: { 0 < workers },
     pub(crate) ghost few: { workers ≤ 64 },
 }

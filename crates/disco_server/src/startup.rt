@@ -5,16 +5,42 @@ ghost use Rattle.disco_values.specs.declared.fault.Fault.TheVariants.{OutOfMemor
 use crate::clock::Clock;
 use crate::desk_service::ServerContext;
 use crate::gate::Gate;
-use crate::worker::{Entrance, Worker, work};
-use disco_connections::{Acceptor, Refusal, Waits, Workers};
+use crate::shared::Shared;
+use crate::worker::{Worker, work};
+use disco_connections::{Hall, Refusal, Waits};
 use disco_message::Limits;
 use disco_press::{Desk, Naming, Seat};
 use disco_values::Fault;
 use std::alloc::{AllocError, Global};
+use std::io::ErrorKind;
 use std::net::{Net, TcpListener, TcpStream};
 use std::sync::{Mutex, Wait};
 use std::thread::{Scope, Threads};
 use std::{rt, thread};
+
+/// How many connections are open at once, at most.
+const OPEN: usize = 16_384;
+
+/// A hall for the connections of a listener.
+fn hall_for<'a, R: Net + rt::Clock>(
+    rt: &R,
+    alloc: Global,
+    listener: &'a TcpListener,
+    limits: Limits,
+    places: usize,
+    connections: u64,
+) -> Result<Hall<'a, Shared>, Fault>
+    ensures { IfErr result (λ fault. (fault ≡ OutOfMemory) ⊎ (fault ≡ ReadFailed)) }
+{
+    let waits = Waits::of_server();
+    match Hall::new(rt, alloc, listener, limits, waits, places, connections) {
+        Ok(hall) => Ok(hall),
+        Err(error) => match error.kind() {
+            ErrorKind::OutOfMemory => Err(Fault::OutOfMemory),
+            _ => Err(Fault::ReadFailed),
+        },
+    }
+}
 
 /// A worker for each seat.
 fn workers_for<'a, J: Naming, R, C: Clock + Copy, G>(
@@ -25,8 +51,7 @@ fn workers_for<'a, J: Naming, R, C: Clock + Copy, G>(
 ) -> Result<Vec<Worker<'a, J, R, C, G>>, AllocError> {
     let mut workers = Vec::new(context.alloc);
     for seat in seats {
-        let number = workers.len();
-        workers.push(Worker::new(context, number, seat, clock, limits)?)?;
+        workers.push(Worker::new(context, seat, clock, limits)?)?;
     }
     Ok(workers)
 }
@@ -37,7 +62,7 @@ fn begin<'s, 'a: 's, E, J, R, C, G, T, F>(
     scope: &'s Scope<'s, E>,
     rt: &'s R,
     alloc: Global,
-    entrance: Entrance<'s>,
+    hall: &'s Hall<'s, Shared>,
     workers: Vec<Worker<'a, J, R, C, G>>,
     ready: F,
 ) -> Result<T, Fault>
@@ -51,17 +76,17 @@ where
     ensures made { IfOk result (λ made. F.post ready (Ok made)) }
     ensures fault { IfErr result (λ fault. (fault ≡ ReadFailed) ⊎ F.post ready (Err fault)) }
 {
-    let mut entry = entrance.acceptor.lock(rt);
+    let mut entry = hall.entrance.lock(rt);
     for worker in workers {
-        let started = scope.spawn(move || work(rt, alloc, entrance, worker));
+        let started = scope.spawn(move || work(rt, alloc, hall, worker));
         if started.is_err() {
-            entry.refuse(Refusal::ByHost);
+            entry.acceptor.refuse(Refusal::ByHost);
             return Err(Fault::ReadFailed);
         }
     }
     let made = ready();
     if made.is_err() {
-        entry.refuse(Refusal::ByHost);
+        entry.acceptor.refuse(Refusal::ByHost);
     }
     made
 }
@@ -71,7 +96,7 @@ where
 fn run<J, R, C, G, T, F>(
     rt: &R,
     alloc: Global,
-    entrance: Entrance<'_>,
+    hall: &Hall<'_, Shared>,
     workers: Vec<Worker<'_, J, R, C, G>>,
     ready: F,
 ) -> Result<T, Fault>
@@ -90,12 +115,12 @@ where
         rt,
         move |scope|
             requires { F.pre ready }
-        { begin(scope, rt, alloc, entrance, workers, ready) },
+        { begin(scope, rt, alloc, hall, workers, ready) },
     )
 }
 
-/// Serves as [`start`] does, and calls `ready` once all workers are there, before any of them takes a
-/// connection. Gives what it made.
+/// Serves as [`start`] does, with room for so many connections at once (`places`), and calls `ready` once all workers
+/// are there, before any of them takes a connection. Gives what it made.
 ///
 /// # Errors
 ///
@@ -108,6 +133,7 @@ pub fn start_with<'a, J, R, C, G, T, F>(
     seats: Vec<Seat<J>>,
     limits: &Limits,
     connections: u64,
+    places: usize,
     clock: C,
     gate: &'a G,
     ready: F,
@@ -123,40 +149,32 @@ where
     ensures made { IfOk result (λ made. F.post ready (Ok made)) }
     ensures fault { IfErr result (λ fault. (fault ≡ OutOfMemory) ⊎ ((fault ≡ ReadFailed) ⊎ F.post ready (Err fault))) }
 {
-    let waits = Waits::of_server();
     let context = ServerContext {
         rt,
         alloc,
         desk,
         gate,
     };
-    let known = Workers::new(alloc, seats.len())?;
     let workers = workers_for(&context, seats, *limits, clock)?;
-    let acceptor = Mutex::new(Acceptor::new(connections));
-    let entrance = Entrance {
-        listener: &listener,
-        acceptor: &acceptor,
-        workers: &known,
-        waits: &waits,
-    };
-    let made = run(rt, alloc, entrance, workers, ready)?;
-    acceptor.into_inner().outcome()?;
+    let hall = hall_for(rt, alloc, &listener, *limits, places, connections)?;
+    let made = run(rt, alloc, &hall, workers, ready)?;
+    hall.into_outcome()?;
     Ok(made)
 }
 
-/// Serves the connections of a listener, with a worker on a thread of its own for each seat. Each
-/// takes the next connection as soon as it is free. Returns after so many connections in all, and
-/// never where that is 0; with no seat none is taken.
+/// Serves the connections of a listener, with a worker on a thread of its own for each seat. A worker
+/// has a connection only while there is something to do for it. Returns once so many connections in
+/// all have ended, and never where that is 0; with no seat none is taken.
 ///
-/// A connection is waited for as a server does ([`Waits::of_server`]): one that has sent nothing of a
-/// next request gives way to one that waits while no worker is free.
+/// A connection is waited for as a server does ([`Waits::of_server`]). At most 16,384 are open at once:
+/// for one more the one ends that is silent longest between two requests.
 ///
 /// # Errors
 ///
 /// `OutOfMemory` and `ReadFailed`, once all workers have ended. Where the host refuses a worker, or
-/// there is no memory before they begin, none takes a connection. Where it refuses a connection for
-/// good, or one of them finds no memory or no descriptor for what it needs, no more is taken, and
-/// those that were taken are served to their end.
+/// there is no memory or no descriptor before they begin, none takes a connection. Where it refuses
+/// a connection for good, or a worker finds no memory for what it needs, no more is taken, and those
+/// that were taken are served to their end.
 pub fn start<'a, J, R, C, G>(
     rt: &'a R,
     alloc: Global,
@@ -183,6 +201,7 @@ where
         seats,
         limits,
         connections,
+        OPEN,
         clock,
         gate,
         || Ok(()),

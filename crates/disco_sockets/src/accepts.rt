@@ -1,11 +1,10 @@
 //! Accepts that fail.
 use crate::client::visit;
-use disco_connections::{Acceptor, Post, Workers, listen, next_connection};
-use std::alloc::Global;
+use disco_connections::{Accepted, Acceptor, accept, listen};
+use disco_values::Fault;
+use std::io;
 use std::net::{Net, OpenListener, SocketAddr, TcpListener, TcpStream};
 use std::sync::atomic::{AtomicU64, Ordering};
-use std::sync::{Mutex, Wait};
-use std::{io, rt};
 
 /// The host's numbers for: no descriptor; and no listener.
 const NO_DESCRIPTOR: i32 = 24;
@@ -33,30 +32,31 @@ impl OpenListener for Failing<'_> {
     }
 }
 
-/// Whether a connection is taken behind two failures, by an acceptor that stays open.
-fn is_taken<R: Net<Stream = TcpStream> + Wait + rt::Clock>(
+/// What the third accept comes to behind two that fail, and what the acceptor came to.
+fn third<R: Net<Stream = TcpStream>>(
     rt: &R,
-    alloc: Global,
     number: i32,
-) -> io::Result<bool> {
+) -> io::Result<(Accepted<TcpStream>, Result<(), Fault>)> {
     let listener = listen(rt, 0)?;
     let failing = Failing {
         listener: &listener,
         number,
         left: AtomicU64::new(2),
     };
-    let workers = Workers::new(alloc, 1)?;
-    let mut post = Post::new(rt, alloc, &workers, 0, &listener)?;
-    let acceptor = Mutex::new(Acceptor::new(0));
+    let mut acceptor = Acceptor::new(0);
     let _visit = visit(rt, listener.local_addr()?)?;
-    let taken = next_connection(rt, &failing, &acceptor, &mut post);
-    Ok(taken.is_some() && acceptor.into_inner().outcome().is_ok())
+    accept(&failing, &mut acceptor);
+    accept(&failing, &mut acceptor);
+    let accepted = accept(&failing, &mut acceptor);
+    Ok((accepted, acceptor.outcome()))
 }
 
-/// A failure that passes is waited out, and one that doesn't shuts the acceptor.
-pub(crate) fn are_told_apart<R: Net<Stream = TcpStream> + Wait + rt::Clock>(
-    rt: &R,
-    alloc: Global,
-) -> io::Result<bool> {
-    Ok(is_taken(rt, alloc, NO_DESCRIPTOR)? && !is_taken(rt, alloc, NO_LISTENER)?)
+/// Behind a failure that passes a connection is taken, and one that doesn't shuts the acceptor.
+pub(crate) fn are_told_apart<R: Net<Stream = TcpStream>>(rt: &R) -> io::Result<bool> {
+    let passes = matches!(third(rt, NO_DESCRIPTOR)?, (Accepted::Taken(_, 1), Ok(())));
+    let lasts = matches!(
+        third(rt, NO_LISTENER)?,
+        (Accepted::Refused, Err(Fault::ReadFailed)),
+    );
+    Ok(passes && lasts)
 }

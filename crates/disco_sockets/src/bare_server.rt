@@ -1,12 +1,10 @@
 //! A server without a desk: each request is answered with 204.
-use disco_connections::{
-    Acceptor, Buffers, Post, Waits, Workers, next_connection, serve_connection,
-};
+use disco_connections::{Hall, Room, Waits};
 use disco_http::Service;
 use disco_message::{Document, Limits, Reply, Request, StatusCode};
-use std::alloc::Global;
+use std::alloc::{AllocError, Global};
 use std::net::{Net, TcpListener, TcpStream};
-use std::sync::{Mutex, Wait};
+use std::sync::Wait;
 use std::thread::Threads;
 use std::{io, rt, thread};
 
@@ -46,43 +44,23 @@ impl Service for Always {
     }
 }
 
-/// What the workers share.
-#[derive(Clone, Copy)]
-struct Entrance<'a> {
-    listener: &'a TcpListener,
-    acceptor: &'a Mutex<Acceptor>,
-    workers: &'a Workers,
-    waits: &'a Waits,
-}
-
-/// Serves one connection after another until no more is taken.
-fn work<R: Net<Listener = TcpListener, Stream = TcpStream> + Wait + rt::Clock>(
+/// Serves turn by turn until no connection more is taken and all have ended.
+fn work<R: Wait + rt::Clock>(
     rt: &R,
     alloc: Global,
-    entrance: Entrance<'_>,
-    number: usize,
-) -> io::Result<()> {
-    let mut post = Post::new(rt, alloc, entrance.workers, number, entrance.listener)?;
-    let mut buffers = Buffers::new(alloc, Limits::of_server())?;
+    hall: &Hall<'_, Nothing>,
+) -> Result<(), AllocError> {
+    let mut room = Room::new(alloc, Limits::of_server())?;
     for _ in rt.forever() {
-        let Some((stream, _)) = next_connection(rt, entrance.listener, entrance.acceptor, &mut post)
-        else {
+        let Some(connection) = hall.next(rt, alloc) else {
             return Ok(());
         };
-        buffers = serve_connection(
-            rt,
-            alloc,
-            buffers,
-            &stream,
-            entrance.waits,
-            &mut post,
-            &mut Always,
-        );
+        hall.serve(rt, alloc, connection, &mut room, &mut Always);
     }
     Ok(())
 }
 
-/// Serves so many connections, with four workers.
+/// Serves so many connections, with four workers and so many places.
 pub(crate) fn serve<
     R: Net<Listener = TcpListener, Stream = TcpStream> + Threads + Wait + rt::Clock + Sync,
 >(
@@ -90,19 +68,15 @@ pub(crate) fn serve<
     alloc: Global,
     listener: &TcpListener,
     waits: &Waits,
+    places: usize,
     connections: u64,
 ) -> io::Result<()> {
-    let acceptor = Mutex::new(Acceptor::new(connections));
-    let workers = Workers::new(alloc, WORKERS)?;
-    let entrance = Entrance {
-        listener,
-        acceptor: &acceptor,
-        workers: &workers,
-        waits,
-    };
+    let limits = Limits::of_server();
+    let hall = Hall::new(rt, alloc, listener, limits, *waits, places, connections)?;
+    let hall = &hall;
     thread::scope(thread::scope_env(), rt, move |scope| {
-        for number in 0..WORKERS {
-            let _ = scope.spawn(move || work(rt, alloc, entrance, number));
+        for _ in 0..WORKERS {
+            let _ = scope.spawn(move || work(rt, alloc, hall));
         }
     });
     Ok(())

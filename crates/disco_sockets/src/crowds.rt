@@ -2,7 +2,7 @@
 use crate::bare_server::serve;
 use crate::beating::all_beat;
 use crate::client::visit;
-use crate::slow::{are_answered_late, are_kept_out, is_kept};
+use crate::slow::{are_answered_late, are_kept_out, gives_way, is_kept};
 use disco_connections::{Waits, listen};
 use std::alloc::Global;
 use std::net::{Net, SocketAddr, TcpListener, TcpStream};
@@ -13,6 +13,12 @@ use std::{io, rt};
 
 /// How many connections a server takes, which are more than they make.
 const CONNECTIONS: u64 = 2_000;
+
+/// How many connections may be open at once, where there are as many as the clients like.
+const OPEN: usize = 1_000;
+
+/// And where there are few.
+const FEW: usize = 3;
 
 /// What the clients do.
 #[derive(Clone, Copy, Debug)]
@@ -25,20 +31,24 @@ pub(crate) enum Crowd {
     Drips,
     /// One client is silent.
     Silence,
+    /// One client more than may be there at once.
+    Many,
 }
 
 impl Crowd {
     /// How long connections are waited for.
     fn waits(self) -> Waits {
         let mut waits = Waits {
-            slice: 20,
             between: 20_000,
-            inside: 20_000,
             head: 20_000,
             body: 20_000,
+            reply: 20_000,
+            piece: 0,
+            ending: 2_000,
+            look: 20,
         };
         match self {
-            Crowd::Beats | Crowd::Halves => {}
+            Crowd::Beats | Crowd::Halves | Crowd::Many => {}
             Crowd::Drips => {
                 waits.head = 300;
                 waits.body = 300;
@@ -46,6 +56,14 @@ impl Crowd {
             Crowd::Silence => waits.between = 600,
         }
         waits
+    }
+
+    /// How many connections may be there at once.
+    fn places(self) -> usize {
+        match self {
+            Crowd::Many => FEW,
+            _ => OPEN,
+        }
     }
 }
 
@@ -61,6 +79,7 @@ fn try_it<R: Net<Listener = TcpListener, Stream = TcpStream> + Threads + rt::Clo
         Crowd::Halves => are_answered_late(rt, alloc, server),
         Crowd::Drips => are_kept_out(rt, alloc, server),
         Crowd::Silence => is_kept(rt, alloc, server),
+        Crowd::Many => gives_way(rt, alloc, server, FEW),
     }
 }
 
@@ -86,7 +105,7 @@ where
     let (served, tried) = join(
         rt,
         move || {
-            let served = serve(rt, alloc, listener, waits, CONNECTIONS);
+            let served = serve(rt, alloc, listener, waits, crowd.places(), CONNECTIONS);
             ended.store(true, Ordering::SeqCst);
             served
         },

@@ -87,8 +87,10 @@ where
     let drips = is_told(rt, "heads and bodies that come byte by byte", drips);
     let silence = crowds::run(rt, alloc, Crowd::Silence);
     let silence = is_told(rt, "a silent connection of a free server", silence);
-    let accepts = is_told(rt, "accepts that fail", accepts::are_told_apart(rt, alloc));
-    beats && halves && drips && silence && accepts
+    let many = crowds::run(rt, alloc, Crowd::Many);
+    let many = is_told(rt, "one connection more than may be open", many);
+    let accepts = is_told(rt, "accepts that fail", accepts::are_told_apart(rt));
+    beats && halves && drips && silence && many && accepts
 }
 
 fn main(rt: HostRuntime) -> ExitCode {

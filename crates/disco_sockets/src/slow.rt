@@ -26,8 +26,7 @@ const DRIP_MILLIS: u64 = 10;
 /// How often each sends a byte, at most.
 const DRIPS: u64 = 2_000;
 
-/// How many milliseconds a client waits behind them, at most: six times the 300 of a head or a body,
-/// and as much again.
+/// How many milliseconds a client waits beside them, at most.
 const MOST_MILLIS: u128 = 3_600;
 
 /// How many milliseconds a client is silent.
@@ -50,24 +49,23 @@ fn visits<R: Net<Stream = TcpStream>>(
     Ok(streams)
 }
 
-/// Requests of which half came are answered when the rest comes, though another client waits
-/// meanwhile, and that one is answered behind them.
+/// Another client is answered while half of a request came from more clients than there are workers,
+/// and these are answered when the rest comes.
 pub(crate) fn are_answered_late<R: Net<Stream = TcpStream> + rt::Clock>(
     rt: &R,
     alloc: Global,
     server: SocketAddr,
 ) -> io::Result<bool> {
-    let halves = visits(rt, alloc, server, WORKERS, HALF)?;
+    let halves = visits(rt, alloc, server, 2 * WORKERS, HALF)?;
     sleep(rt, Duration::from_millis(SILENT_MILLIS));
-    let waits = visit(rt, server)?;
-    send(&waits, BEAT)?;
-    sleep(rt, Duration::from_millis(SILENT_MILLIS));
-    let mut well = true;
+    let another = visit(rt, server)?;
+    send(&another, BEAT)?;
+    let mut well = hears(alloc, &another, 204);
     for stream in &halves {
         let answered = send(stream, REST).is_ok() && hears(alloc, stream, 204);
         well = well && answered;
     }
-    Ok(hears(alloc, &waits, 204) && well)
+    Ok(well)
 }
 
 /// Sends a byte over each connection again and again, until it is told to end.
@@ -117,18 +115,22 @@ fn is_answered_in_time<R: Net<Stream = TcpStream> + rt::Clock>(
     Ok(hears(alloc, &stream, 204) && begun.elapsed(rt)?.as_millis() <= MOST_MILLIS)
 }
 
-/// Clients that send a head or a body byte by byte keep another one out for no longer than heads and
-/// bodies may take.
+/// Clients that send a head or a body byte by byte keep no other one out, and one whose head or body
+/// doesn't come to its end in time is closed.
 pub(crate) fn are_kept_out<
     R: Net<Listener = TcpListener, Stream = TcpStream> + Threads + rt::Clock + Sync,
 >(rt: &R, alloc: Global, server: SocketAddr) -> io::Result<bool> {
-    let heads = is_let_in(rt, alloc, server, HALF)?;
-    let bodies = is_let_in(rt, alloc, server, HEAD)?;
-    Ok(heads && bodies)
+    let mut well = true;
+    for bytes in [HALF, HEAD] {
+        let begun = visit(rt, server)?;
+        send(&begun, bytes)?;
+        well = is_let_in(rt, alloc, server, bytes)? && is_at_end(&begun) && well;
+    }
+    Ok(well)
 }
 
-/// A connection that is silent for a while is served on where nobody waits, and ends when it is
-/// silent for longer than it may be.
+/// A connection that is silent for a while is served on, and ends when it is silent for longer than it
+/// may be.
 pub(crate) fn is_kept<R: Net<Stream = TcpStream> + rt::Clock>(
     rt: &R,
     alloc: Global,
@@ -141,4 +143,33 @@ pub(crate) fn is_kept<R: Net<Stream = TcpStream> + rt::Clock>(
     let begun = Instant::now(rt)?;
     let ends = is_at_end(&stream);
     Ok(answered && ends && begun.elapsed(rt)?.as_millis() >= u128::from(SILENT_MILLIS))
+}
+
+/// Where as many connections as there may be wait for requests, the one that is silent longest ends for
+/// a new one, and the others are served on.
+pub(crate) fn gives_way<R: Net<Stream = TcpStream> + rt::Clock>(
+    rt: &R,
+    alloc: Global,
+    server: SocketAddr,
+    most: usize,
+) -> io::Result<bool> {
+    let mut well = true;
+    let streams = visits(rt, alloc, server, most, BEAT)?;
+    for stream in &streams {
+        well = hears(alloc, stream, 204) && well;
+        sleep(rt, Duration::from_millis(DRIP_MILLIS));
+    }
+    for stream in &streams {
+        well = send(stream, BEAT).is_ok() && hears(alloc, stream, 204) && well;
+        sleep(rt, Duration::from_millis(DRIP_MILLIS));
+    }
+    let another = visit(rt, server)?;
+    well = send(&another, BEAT).is_ok() && hears(alloc, &another, 204) && well;
+    let [first, rest @ ..] = streams.as_slice() else {
+        return Ok(false);
+    };
+    for stream in rest {
+        well = send(stream, BEAT).is_ok() && hears(alloc, stream, 204) && well;
+    }
+    Ok(is_at_end(first) && well)
 }

@@ -153,6 +153,7 @@ where
         seats,
         &Limits::of_server(),
         plan.clients,
+        plan.clients as usize,
         SystemClock::new(rt),
         &Open,
         move || match scope.spawn(move || work(rt, alloc, plan, turn, desk, clients)) {

@@ -1,0 +1,241 @@
+//! One connection of a socket, which goes on as far as it can without waiting.
+use crate::close::has_last_reply;
+use crate::deadline::Deadline;
+use crate::room::Room;
+use crate::waits::{Phase, Waits};
+use disco_http::{End, Next, Service, Session, Stage};
+use disco_message::Document;
+use disco_values::Fault;
+use std::alloc::Global;
+use std::io::{ErrorKind, Read, Write};
+use std::net::{Shutdown, TcpStream};
+use std::sync::atomic::{AtomicU64, Ordering};
+
+/// How many reads, answers and writes a worker makes for a connection before it turns to the others.
+const STEPS: u64 = 256;
+
+/// The bytes that all connections keep of what came from which on some of them wait.
+pub(crate) const MOST_HELD: u64 = 64 << 20;
+
+/// A connection waits then that keeps more bytes than this.
+const FEW_HELD: u64 = 16_384;
+
+/// How far a connection has gone.
+#[derive(Clone, Copy, Debug, PartialEq, Eq)]
+pub(crate) enum Turn {
+    /// It waits for the host.
+    Rests,
+    /// It could go on.
+    Goes,
+    /// It is over.
+    Over,
+}
+
+/// A connection between two turns.
+#[derive(Drop)]
+pub struct Connection<D> {
+    pub(crate) stream: TcpStream,
+    pub(crate) session: Session<D>,
+    /// Its number, from 1.
+    pub number: u64,
+    /// Its place.
+    pub(crate) key: usize,
+    pub(crate) deadline: Deadline,
+    /// The sending side is ended, and what comes is dropped.
+    is_ending: bool,
+    /// A request was answered since the last turn.
+    has_answered: bool,
+    /// The bytes of what came that were counted.
+    pub(crate) held: u64,
+    /// It isn't read on, since all connections keep too much.
+    pub(crate) is_held_back: bool,
+    /// It may read on all the same.
+    pub(crate) may_pass: bool,
+    /// The poll tells when something comes.
+    pub(crate) tells_input: bool,
+    /// The poll tells when there is room to write.
+    pub(crate) tells_room: bool,
+}
+
+impl<D: Document + Drop> Connection<D> {
+    /// A connection of which nothing came.
+    pub(crate) fn new(
+        stream: TcpStream,
+        session: Session<D>,
+        number: u64,
+        key: usize,
+        deadline: Deadline,
+    ) -> Connection<D> {
+        Connection {
+            stream,
+            session,
+            number,
+            key,
+            deadline,
+            is_ending: false,
+            has_answered: false,
+            held: 0,
+            is_held_back: false,
+            may_pass: false,
+            tells_input: false,
+            tells_room: false,
+        }
+    }
+
+    /// What it waits for.
+    pub(crate) fn phase(&self) -> Phase {
+        if self.is_ending {
+            return Phase::Ending;
+        }
+        match self.session.next() {
+            Next::Write => Phase::Reply,
+            Next::Read | Next::Answer | Next::Over(_) => match self.session.stage() {
+                Stage::Between => Phase::Between,
+                Stage::Head => Phase::Head,
+                Stage::Body => Phase::Body,
+            },
+        }
+    }
+
+    /// Goes on until it would wait, but for so many steps at most.
+    pub(crate) fn go_on<S: Service<Body = D>>(
+        &mut self,
+        alloc: Global,
+        held: &AtomicU64,
+        room: &mut Room,
+        service: &mut S,
+    ) -> Turn {
+        for _ in 0..STEPS {
+            if let Some(turn) = self.step(alloc, held, room, service) {
+                return turn;
+            }
+        }
+        Turn::Goes
+    }
+
+    /// Takes one step. None where the next may follow at once.
+    fn step<S: Service<Body = D>>(
+        &mut self,
+        alloc: Global,
+        held: &AtomicU64,
+        room: &mut Room,
+        service: &mut S,
+    ) -> Option<Turn> {
+        match self.session.next() {
+            Next::Read => self.read(held, room),
+            Next::Answer => {
+                self.session.answer(alloc, &mut room.buffers, service);
+                self.count(held);
+                if self.session.next() == Next::Write {
+                    self.has_answered = true;
+                }
+                None
+            }
+            Next::Write => self.write(room),
+            Next::Over(end) => self.end(end, room),
+        }
+    }
+
+    /// Counts the bytes that it keeps among those of all.
+    fn count(&mut self, held: &AtomicU64) {
+        let now = self.session.held() as u64;
+        if now > self.held {
+            held.fetch_add(now - self.held, Ordering::SeqCst);
+        } else if now < self.held {
+            held.fetch_sub(self.held - now, Ordering::SeqCst);
+        }
+        self.held = now;
+    }
+
+    /// Whether it waits until others keep less.
+    fn holds_back(&self, held: &AtomicU64) -> bool {
+        self.held > FEW_HELD && !self.may_pass && held.load(Ordering::SeqCst) >= MOST_HELD
+    }
+
+    /// Reads once.
+    fn read(&mut self, held: &AtomicU64, room: &mut Room) -> Option<Turn> {
+        self.is_held_back = self.holds_back(held);
+        if self.is_held_back {
+            return Some(Turn::Rests);
+        }
+        let mut stream = &self.stream;
+        match stream.read(&mut room.input) {
+            Ok(0) => {
+                self.session.end_input();
+                None
+            }
+            Ok(count) => {
+                let taken = self.session.take(&room.input[..count]);
+                self.count(held);
+                if taken.is_ok() {
+                    None
+                } else {
+                    Some(Turn::Over)
+                }
+            }
+            Err(error) => match error.kind() {
+                ErrorKind::WouldBlock => Some(Turn::Rests),
+                ErrorKind::Interrupted => None,
+                _ => {
+                    self.session.fail(Fault::ReadFailed);
+                    None
+                }
+            },
+        }
+    }
+
+    /// Writes once.
+    fn write(&mut self, room: &mut Room) -> Option<Turn> {
+        let mut stream = &self.stream;
+        match stream.write(self.session.text(&mut room.buffers)) {
+            Ok(0) => {
+                self.session.fail(Fault::WriteFailed);
+                None
+            }
+            Ok(count) => {
+                self.session.sent(count);
+                None
+            }
+            Err(error) => match error.kind() {
+                ErrorKind::WouldBlock => Some(Turn::Rests),
+                ErrorKind::Interrupted => None,
+                _ => {
+                    self.session.fail(Fault::WriteFailed);
+                    None
+                }
+            },
+        }
+    }
+
+    /// Ends the sending behind a last reply, and drops what comes then.
+    fn end(&mut self, end: End, room: &mut Room) -> Option<Turn> {
+        if !self.is_ending {
+            self.is_ending = has_last_reply(end) && self.stream.shutdown(Shutdown::Write).is_ok();
+            return if self.is_ending {
+                None
+            } else {
+                Some(Turn::Over)
+            };
+        }
+        let mut stream = &self.stream;
+        match stream.read(&mut room.input) {
+            Ok(0) => Some(Turn::Over),
+            Ok(_) => None,
+            Err(error) => match error.kind() {
+                ErrorKind::WouldBlock => Some(Turn::Rests),
+                ErrorKind::Interrupted => None,
+                _ => Some(Turn::Over),
+            },
+        }
+    }
+
+    /// Sets until when it is waited for, behind a turn.
+    pub(crate) fn expect(&mut self, waits: &Waits, now: u64) {
+        let bytes = self.session.unsent() as u64;
+        let phase = self.phase();
+        self.deadline
+            .expect(waits, phase, bytes, self.has_answered, now);
+        self.has_answered = false;
+        self.may_pass = false;
+    }
+}
