@@ -2,8 +2,7 @@
 ghost use Rattle.std.specs.Prelude.{◌≡◌, ◌≢◌, ◌+◌, ◌-◌, ◌^◌, None, Some, min, pos};
 ghost use Rattle.disco_connections.specs.Acceptors.{IsOpen};
 ghost use Rattle.disco_connections.specs.declared.acceptor.Refusal.TheVariants.{ByHost};
-ghost use Rattle.disco_connections.specs.declared.accepts.Accepted.TheVariants.{Taken, Nothing, Gone, Later, Refused};
-ghost use Rattle.disco_connections.specs.declared.accepts.Failure as failure;
+ghost use Rattle.disco_connections.specs.declared.accepts.Accepted.TheVariants.{Taken, Nothing, Gone, Full, Later, Refused};
 
 use crate::acceptor::{Acceptor, Refusal};
 use std::net::OpenListener;
@@ -15,7 +14,9 @@ enum Failure {
     Nothing,
     /// The connection was gone again, or was refused on its way.
     Gone,
-    /// Descriptors or memory are lacking.
+    /// The program has as many descriptors as it may.
+    Full,
+    /// The host lacks descriptors or memory.
     Lacking,
     /// It lasts.
     Lasting,
@@ -23,9 +24,10 @@ enum Failure {
 
 /// What a failure is, by Linux's number for it.
 fn failure_of(number: Option<i32>) -> Failure
-    // The connection was aborted, there is no descriptor, and what was given is no listener.
+    // The connection was aborted, there is no descriptor, there is no memory, and what was given is no listener.
     ensures gone { number ≡ Some (pos 103) → result ≡ Failure.Gone }
-    ensures lacking { number ≡ Some (pos 24) → result ≡ Failure.Lacking }
+    ensures full { number ≡ Some (pos 24) → result ≡ Failure.Full }
+    ensures lacking { number ≡ Some (pos 12) → result ≡ Failure.Lacking }
     ensures lasting { number ≡ Some (pos 22) → result ≡ Failure.Lasting }
     ensures unnumbered { number ≡ None → result ≡ Failure.Lasting }
 {
@@ -33,8 +35,9 @@ fn failure_of(number: Option<i32>) -> Failure
         Some(11) => Failure::Nothing,
         // Interrupted, and a connection that is gone or was refused on its way.
         Some(1 | 4 | 64 | 71 | 92 | 95 | 100 | 101 | 103 | 110 | 112 | 113) => Failure::Gone,
-        // No memory, no descriptor, no buffer.
-        Some(12 | 23 | 24 | 105) => Failure::Lacking,
+        Some(24) => Failure::Full,
+        // No memory, no descriptor of the host's, no buffer.
+        Some(12 | 23 | 105) => Failure::Lacking,
         _ => Failure::Lasting,
     }
 }
@@ -48,7 +51,9 @@ pub enum Accepted<T> {
     Nothing,
     /// None was taken, and the next may be at once.
     Gone,
-    /// None was taken for want of descriptors or memory.
+    /// None was taken, since the program has as many descriptors as it may.
+    Full,
+    /// None was taken, since the host lacks descriptors or memory.
     Later,
     /// No connection more is taken.
     Refused,
@@ -60,7 +65,7 @@ pub fn accept<L: OpenListener>(listener: &L, acceptor: &mut Acceptor) -> Accepte
     ensures taken { (stream : L.Stream) → (number : ℕ) → result ≡ Taken stream number
         → IsOpen acceptor.old × (number ≡ min (acceptor.old.taken + 1) (2 ^ 64 - 1)) × (acceptor.new ≡ record acceptor.old { taken = number }) }
     ensures refused { result ≡ Refused → (acceptor.new ≡ acceptor.old) ⊎ (acceptor.new ≡ record acceptor.old { refused = Some ByHost }) }
-    ensures same { (result ≡ Nothing) ⊎ ((result ≡ Gone) ⊎ (result ≡ Later)) → acceptor.new ≡ acceptor.old }
+    ensures same { (result ≡ Nothing) ⊎ ((result ≡ Gone) ⊎ ((result ≡ Full) ⊎ (result ≡ Later))) → acceptor.new ≡ acceptor.old }
 {
     if !acceptor.is_open() {
         return Accepted::Refused;
@@ -72,6 +77,7 @@ pub fn accept<L: OpenListener>(listener: &L, acceptor: &mut Acceptor) -> Accepte
     match failure_of(error.raw_os_error()) {
         Failure::Nothing => Accepted::Nothing,
         Failure::Gone => Accepted::Gone,
+        Failure::Full => Accepted::Full,
         Failure::Lacking => Accepted::Later,
         Failure::Lasting => {
             acceptor.refuse(Refusal::ByHost);

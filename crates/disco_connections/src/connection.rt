@@ -1,6 +1,7 @@
 //! One connection of a socket, which goes on as far as it can without waiting.
 use crate::close::has_last_reply;
 use crate::deadline::Deadline;
+use crate::held::{FEW, Held};
 use crate::room::Room;
 use crate::waits::{Phase, Waits};
 use disco_http::{End, Next, Service, Session, Stage};
@@ -9,16 +10,9 @@ use disco_values::Fault;
 use std::alloc::Global;
 use std::io::{ErrorKind, Read, Write};
 use std::net::{Shutdown, TcpStream};
-use std::sync::atomic::{AtomicU64, Ordering};
 
 /// How many reads, answers and writes a worker makes for a connection before it turns to the others.
 const STEPS: u64 = 256;
-
-/// The bytes that all connections keep of what came from which on some of them wait.
-pub(crate) const MOST_HELD: u64 = 64 << 20;
-
-/// A connection waits then that keeps more bytes than this.
-const FEW_HELD: u64 = 16_384;
 
 /// How far a connection has gone.
 #[derive(Clone, Copy, Debug, PartialEq, Eq)]
@@ -49,6 +43,8 @@ pub struct Connection<D> {
     pub(crate) held: u64,
     /// It isn't read on, since all connections keep too much.
     pub(crate) is_held_back: bool,
+    /// It keeps less than before the turn.
+    pub(crate) has_freed: bool,
     /// It may read on all the same.
     pub(crate) may_pass: bool,
     /// The poll tells when something comes.
@@ -76,6 +72,7 @@ impl<D: Document + Drop> Connection<D> {
             has_answered: false,
             held: 0,
             is_held_back: false,
+            has_freed: false,
             may_pass: false,
             tells_input: false,
             tells_room: false,
@@ -101,7 +98,7 @@ impl<D: Document + Drop> Connection<D> {
     pub(crate) fn go_on<S: Service<Body = D>>(
         &mut self,
         alloc: Global,
-        held: &AtomicU64,
+        held: &Held,
         room: &mut Room,
         service: &mut S,
     ) -> Turn {
@@ -117,7 +114,7 @@ impl<D: Document + Drop> Connection<D> {
     fn step<S: Service<Body = D>>(
         &mut self,
         alloc: Global,
-        held: &AtomicU64,
+        held: &Held,
         room: &mut Room,
         service: &mut S,
     ) -> Option<Turn> {
@@ -137,24 +134,28 @@ impl<D: Document + Drop> Connection<D> {
     }
 
     /// Counts the bytes that it keeps among those of all.
-    fn count(&mut self, held: &AtomicU64) {
+    fn count(&mut self, held: &Held) {
         let now = self.session.held() as u64;
-        if now > self.held {
-            held.fetch_add(now - self.held, Ordering::SeqCst);
-        } else if now < self.held {
-            held.fetch_sub(self.held - now, Ordering::SeqCst);
-        }
+        held.change(self.held, now);
+        self.has_freed = self.has_freed || now < self.held;
         self.held = now;
+        if self.may_pass && now <= FEW {
+            self.may_pass = false;
+            held.end_pass();
+        }
     }
 
-    /// Whether it waits until others keep less.
-    fn holds_back(&self, held: &AtomicU64) -> bool {
-        self.held > FEW_HELD && !self.may_pass && held.load(Ordering::SeqCst) >= MOST_HELD
+    /// No longer keeps what came, since it ends.
+    pub(crate) fn forget(&mut self, held: &Held) {
+        held.change(self.held, 0);
+        if self.may_pass {
+            held.end_pass();
+        }
     }
 
     /// Reads once.
-    fn read(&mut self, held: &AtomicU64, room: &mut Room) -> Option<Turn> {
-        self.is_held_back = self.holds_back(held);
+    fn read(&mut self, held: &Held, room: &mut Room) -> Option<Turn> {
+        self.is_held_back = self.held > FEW && !self.may_pass && held.is_full();
         if self.is_held_back {
             return Some(Turn::Rests);
         }
@@ -236,6 +237,5 @@ impl<D: Document + Drop> Connection<D> {
         self.deadline
             .expect(waits, phase, bytes, self.has_answered, now);
         self.has_answered = false;
-        self.may_pass = false;
     }
 }

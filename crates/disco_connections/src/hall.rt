@@ -1,10 +1,10 @@
 //! All connections of a server, and how workers take turns with them.
 use crate::acceptor::{Acceptor, Refusal};
 use crate::accepts::{Accepted, accept};
-use crate::connection::{Connection, MOST_HELD, Turn};
+use crate::connection::{Connection, Turn};
 use crate::deadline::Deadline;
 use crate::entrance::Entrance;
-use crate::place::Place;
+use crate::held::Held;
 use crate::places::Places;
 use crate::room::Room;
 use crate::waits::{Phase, Waits};
@@ -16,7 +16,6 @@ use mio::{Events, Interest, Poll, Registry, Token, Waker};
 use std::alloc::Global;
 use std::net::{Net, TcpListener, TcpStream};
 use std::os::fd::{AsRawFd, RawFd};
-use std::sync::atomic::{AtomicU64, Ordering};
 use std::sync::{Mutex, MutexGuard, Wait};
 use std::time::{Duration, Instant};
 use std::{io, mem, rt, thread};
@@ -47,8 +46,7 @@ pub struct Hall<'a, D> {
     /// Its lock is taken before that of the places.
     pub entrance: Mutex<Entrance>,
     places: Mutex<Places<D>>,
-    /// Bytes that connections keep of what came.
-    held: AtomicU64,
+    held: Held,
 }
 
 /// Has the poll tell of a listener, as of one that wasn't told of.
@@ -112,7 +110,7 @@ impl<'a, D: Document + Drop> Hall<'a, D> {
             waker,
             entrance: Mutex::new(entrance),
             places: Mutex::new(Places::new(alloc, places)),
-            held: AtomicU64::new(0),
+            held: Held::new(),
         })
     }
 
@@ -217,10 +215,14 @@ impl<'a, D: Document + Drop> Hall<'a, D> {
                 let _ = tell_listener(&self.registry, self.listener);
                 None
             }
-            Accepted::Later => {
+            Accepted::Full => {
                 if self.end_most_silent(self.places.lock(rt)) {
                     let _ = tell_listener(&self.registry, self.listener);
                 }
+                None
+            }
+            Accepted::Later => {
+                self.places.lock(rt).is_awaited = true;
                 None
             }
             Accepted::Nothing | Accepted::Refused => None,
@@ -248,8 +250,8 @@ impl<'a, D: Document + Drop> Hall<'a, D> {
 
     /// A connection no longer keeps what came, and is closed.
     fn forget(&self, ended: Option<Box<Connection<D>>>) {
-        if let Some(connection) = ended {
-            self.held.fetch_sub(connection.held, Ordering::SeqCst);
+        if let Some(mut connection) = ended {
+            connection.forget(&self.held);
         }
     }
 
@@ -305,12 +307,18 @@ impl<'a, D: Document + Drop> Hall<'a, D> {
         last: bool,
     ) -> Option<Box<Connection<D>>> {
         let turn = connection.go_on(alloc, &self.held, room, service);
-        if turn == Turn::Over {
+        let freed = mem::replace(&mut connection.has_freed, false);
+        let again = if turn == Turn::Over {
             self.end(rt, connection);
-            return None;
+            None
+        } else {
+            connection.expect(&self.waits, self.moment(rt));
+            self.put_back(rt, connection, last || turn == Turn::Goes)
+        };
+        if (freed || turn == Turn::Over) && self.held.is_short() {
+            self.let_on(&mut *self.places.lock(rt));
         }
-        connection.expect(&self.waits, self.moment(rt));
-        self.put_back(rt, connection, last || turn == Turn::Goes)
+        again
     }
 
     /// Ends a connection.
@@ -350,6 +358,9 @@ impl<'a, D: Document + Drop> Hall<'a, D> {
     ) -> Option<Box<Connection<D>>> {
         let (fd, key) = (connection.stream.as_raw_fd(), connection.key);
         let (first, room) = (!connection.tells_input, connection.phase() == Phase::Reply);
+        if connection.is_held_back {
+            self.held.note_short(true);
+        }
         if !anew && !first && (connection.tells_room || !room) {
             return self.places.lock(rt).rest(connection);
         }
@@ -383,10 +394,10 @@ impl<'a, D: Document + Drop> Hall<'a, D> {
         }
     }
 
-    /// Tells of connections that were not read on: of all of them where connections keep little enough,
-    /// and else of the one that keeps most, so that its request comes to an end.
+    /// Tells of connections that were not read on: of all of them where there is room again, and else of
+    /// the one that keeps most, which then comes to the end of its body, while no other does so.
     fn let_on(&self, places: &mut Places<D>) {
-        let all = self.held.load(Ordering::SeqCst) < MOST_HELD;
+        let all = self.held.has_room();
         let mut most: Option<(usize, u64)> = None;
         for key in 0..places.bound() {
             let Some(connection) = places.waiting(key) else {
@@ -396,28 +407,25 @@ impl<'a, D: Document + Drop> Hall<'a, D> {
                 continue;
             }
             if all {
-                self.let_one_on(connection);
+                self.tell_again(connection);
             } else if most.is_none_or(|(_, held)| connection.held > held) {
                 most = Some((key, connection.held));
             }
         }
+        self.held.note_short(most.is_some());
         if let Some((key, _)) = most
             && let Some(connection) = places.waiting(key)
+            && self.held.begin_pass()
         {
             connection.may_pass = true;
-            self.let_one_on(connection);
+            self.tell_again(connection);
         }
     }
 
-    fn let_one_on(&self, connection: &mut Box<Connection<D>>) {
+    /// Has the poll tell again of what a connection has to read.
+    fn tell_again(&self, connection: &mut Connection<D>) {
         connection.is_held_back = false;
-        let fd = connection.stream.as_raw_fd();
-        let _ = tell(
-            &self.registry,
-            fd,
-            connection.key,
-            !connection.tells_input,
-            connection.tells_room,
-        );
+        let (fd, room) = (connection.stream.as_raw_fd(), connection.tells_room);
+        let _ = tell(&self.registry, fd, connection.key, false, room);
     }
 }

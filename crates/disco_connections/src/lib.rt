@@ -10,6 +10,7 @@ mod connection;
 mod deadline;
 mod entrance;
 mod hall;
+mod held;
 mod listener;
 mod place;
 mod places;

@@ -1,0 +1,70 @@
+//! The bytes that connections keep of what came, and which of them wait until it is less.
+use std::sync::atomic::{AtomicBool, AtomicU64, Ordering};
+
+/// So many bytes are kept in all, and no more is read of bodies that aren't small.
+const MOST: u64 = 64 << 20;
+
+/// A connection that keeps no more than this reads on all the same.
+pub(crate) const FEW: u64 = 16_384;
+
+/// What all connections keep.
+#[derive(Drop)]
+pub(crate) struct Held {
+    bytes: AtomicU64,
+    /// Some connection isn't read on.
+    is_short: AtomicBool,
+    /// One is read on to the end of its body all the same, so that bodies come to an end.
+    passes: AtomicBool,
+}
+
+impl Held {
+    /// Nothing is kept.
+    pub(crate) fn new() -> Held {
+        Held {
+            bytes: AtomicU64::new(0),
+            is_short: AtomicBool::new(false),
+            passes: AtomicBool::new(false),
+        }
+    }
+
+    /// A connection keeps so many bytes now in place of others.
+    pub(crate) fn change(&self, before: u64, now: u64) {
+        if now > before {
+            self.bytes.fetch_add(now - before, Ordering::SeqCst);
+        } else if now < before {
+            self.bytes.fetch_sub(before - now, Ordering::SeqCst);
+        }
+    }
+
+    /// Whether so much is kept that bodies wait.
+    pub(crate) fn is_full(&self) -> bool {
+        self.bytes.load(Ordering::SeqCst) >= MOST
+    }
+
+    /// Whether there is room again for all that wait.
+    pub(crate) fn has_room(&self) -> bool {
+        self.bytes.load(Ordering::SeqCst) < MOST / 2
+    }
+
+    /// Notes whether a connection isn't read on.
+    pub(crate) fn note_short(&self, short: bool) {
+        self.is_short.store(short, Ordering::SeqCst);
+    }
+
+    /// Whether a connection isn't read on.
+    pub(crate) fn is_short(&self) -> bool {
+        self.is_short.load(Ordering::SeqCst)
+    }
+
+    /// Whether a connection may read on all the same: while no other does.
+    pub(crate) fn begin_pass(&self) -> bool {
+        self.passes
+            .compare_exchange(false, true, Ordering::SeqCst, Ordering::SeqCst)
+            .is_ok()
+    }
+
+    /// It has come to the end of its body, or to its own.
+    pub(crate) fn end_pass(&self) {
+        self.passes.store(false, Ordering::SeqCst);
+    }
+}
