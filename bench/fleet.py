@@ -1,7 +1,10 @@
 """A fleet of clients of `discovery serve`, on loopback, each with one connection that it keeps."""
 
 import asyncio
+import heapq
+import multiprocessing
 import resource
+import select
 import socket
 import subprocess
 import sys
@@ -21,6 +24,8 @@ HARMFUL = 1_000
 VISITORS = 200
 # The instances of the document that is read slowly.
 INSTANCES = 10_000
+# What one read gives.
+CAME = bytearray(1 << 18)
 
 BODY = (
     '{"instance":{"instanceId":"i%d","hostName":"h%d","app":"APP%d","ipAddr":"10.0.0.1",'
@@ -70,66 +75,122 @@ class Tally:
         )
 
 
-async def reply_of(reader):
-    """The status of the next reply, which is read to its end."""
-    head = await reader.readuntil(b"\r\n\r\n")
-    for field in head.split(b"\r\n"):
-        name, _, value = field.partition(b":")
-        if name.lower() == b"content-length":
-            await reader.readexactly(int(value))
-    return int(head[9:12])
-
-
 class Client:
-    """One that looks before each request whether its connection was ended."""
+    """One with a connection that it keeps. It makes a new one where it was ended."""
 
-    def __init__(self, number, tally):
+    def __init__(self, number):
         self.number = number
-        self.tally = tally
         self.line = None
         self.made = 0
+        self.asked = None
+        self.came = b""
+        self.left = None
+        self.turn = number
+        self.texts = (
+            text_of("PUT", "/apps/APP%d/i%d" % (number % APPS, number)),
+            text_of("GET", "/apps/delta"),
+        )
 
-    async def connect(self):
-        self.line = await asyncio.open_connection("127.0.0.1", PORT)
+    def connect(self):
+        self.line = socket.create_connection(("127.0.0.1", PORT))
+        self.line.setblocking(False)
         self.made = 0
 
-    async def ask(self, text, counts=True):
-        if self.line is not None and self.line[0].at_eof():
-            self.tally.ended += self.made < REQUESTS
-            self.close()
-        begun = time.monotonic()
+    def ask(self):
+        text = self.texts[self.turn % DELTA == 0] if self.turn > self.number else registration(self.number)
+        self.turn += 1
+        self.made += 1
+        self.came = b""
+        self.left = None
+        self.asked = time.monotonic()
+        self.line.sendall(text)
+
+    def hear(self):
+        """The status of the reply where it is whole, None where it isn't, and 0 where the connection ended."""
         try:
-            async with asyncio.timeout(PATIENCE):
-                if self.line is None:
-                    await self.connect()
-                self.made += 1
-                self.line[1].write(text)
-                status = await reply_of(self.line[0])
-        except (OSError, TimeoutError, asyncio.IncompleteReadError):
-            self.tally.unanswered += 1
-            self.close()
-            return
-        if counts:
-            self.tally.waits.append(time.monotonic() - begun)
-        self.tally.wrong += status not in (200, 204)
+            count = self.line.recv_into(CAME)
+        except ConnectionError:
+            count = 0
+        if self.left is None:
+            self.came += CAME[:count]
+            head, end, body = self.came.partition(b"\r\n\r\n")
+            if end:
+                length = head.lower().partition(b"content-length:")[2].split(b"\r\n")[0]
+                self.left = int(length or 0) - len(body)
+        else:
+            self.left -= count
+        if self.asked is not None and self.left == 0:
+            return int(self.came[9:12])
+        return None if count else 0
 
     def close(self):
-        if self.line:
-            self.line[1].close()
+        self.line.close()
         self.line = None
 
-    async def live(self, clients, period, until):
-        await asyncio.sleep(period * self.number / clients)
-        await self.ask(registration(self.number), counts=False)
-        beat = text_of("PUT", "/apps/APP%d/i%d" % (self.number % APPS, self.number))
-        delta = text_of("GET", "/apps/delta")
-        turn = self.number
-        while time.monotonic() + period < until:
-            await asyncio.sleep(period)
-            turn += 1
-            await self.ask(delta if turn % DELTA == 0 else beat)
-        await asyncio.sleep(max(0, until - time.monotonic()))
-        self.close()
+
+class Fleet:
+    """Clients that ask, each at its own moment, in one loop."""
+
+    def __init__(self, clients, period, tally):
+        self.period = period
+        self.tally = tally
+        self.poll = select.epoll()
+        self.lines = {}
+        begun = time.monotonic()
+        self.due = [(begun + period * k / clients, k, Client(k)) for k in range(clients)]
+
+    def lose(self, client):
+        """Its connection has ended."""
+        if client.asked is not None:
+            self.tally.unanswered += 1
+            self.plan(client)
+        elif client.made < REQUESTS:
+            self.tally.ended += 1
+        del self.lines[client.line.fileno()]
+        client.close()
+
+    def plan(self, client):
+        heapq.heappush(self.due, (client.asked + self.period, client.number, client))
+        client.asked = None
+
+    def ask(self, client):
+        try:
+            if client.line is None:
+                client.connect()
+                self.lines[client.line.fileno()] = client
+                self.poll.register(client.line.fileno(), select.EPOLLIN)
+            client.ask()
+        except OSError:
+            self.lose(client)
+
+    def hear(self, client):
+        status = client.hear()
+        if status == 0:
+            self.lose(client)
+        elif status is not None:
+            self.tally.waits.append(time.monotonic() - client.asked)
+            self.tally.wrong += status not in (200, 204)
+            self.plan(client)
+
+    def run(self, until):
+        while (now := time.monotonic()) < until:
+            first = min(self.due[0][0], until) if self.due else until
+            for line, _ in self.poll.poll(max(0, first - now), 256):
+                if line in self.lines:
+                    self.hear(self.lines[line])
+            while self.due and self.due[0][0] <= time.monotonic():
+                self.ask(heapq.heappop(self.due)[2])
+
+    def end(self):
+        """Waits for what was asked, and closes all."""
+        patience = time.monotonic() + PATIENCE
+        while time.monotonic() < patience and any(c.asked is not None for c in self.lines.values()):
+            for line, _ in self.poll.poll(0.1, 256):
+                if line in self.lines:
+                    self.hear(self.lines[line])
+        self.tally.unanswered += sum(c.asked is not None for c in self.lines.values())
+        for client in self.lines.values():
+            client.close()
 
 
 def resident(server):
@@ -182,44 +243,54 @@ async def stay_silent():
 
 
 async def come_and_go():
-    client = Client(0, Tally())
+    reader, writer = await asyncio.open_connection("127.0.0.1", PORT)
     try:
-        await client.ask(text_of("GET", "/apps/APP0"))
+        writer.write(text_of("GET", "/apps/APP0"))
+        await reader.readuntil(b"\r\n\r\n")
     finally:
-        client.close()
+        writer.close()
 
 
-def harm(until):
+async def do_harm(seconds):
+    until = time.monotonic() + seconds
     head = b"GET /eureka/v2/apps HTTP/1.1\r\nHost: a\r\nX-A: "
     body = b"PUT /eureka/v2/apps/A/1 HTTP/1.1\r\nHost: a\r\nContent-Length: 100000\r\n\r\n"
     kinds = [lambda: drip(head), lambda: drip(body), read_slowly, stay_silent]
     todos = [kind for kind in kinds for _ in range(HARMFUL)] + [come_and_go] * VISITORS
-    return [asyncio.ensure_future(again(until, todo)) for todo in todos]
+    tasks = [asyncio.ensure_future(again(until, todo)) for todo in todos]
+    await asyncio.sleep(seconds)
+    for task in tasks:
+        task.cancel()
 
 
-async def register_all():
-    client = Client(0, Tally())
+def register_all():
+    client = Client(0)
     for number in range(INSTANCES):
+        if client.made % REQUESTS == 0:
+            client.connect()
+        client.line.setblocking(True)
+        client.made += 1
+        client.line.sendall(registration(100_000 + number))
+        client.line.recv(1 << 16)
         if client.made == REQUESTS:
             client.close()
-        await client.ask(registration(100_000 + number))
-    client.close()
+            client.made = 0
 
 
-async def run_fleet(name, server, clients, period, seconds, harmful=False):
+def run_fleet(name, server, clients, period, seconds, harmful):
     if harmful:
-        await register_all()
+        register_all()
     before = resident(server)
     tally = Tally()
-    until = time.monotonic() + seconds
-    others = harm(until) if harmful else []
-    fleet = [Client(number, tally) for number in range(clients)]
-    living = asyncio.gather(*(client.live(clients, period, until) for client in fleet))
-    await asyncio.sleep(max(0, seconds - 2))
+    others = multiprocessing.Process(target=asyncio.run, args=(do_harm(seconds),)) if harmful else None
+    if others:
+        others.start()
+    fleet = Fleet(clients, period, tally)
+    fleet.run(time.monotonic() + seconds)
     with_them = resident(server)
-    await living
-    for other in others:
-        other.cancel()
+    fleet.end()
+    if others:
+        others.join()
     tally.line(name, before, with_them)
 
 
@@ -231,7 +302,7 @@ def with_server(program, workers, todo):
     try:
         if not server.stdout.readline().startswith(b"listening"):
             sys.exit("the server doesn't listen")
-        asyncio.run(todo(server))
+        todo(server)
     finally:
         server.terminate()
         server.wait()

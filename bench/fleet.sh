@@ -1,10 +1,9 @@
 #!/bin/sh
-# Measures a server under a fleet: 1,000 clients that register, heartbeat and fetch the delta, each
-# every second in place of every 30, over 64 workers, with kept connections and with a new one for each
-# request: errors, median and 99th percentile of the waits, connections a second. Then 64 clients with kept
-# connections over 4 workers, a connection that is silent for 40 seconds, and a client behind 200 that send
-# a byte of a head every ten seconds. Seconds of each measurement may be given as a word; the whole takes
-# some four minutes.
+# Measures a server under a fleet whose clients keep one connection each: 10,000 that heartbeat every 20
+# seconds, and 1,000 that do so every three, alone and beside those who do harm, over 4 and over 64 workers:
+# requests without a reply, connections that the server ended, waits, and the memory of the server before
+# and with them. Each tenth request is for the delta. Seconds of each of the six measurements may be given as
+# a word, 300 without; and the host has to allow 20,000 descriptors.
 set -eu
 root=$(CDPATH='' cd -- "$(dirname -- "$0")/.." && pwd)
 . "$root/bench/on_program.sh"

@@ -1,5 +1,5 @@
 //! How a connection is accepted, and which failures of it pass.
-ghost use Rattle.std.specs.Prelude.{◌≡◌, ◌≢◌, ◌+◌, ◌-◌, ◌^◌, None, Some, min, pos};
+ghost use Rattle.std.specs.Prelude.{◌≡◌, ◌⊎◌, ◌+◌, ◌-◌, ◌^◌, ℕ, None, Some, min, pos};
 ghost use Rattle.disco_connections.specs.Acceptors.{IsOpen};
 ghost use Rattle.disco_connections.specs.declared.acceptor.Refusal.TheVariants.{ByHost};
 ghost use Rattle.disco_connections.specs.declared.accepts.Accepted.TheVariants.{Taken, Nothing, Gone, Full, Later, Refused};
