@@ -107,7 +107,22 @@ impl<D: Document + Drop> Connection<D> {
                 return turn;
             }
         }
+        // The host tells of what is to be read or written, and of nothing else: an answer, and then the
+        // begin of an end, come first.
+        for _ in 0..2 {
+            if self.is_up_to_host() {
+                break;
+            }
+            if let Some(turn) = self.step(alloc, held, room, service) {
+                return turn;
+            }
+        }
         Turn::Goes
+    }
+
+    /// Whether it goes on by a read or a write.
+    fn is_up_to_host(&self) -> bool {
+        self.is_ending || matches!(self.session.next(), Next::Read | Next::Write)
     }
 
     /// Takes one step. None where the next may follow at once.

@@ -281,6 +281,7 @@ impl<'a, D: Document + Drop> Hall<'a, D> {
     }
 
     /// Serves a connection until it would wait, at most so many steps long, and puts it back or ends it.
+    /// One that was ready meanwhile is served once more, and then others go first.
     pub fn serve<R: Wait + rt::Clock, S: Service<Body = D>>(
         &self,
         rt: &R,
@@ -289,14 +290,15 @@ impl<'a, D: Document + Drop> Hall<'a, D> {
         room: &mut Room,
         service: &mut S,
     ) {
-        let Some(connection) = self.serve_once(rt, alloc, connection, room, service, false) else {
+        let Some(connection) = self.serve_once(rt, alloc, connection, room, service) else {
             return;
         };
-        // It was ready meanwhile. Behind this turn others go first.
-        self.serve_once(rt, alloc, connection, room, service, true);
+        if let Some(connection) = self.serve_once(rt, alloc, connection, room, service) {
+            self.tell_anew(rt, connection);
+        }
     }
 
-    /// Serves a connection for a turn. Gives it back where it was ready meanwhile, but for a last turn.
+    /// Serves a connection for a turn. Gives it back where it was ready meanwhile.
     fn serve_once<R: Wait + rt::Clock, S: Service<Body = D>>(
         &self,
         rt: &R,
@@ -304,18 +306,17 @@ impl<'a, D: Document + Drop> Hall<'a, D> {
         mut connection: Box<Connection<D>>,
         room: &mut Room,
         service: &mut S,
-        last: bool,
     ) -> Option<Box<Connection<D>>> {
         let turn = connection.go_on(alloc, &self.held, room, service);
-        let freed = mem::replace(&mut connection.has_freed, false);
+        let freed = mem::replace(&mut connection.has_freed, false) || turn == Turn::Over;
         let again = if turn == Turn::Over {
             self.end(rt, connection);
             None
         } else {
             connection.expect(&self.waits, self.moment(rt));
-            self.put_back(rt, connection, last || turn == Turn::Goes)
+            self.put_back(rt, connection, turn)
         };
-        if (freed || turn == Turn::Over) && self.held.is_short() {
+        if freed && self.held.is_short() {
             self.let_on(&mut *self.places.lock(rt));
         }
         again
@@ -348,32 +349,38 @@ impl<'a, D: Document + Drop> Hall<'a, D> {
         }
     }
 
-    /// Puts a connection back behind a turn. Gives it again where it was ready meanwhile, unless it is to
-    /// be told of `anew`, behind the others.
+    /// Puts a connection back behind a turn. Gives it again where it was ready meanwhile.
     fn put_back<R: Wait>(
         &self,
         rt: &R,
-        mut connection: Box<Connection<D>>,
-        anew: bool,
+        connection: Box<Connection<D>>,
+        turn: Turn,
     ) -> Option<Box<Connection<D>>> {
-        let (fd, key) = (connection.stream.as_raw_fd(), connection.key);
-        let (first, room) = (!connection.tells_input, connection.phase() == Phase::Reply);
         if connection.is_held_back {
             self.held.note_short(true);
         }
-        if !anew && !first && (connection.tells_room || !room) {
+        let lacks_room = connection.phase() == Phase::Reply && !connection.tells_room;
+        if turn == Turn::Rests && connection.tells_input && !lacks_room {
             return self.places.lock(rt).rest(connection);
         }
+        self.tell_anew(rt, connection);
+        None
+    }
+
+    /// Puts a connection back, and has the poll tell of it as of one that wasn't told of: at once where it
+    /// is ready, behind the others. Under the lock, so that nobody takes it before.
+    fn tell_anew<R: Wait>(&self, rt: &R, mut connection: Box<Connection<D>>) {
+        let (fd, key) = (connection.stream.as_raw_fd(), connection.key);
+        let first = !connection.tells_input;
+        let room = connection.tells_room || connection.phase() == Phase::Reply;
         connection.tells_input = true;
-        connection.tells_room = connection.tells_room || room;
-        let room = connection.tells_room;
+        connection.tells_room = room;
         let mut places = self.places.lock(rt);
         places.leave(connection);
         if tell(&self.registry, fd, key, first, room).is_err() {
             self.forget(places.free(key));
             self.tell_free(places);
         }
-        None
     }
 
     /// Ends the connections that are waited for no longer, and tells anew of those that may go on.
