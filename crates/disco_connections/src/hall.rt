@@ -203,7 +203,7 @@ impl<'a, D: Document + Drop> Hall<'a, D> {
         alloc: Global,
         acceptor: &mut Acceptor,
     ) -> Option<Box<Connection<D>>> {
-        if !self.make_place(rt) {
+        if !acceptor.is_open() || !self.make_place(rt) {
             return None;
         }
         match accept(self.listener, acceptor) {
