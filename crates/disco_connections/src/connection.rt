@@ -175,7 +175,8 @@ impl<D: Document + Drop> Connection<D> {
             return Some(Turn::Rests);
         }
         let mut stream = &self.stream;
-        match stream.read(&mut room.input) {
+        let most = self.session.room().min(room.input.len());
+        match stream.read(&mut room.input[..most]) {
             Ok(0) => {
                 self.session.end_input();
                 None
