@@ -1,2 +1,4 @@
+mod Appended
+mod ListedChanges
+mod NoFloats
 mod Turns
-mod WrittenLines

@@ -9,14 +9,15 @@ use Rattle.disco_reconcile.specs.State.{ClientState}
 use Rattle.disco_reconcile.specs.declared.fetch.Fetched.{Fetched}
 use Rattle.disco_follow.specs.Follows.{AreTurns, IsTurn}
 use Rattle.disco_follow.specs.Telling.{Told}
-use Rattle.disco_follow.proofs.WrittenLines.{appends_then}
+use Rattle.disco_follow.specs.declared.wanted.Wanted.{Wanted}
+use Rattle.disco_follow.proofs.Appended.{appends_then}
 
-pub turns_more : {S : Type 0} (gives : S → DocKey → Result Fetched Fault → S → Type 0) (failed : S → ℕ) (vip : Option (List ℕ)) (old : ClientState S) (told : Told) (texts : List (List ℕ)) (between : ClientState S) (then_told : Told) (text : List ℕ) (new : ClientState S) (now : Told) →
-    AreTurns gives failed vip old told texts between then_told → IsTurn gives failed vip between then_told text new now → AreTurns gives failed vip old told (texts ++ text ∷ []) new now
-turns_more gives failed vip old told [] between then_told text new now all one =
-    (new, now, subst (λ s. IsTurn gives failed vip s told text new now) all.0 (subst (λ t. IsTurn gives failed vip between t text new now) all.1 one), (refl, refl))
-turns_more gives failed vip old told (x ∷ xs) between then_told text new now all one =
-    (all.0, all.1, all.2, turns_more gives failed vip all.0 all.1 xs between then_told text new now all.3 one)
+pub turns_more : {S : Type 0} (gives : S → DocKey → Result Fetched Fault → S → Type 0) (failed : S → ℕ) (wanted : Wanted) (old : ClientState S) (told : Told) (texts : List (List ℕ)) (between : ClientState S) (then_told : Told) (text : List ℕ) (new : ClientState S) (now : Told) →
+    AreTurns gives failed wanted old told texts between then_told → IsTurn gives failed wanted between then_told text new now → AreTurns gives failed wanted old told (texts ++ text ∷ []) new now
+turns_more gives failed wanted old told [] between then_told text new now all one =
+    (new, now, subst (λ s. IsTurn gives failed wanted s told text new now) all.0 (subst (λ t. IsTurn gives failed wanted between t text new now) all.1 one), (refl, refl))
+turns_more gives failed wanted old told (x ∷ xs) between then_told text new now all one =
+    (all.0, all.1, all.2, turns_more gives failed wanted all.0 all.1 xs between then_told text new now all.3 one)
 
 -- one text more is written
 pub texts_more : (o m n : Option (List ℕ)) (texts : List (List ℕ)) (text : List ℕ) → Appends o m (flat_map (λ t. t) texts) → Appends m n text → Appends o n (flat_map (λ t. t) (texts ++ text ∷ []))

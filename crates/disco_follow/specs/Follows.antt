@@ -10,20 +10,21 @@ use Rattle.disco_reconcile.specs.State.{ClientState, copy_of, known_in}
 use Rattle.disco_reconcile.specs.declared.fetch.Fetched.{Fetched}
 use Rattle.disco_reconcile.specs.declared.refreshed.Refreshed.{Refreshed}
 use Rattle.disco_follow.specs.Telling.{IsTold, Told}
+use Rattle.disco_follow.specs.declared.wanted.Wanted.{Wanted}
 
 -- a refresh takes the client from the first state to the second, and this is told behind it
-pub record IsTurn {S : Type 0} (gives : S → DocKey → Result Fetched Fault → S → Type 0) (failed : S → ℕ) (vip : Option (List ℕ))
+pub record IsTurn {S : Type 0} (gives : S → DocKey → Result Fetched Fault → S → Type 0) (failed : S → ℕ) (wanted : Wanted)
     (old : ClientState S) (told : Told) (text : List ℕ) (new : ClientState S) (now : Told) : Type 0 where
   pub result : Result Refreshed Fault
   pub refreshed : Refreshes gives failed old result new
-  pub tells : IsTold vip told result (known_in new.kept) (copy_of new.kept) text now
+  pub tells : IsTold wanted told result (known_in new.kept) (copy_of new.kept) text now
 
 -- these are told of refreshes one after another
-abbrev pub AreTurns : {S : Type 0} → (S → DocKey → Result Fetched Fault → S → Type 0) → (S → ℕ) → Option (List ℕ) → ClientState S → Told → List (List ℕ)
+abbrev pub AreTurns : {S : Type 0} → (S → DocKey → Result Fetched Fault → S → Type 0) → (S → ℕ) → Wanted → ClientState S → Told → List (List ℕ)
     → ClientState S → Told → Type 0
-AreTurns gives failed vip old told [] new now = (new ≡ old) × (now ≡ told)
-AreTurns {S = S} gives failed vip old told (text ∷ texts) new now =
-    (state : ClientState S) × (between : Told) × IsTurn gives failed vip old told text state between × AreTurns gives failed vip state between texts new now
+AreTurns gives failed wanted old told [] new now = (new ≡ old) × (now ≡ told)
+AreTurns {S = S} gives failed wanted old told (text ∷ texts) new now =
+    (state : ClientState S) × (between : Told) × IsTurn gives failed wanted old told text state between × AreTurns gives failed wanted state between texts new now
 
 -- 0 is no end, which is more than come in the life of a host
 abbrev pub turns_of : ℕ → ℕ
@@ -34,8 +35,8 @@ abbrev pub nothing_told : Told
 nothing_told = record { begun = false; copy = empty; up = []; fault = 0 }
 
 -- so many refreshes take the client from the first state to the second, and what is told of them is written
-abbrev pub Follows : {S : Type 0} → (S → DocKey → Result Fetched Fault → S → Type 0) → (S → ℕ) → Option (List ℕ) → ℕ → ClientState S → ClientState S
+abbrev pub Follows : {S : Type 0} → (S → DocKey → Result Fetched Fault → S → Type 0) → (S → ℕ) → Wanted → ℕ → ClientState S → ClientState S
     → Option (List ℕ) → Option (List ℕ) → Type 0
-Follows gives failed vip turns old new written-before written =
-    (texts : List (List ℕ)) × (now : Told) × (length texts ≡ turns) × AreTurns gives failed vip old nothing_told texts new now
+Follows gives failed wanted turns old new written-before written =
+    (texts : List (List ℕ)) × (now : Told) × (length texts ≡ turns) × AreTurns gives failed wanted old nothing_told texts new now
     × Appends written-before written (flat_map (λ text. text) texts)

@@ -4,7 +4,7 @@ use disco_message::Limits;
 use disco_reconcile::HttpFetch;
 use std::alloc::{AllocError, Global};
 use std::io;
-use std::net::{Net, SocketAddr, TcpStream};
+use std::net::{Net, TcpStream, ToSocketAddrs};
 use std::time::Duration;
 
 /// How long a client waits for bytes of a reply, in seconds.
@@ -13,15 +13,15 @@ const PATIENCE: u64 = 60;
 /// Fetches over a connection.
 pub type Connected = HttpFetch<Counted<TcpStream>, Counted<TcpStream>>;
 
-/// A connection to an address, and once more the same. A read of it fails where nothing comes for a
-/// minute.
+/// A connection to an address or a name, and once more the same. A read of it fails where nothing comes
+/// for a minute.
 ///
 /// # Errors
 ///
-/// What the host says where it refuses the connection.
-pub fn connect<N: Net<Stream = TcpStream>>(
+/// What the host says where it doesn't find the name or refuses the connection.
+pub fn connect<N: Net<Stream = TcpStream>, A: ToSocketAddrs>(
     rt: &N,
-    address: SocketAddr,
+    address: A,
 ) -> io::Result<(TcpStream, TcpStream)> {
     let stream = TcpStream::connect(rt, address)?;
     stream.set_nodelay(true)?;

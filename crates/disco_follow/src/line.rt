@@ -1,15 +1,68 @@
 //! A client's line to a server.
-ghost use Rattle.std.specs.Prelude.{◌≡◌, ◌≢◌, ◌≤◌, ◌⊎◌};
+ghost use Rattle.std.specs.Prelude.{◌≡◌, ◌≢◌, ◌≤◌, ◌⊎◌, IfOk};
 ghost use Rattle.disco_values.specs.declared.fault.Fault.TheVariants.{OutOfMemory};
 ghost use Rattle.disco_values.specs.declared.query.Query.TheVariants.{Apps, Delta};
 ghost use Rattle.disco_http.specs.Causes.{Raises};
 
-use crate::connection::{Connected, connect, fetcher};
-use disco_reconcile::{Fetch, Fetched};
+use crate::connection::connect;
+use crate::pace::Pace;
+use crate::reply_source::ReplySource;
+use disco_http::{Counted, Reader, Writer};
+use disco_message::Limits;
+use disco_reconcile::{Fetch, Fetched, HttpFetch};
 use disco_values::{DocKey, Fault};
-use std::alloc::Global;
+use std::alloc::{AllocError, Global};
+use std::io;
+use std::io::ErrorKind;
 use std::marker::Model;
-use std::net::{Net, SocketAddr, TcpStream};
+use std::net::{Net, TcpStream};
+use std::rt::Clock;
+
+/// A connection, and fetches over it.
+#[derive(Drop)]
+struct Connected<'a, N> {
+    stream: TcpStream,
+    fetches: HttpFetch<ReplySource<'a, N>, Counted<TcpStream>>,
+}
+
+/// Fetches over a connection of three streams.
+fn fetching<'a, N: Clock>(
+    rt: &'a N,
+    alloc: Global,
+    pace: &'a Pace,
+    streams: (TcpStream, TcpStream, TcpStream),
+) -> Result<Connected<'a, N>, AllocError> {
+    let (stream, source, sink) = streams;
+    let reader = Reader::new(
+        alloc,
+        ReplySource::new(rt, source, pace),
+        Limits::of_client(),
+    )?;
+    let writer = Writer::new(alloc, Counted::new(sink))?;
+    Ok(Connected {
+        stream,
+        fetches: HttpFetch::new(alloc, reader, writer),
+    })
+}
+
+/// A connection to a server, and twice more the same.
+pub(crate) fn connect_thrice<N: Net<Stream = TcpStream>>(
+    rt: &N,
+    address: &str,
+) -> io::Result<(TcpStream, TcpStream, TcpStream)> {
+    let (source, sink) = connect(rt, address)?;
+    Ok((source.try_clone()?, source, sink))
+}
+
+/// Whether nothing came over a stream, and it hasn't ended.
+fn is_silent(stream: &TcpStream) -> bool {
+    if stream.set_nonblocking(true).is_err() {
+        return false;
+    }
+    let seen = stream.peek(&mut [0]);
+    let silent = matches!(seen, Err(error) if error.kind() == ErrorKind::WouldBlock);
+    silent && stream.set_nonblocking(false).is_ok()
+}
 
 /// A client's line to a server: a connection, and after its end another one. Contracts see how many
 /// fetches have failed over all of them.
@@ -17,8 +70,10 @@ use std::net::{Net, SocketAddr, TcpStream};
 pub(crate) struct Line<'a, N> {
     rt: &'a N,
     alloc: Global,
-    address: SocketAddr,
-    connected: Option<Connected>,
+    /// The server's, which is looked up for each connection.
+    address: &'a str,
+    pace: &'a Pace,
+    connected: Option<Connected<'a, N>>,
     failures: u64,
 }
 
@@ -30,36 +85,7 @@ impl<'a, N> Model for Line<'a, N> {
     ghost view = { λ l. l.failures };
 }
 
-impl<'a, N> Line<'a, N> {
-    /// A line to an address, which has a connection.
-    pub(crate) fn new(
-        rt: &'a N,
-        alloc: Global,
-        address: SocketAddr,
-        connected: Connected,
-    ) -> Line<'a, N>
-        ensures { result ≡ 0 }
-    {
-        Line {
-            rt,
-            alloc,
-            address,
-            connected: Some(connected),
-            failures: 0,
-        }
-    }
-
-    /// Asks over the connection.
-    fn ask(&mut self, key: &DocKey) -> Result<Fetched, Fault>
-        requires { (key.now.query ≡ Apps) ⊎ (key.now.query ≡ Delta) }
-        ensures { self.new ≡ self.old }
-    {
-        match &mut self.connected {
-            Some(connected) => connected.fetch(key),
-            None => Err(Fault::NotFetched),
-        }
-    }
-
+impl<N> Line<'_, N> {
     /// Counts a failure, but for want of memory.
     fn count(&mut self, fault: Fault)
         ensures count { self.old ≤ self.new }
@@ -71,15 +97,49 @@ impl<'a, N> Line<'a, N> {
     }
 }
 
-impl<N: Net<Stream = TcpStream>> Line<'_, N> {
+impl<'a, N: Net<Stream = TcpStream> + Clock> Line<'a, N> {
+    /// A line to an address, which has a connection.
+    pub(crate) fn new(
+        rt: &'a N,
+        alloc: Global,
+        address: &'a str,
+        pace: &'a Pace,
+        streams: (TcpStream, TcpStream, TcpStream),
+    ) -> Result<Line<'a, N>, AllocError>
+        ensures { IfOk result (λ line. line ≡ 0) }
+    {
+        let connected = fetching(rt, alloc, pace, streams)?;
+        Ok(Line {
+            rt,
+            alloc,
+            address,
+            pace,
+            connected: Some(connected),
+            failures: 0,
+        })
+    }
+
+    /// Asks over the connection. What came before it is asked ends it.
+    fn ask(&mut self, key: &DocKey) -> Result<Fetched, Fault>
+        requires { (key.now.query ≡ Apps) ⊎ (key.now.query ≡ Delta) }
+        ensures { self.new ≡ self.old }
+    {
+        match &mut self.connected {
+            Some(connected) if is_silent(&connected.stream) && self.pace.begin(self.rt) => {
+                connected.fetches.fetch(key)
+            }
+            _ => Err(Fault::NotFetched),
+        }
+    }
+
     /// Takes another connection in place of the one that there was.
     fn connect(&mut self) -> Result<(), Fault>
         ensures { self.new ≡ self.old }
     {
-        let Ok((source, sink)) = connect(self.rt, self.address) else {
+        let Ok(streams) = connect_thrice(self.rt, self.address) else {
             return Err(Fault::NotFetched);
         };
-        self.connected = Some(fetcher(self.alloc, source, sink)?);
+        self.connected = Some(fetching(self.rt, self.alloc, self.pace, streams)?);
         Ok(())
     }
 
@@ -106,7 +166,7 @@ impl<N: Net<Stream = TcpStream>> Line<'_, N> {
     }
 }
 
-impl<N: Net<Stream = TcpStream>> Fetch for Line<'_, N> {
+impl<N: Net<Stream = TcpStream> + Clock> Fetch for Line<'_, N> {
     ghost gives = { λ _ _ _ _. Unit {0} };
 
     ghost failed = { λ failures. failures };

@@ -1,10 +1,14 @@
 //! What is followed.
-use disco_values::Form;
+use crate::wanted::Wanted;
+use disco_values::{Form, Text};
 
 /// What is followed, and how often it is asked for.
-#[derive(Clone, Copy, Debug)]
+#[derive(Debug, Drop)]
 pub(crate) struct Plan {
-    pub(crate) port: u16,
+    /// The server's host, by name or address, and its port: `HOST:PORT`.
+    pub(crate) address: Text,
+    /// What is told.
+    pub(crate) wanted: Wanted,
     /// The form of the documents that are fetched.
     pub(crate) form: Form,
     /// The pause between two refreshes, in milliseconds.

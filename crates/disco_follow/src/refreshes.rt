@@ -7,9 +7,10 @@ ghost use Rattle.disco_follow.specs.Follows.{Follows, IsTurn, turns_of};
 
 use crate::tell::tell;
 use crate::told::Told;
+use crate::wanted::Wanted;
 use disco_http::Sink;
 use disco_reconcile::{Client, Fetch};
-use disco_values::{Fault, Text};
+use disco_values::Fault;
 use std::alloc::Global;
 use std::rt::Clock;
 use std::thread;
@@ -26,18 +27,18 @@ fn turns_of(times: u64) -> u64
 fn turn<F: Fetch, W: Sink>(
     alloc: Global,
     client: &mut Client<F>,
-    vip: &Option<Text>,
+    wanted: &Wanted,
     told: Told,
     out: &mut W,
 ) -> Result<Told, Fault>
-    ensures turn { IfOk result (λ now. (text : List ℕ) × IsTurn F.gives F.failed vip.now client.old told text client.new now
+    ensures turn { IfOk result (λ now. (text : List ℕ) × IsTurn F.gives F.failed wanted.now client.old told text client.new now
         × Appends (W.contents out.old) (W.contents out.new) text) }
     ensures fault { IfErr result (λ e. (e ≡ OutOfMemory) ⊎ (e ≡ WriteFailed)) }
     ensures cause { Cause WriteFailed (W.failed out.old) (W.failed out.new) result }
     ensures none_failed { OnOk result (W.failed out.new ≡ W.failed out.old) }
 {
     let came = client.refresh();
-    tell(alloc, client, came, vip, told, out)
+    tell(alloc, client, came, wanted, told, out)
 }
 
 /// Refreshes a client so many times, 0 being no end, with a pause in milliseconds between two, and
@@ -51,12 +52,12 @@ pub fn follow_client<R: Clock, F: Fetch, W: Sink>(
     rt: &R,
     alloc: Global,
     client: &mut Client<F>,
-    vip: &Option<Text>,
+    wanted: &Wanted,
     times: u64,
     pause: u64,
     out: &mut W,
 ) -> Result<(), Fault>
-    ensures turns { OnOk result (Follows F.gives F.failed vip.now (turns_of times) client.old client.new (W.contents out.old) (W.contents out.new)) }
+    ensures turns { OnOk result (Follows F.gives F.failed wanted.now (turns_of times) client.old client.new (W.contents out.old) (W.contents out.new)) }
     ensures fault { IfErr result (λ e. (e ≡ OutOfMemory) ⊎ (e ≡ WriteFailed)) }
     ensures cause { Cause WriteFailed (W.failed out.old) (W.failed out.new) result }
 {
@@ -65,7 +66,7 @@ pub fn follow_client<R: Clock, F: Fetch, W: Sink>(
         if done > 0 {
             thread::sleep(rt, Duration::from_millis(pause));
         }
-        told = turn(alloc, client, vip, told, out)?;
+        told = turn(alloc, client, wanted, told, out)?;
     }
     Ok(())
 }

@@ -1,52 +1,45 @@
 //! Telling what a refresh brought.
-ghost use Rattle.std.specs.Prelude.{◌≡◌, ◌⊎◌, ◌++◌, ℕ, [], List, IfOk, IfErr, OnOk, if◌then◌else◌};
+ghost use Rattle.std.specs.Prelude.{◌≡◌, ◌⊎◌, ◌++◌, ℕ, [], List, IfOk, IfErr, OnOk, if◌then◌else◌, length, map};
 ghost use Rattle.std.specs.Io.KnownBytes.{Appends};
 ghost use Rattle.disco_values.specs.Fault.{fault_number};
 ghost use Rattle.disco_values.specs.declared.fault.Fault.TheVariants.{OutOfMemory, WriteFailed};
 ghost use Rattle.disco_http.specs.Causes.{Cause};
 ghost use Rattle.disco_reconcile.specs.State.{copy_of, known_in};
+ghost use Rattle.disco_follow.specs.Seen.{seen_change};
 ghost use Rattle.disco_follow.specs.Telling.{IsTold, IsToldCopy, copy_line, is_news, refusal_text, unless_told};
 
-use crate::lines::{changes_of, in_memory, up_of, write_copy, write_fault, write_unless_told};
+use crate::change::Change;
+use crate::changes::changes_of;
+use crate::lines::{copy_line, fault_line, up_of};
 use crate::told::Told;
+use crate::wanted::Wanted;
 use disco_client::Copy;
 use disco_http::{Sink, write_all};
 use disco_reconcile::{Client, Fetch, Refreshed};
-use disco_values::{Fault, Text};
+use disco_values::Fault;
 use std::alloc::Global;
-use std::io;
-use std::io::Write;
 
-/// The lines of a copy that changed so, of which `up` is that of the vip.
-fn write_lines<W: Write>(
-    told: &Told,
-    at: (u64, u64),
-    changes: &[u8],
-    up: &[u8],
-    out: &mut W,
-) -> io::Result<()>
-    ensures { OnOk result (Appends (W.contents out.old) (W.contents out.new)
-        ((if is_news told.now changes.now then copy_line at.0 at.1 changes.now else []) ++ unless_told told.now.up up.now)) }
-{
-    let (run, version) = at;
-    write_copy(told.is_news(changes), run, version, changes, out)?;
-    write_unless_told(told.up.as_slice(), up, out)
-}
-
-/// The lines of a copy that changed so. Refused only as `OutOfMemory`.
+/// The lines of a copy that changed so, of which `up` is that of the vip. Refused only as
+/// `OutOfMemory`.
 fn lines_of(
     alloc: Global,
+    json: bool,
     told: &Told,
     at: (u64, u64),
-    changes: &[u8],
+    changes: &[Change<'_>],
     up: &[u8],
 ) -> Result<Vec<u8>, Fault>
-    ensures lines { IfOk result (λ v. v.items ≡ (if is_news told.now changes.now then copy_line at.0 at.1 changes.now else [])
-        ++ unless_told told.now.up up.now) }
+    ensures lines { IfOk result (λ v. v.items
+        ≡ (if is_news told.now (length changes.now) then copy_line json at.0 at.1 (map seen_change changes.now) else []) ++ unless_told told.now.up up.now) }
     ensures memory { IfErr result (λ e. e ≡ OutOfMemory) }
 {
     let mut text = Vec::new(alloc);
-    in_memory(write_lines(told, at, changes, up, &mut text))?;
+    if told.is_news(changes.len()) {
+        text = copy_line(alloc, json, at, changes)?;
+    }
+    if up != told.up.as_slice() {
+        text.extend_from_slice(up)?;
+    }
     Ok(text)
 }
 
@@ -54,17 +47,24 @@ fn lines_of(
 /// `OutOfMemory`.
 fn copy_told(
     alloc: Global,
-    vip: &Option<Text>,
+    wanted: &Wanted,
     told: &Told,
     at: (u64, u64),
     copy: &Copy,
 ) -> Result<(Vec<u8>, Told), Fault>
-    ensures told { IfOk result (λ r. IsToldCopy vip.now told.now at.0 at.1 copy.now r.0.items r.1) }
+    ensures told { IfOk result (λ r. IsToldCopy wanted.now told.now at.0 at.1 copy.now r.0.items r.1) }
     ensures memory { IfErr result (λ e. e ≡ OutOfMemory) }
 {
     let changes = changes_of(alloc, &told.copy, copy)?;
-    let up = up_of(alloc, vip, copy)?;
-    let text = lines_of(alloc, told, at, changes.as_slice(), up.as_slice())?;
+    let up = up_of(alloc, wanted, copy)?;
+    let text = lines_of(
+        alloc,
+        wanted.json,
+        told,
+        at,
+        changes.as_slice(),
+        up.as_slice(),
+    )?;
     let shared = copy.share(alloc)?;
     Ok((text, Told::of(shared, up)))
 }
@@ -73,50 +73,50 @@ fn copy_told(
 /// Refused as `OutOfMemory` and as `WriteFailed`.
 fn tell_copy<W: Sink>(
     alloc: Global,
-    vip: &Option<Text>,
+    wanted: &Wanted,
     told: Told,
     at: (u64, u64),
     copy: &Copy,
     out: &mut W,
 ) -> Result<Told, Fault>
-    ensures told { IfOk result (λ now. (text : List ℕ) × IsToldCopy vip.now told at.0 at.1 copy.now text now
+    ensures told { IfOk result (λ now. (text : List ℕ) × IsToldCopy wanted.now told at.0 at.1 copy.now text now
         × Appends (W.contents out.old) (W.contents out.new) text) }
     ensures fault { IfErr result (λ e. (e ≡ OutOfMemory) ⊎ (e ≡ WriteFailed)) }
     ensures cause { Cause WriteFailed (W.failed out.old) (W.failed out.new) result }
     ensures none_failed { OnOk result (W.failed out.new ≡ W.failed out.old) }
 {
-    let (text, now) = copy_told(alloc, vip, &told, at, copy)?;
+    let (text, now) = copy_told(alloc, wanted, &told, at, copy)?;
     write_all(out, text.as_slice())?;
     Ok(now)
 }
 
 /// The line of a refusal, unless it was told last. Refused only as `OutOfMemory`.
-fn line_of(alloc: Global, told: &Told, fault: &Fault) -> Result<Vec<u8>, Fault>
-    ensures line { IfOk result (λ v. v.items ≡ refusal_text told.now fault.now) }
+fn refusal_of(alloc: Global, json: bool, told: &Told, fault: &Fault) -> Result<Vec<u8>, Fault>
+    ensures line { IfOk result (λ v. v.items ≡ refusal_text json told.now fault.now) }
     ensures memory { IfErr result (λ e. e ≡ OutOfMemory) }
 {
-    let mut text = Vec::new(alloc);
-    if !told.is_told_last(fault) {
-        in_memory(write_fault(fault, &mut text))?;
+    if told.is_told_last(fault) {
+        return Ok(Vec::new(alloc));
     }
-    Ok(text)
+    fault_line(alloc, json, fault)
 }
 
 /// Tells of a refusal, unless it was told last, and gives what is told last then. Refused as
 /// `OutOfMemory` and as `WriteFailed`.
 fn tell_refusal<W: Sink>(
     alloc: Global,
+    json: bool,
     told: Told,
     fault: &Fault,
     out: &mut W,
 ) -> Result<Told, Fault>
-    ensures written { OnOk result (Appends (W.contents out.old) (W.contents out.new) (refusal_text told fault.now)) }
+    ensures written { OnOk result (Appends (W.contents out.old) (W.contents out.new) (refusal_text json told fault.now)) }
     ensures told { IfOk result (λ now. now ≡ record told { fault = fault_number fault.now }) }
     ensures fault { IfErr result (λ e. (e ≡ OutOfMemory) ⊎ (e ≡ WriteFailed)) }
     ensures cause { Cause WriteFailed (W.failed out.old) (W.failed out.new) result }
     ensures none_failed { OnOk result (W.failed out.new ≡ W.failed out.old) }
 {
-    let text = line_of(alloc, &told, fault)?;
+    let text = refusal_of(alloc, json, &told, fault)?;
     write_all(out, text.as_slice())?;
     Ok(told.refused(fault))
 }
@@ -127,22 +127,22 @@ pub(crate) fn tell<F: Fetch, W: Sink>(
     alloc: Global,
     client: &Client<F>,
     came: Result<Refreshed, Fault>,
-    vip: &Option<Text>,
+    wanted: &Wanted,
     told: Told,
     out: &mut W,
 ) -> Result<Told, Fault>
-    ensures told { IfOk result (λ now. (text : List ℕ) × IsTold vip.now told came (known_in client.now.kept) (copy_of client.now.kept) text now
+    ensures told { IfOk result (λ now. (text : List ℕ) × IsTold wanted.now told came (known_in client.now.kept) (copy_of client.now.kept) text now
         × Appends (W.contents out.old) (W.contents out.new) text) }
     ensures fault { IfErr result (λ e. (e ≡ OutOfMemory) ⊎ (e ≡ WriteFailed)) }
     ensures cause { Cause WriteFailed (W.failed out.old) (W.failed out.new) result }
     ensures none_failed { OnOk result (W.failed out.new ≡ W.failed out.old) }
 {
     if let Err(fault) = came {
-        return tell_refusal(alloc, told, &fault, out);
+        return tell_refusal(alloc, wanted.json, told, &fault, out);
     }
     match (client.run(), client.version(), client.copy()) {
         (Some(run), Some(version), Some(copy)) => {
-            tell_copy(alloc, vip, told, (run, version), copy, out)
+            tell_copy(alloc, wanted, told, (run, version), copy, out)
         }
         _ => Ok(told),
     }

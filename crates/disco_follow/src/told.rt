@@ -47,11 +47,11 @@ impl Told {
 }
 
 impl Told {
-    /// Whether a copy that changed so is to be told.
-    pub(crate) fn is_news(&self, changes: &[u8]) -> bool
-        ensures { result ≡ is_news self.now changes.now }
+    /// Whether a copy in which so much changed is to be told.
+    pub(crate) fn is_news(&self, changed: usize) -> bool
+        ensures { result ≡ is_news self.now changed }
     {
-        !(self.begun && (self.fault == 0 && changes.is_empty()))
+        !(self.begun && (self.fault == 0 && changed == 0))
     }
 
     /// Whether this refusal was told last.

@@ -1,2 +1,3 @@
+mod FirstKinds
 mod Given
 pub mod Said

@@ -1,5 +1,5 @@
 -- Lines of faults, and what stands in front of them.
-use Rattle.std.proofs.Common.{◌≡◌, ◌⊎◌, inl, inr, ◌-◌, ◌^◌, ◌<◌, ℕ, List, [], Option, Some, None, append-nil, arith, subst, sym}
+use Rattle.std.proofs.Common.{◌≡◌, ◌⊎◌, inl, inr, ◌^◌, ◌<◌, ℕ, List, [], Option, Some, None, append-nil, arith, subst, sym}
 use Rattle.std.specs.Io.KnownBytes.{Appends}
 use Rattle.disco_http.specs.Causes.{Raises}
 use Rattle.disco_http.specs.Writes.{AppendsProperFront}

@@ -1,6 +1,6 @@
 -- The command line, as commands of clap, and what it says.
 use Rattle.std.specs.Prelude.{◌≡◌, ◌&&◌, ℕ, Bool, List, [], ◌∷◌, Option, Some, None, true, false, not, codes, if◌then◌else◌, nat_le, nat_lt}
-use Rattle.std.specs.Prelude.{option_and_then, unwrap_or}
+use Rattle.std.specs.Prelude.{is_some, option_and_then, unwrap_or}
 use Rattle.std.specs.Option.{option_map_or}
 use Rattle.std.specs.Str.{bytes_eq}
 use Rattle.std.specs.Str.Parse.{without_leading_plus}
@@ -9,7 +9,7 @@ use Rattle.clap.specs.Kinds.{or_else}
 use Rattle.clap.specs.Simple.{on_top}
 use Rattle.clap.specs.declared.builder.ArgAction.TheVariants.{Set, SetTrue}
 use Rattle.clap.specs.declared.builder.value_parser.ValueParser.TheVariants.{Unsigned}
-use Rattle.clap.specs.declared.error.kind.ErrorKind.TheVariants.{MissingSubcommand}
+use Rattle.clap.specs.declared.error.kind.ErrorKind.TheVariants.{ArgumentConflict, MissingRequiredArgument, MissingSubcommand}
 use Rattle.disco_values.specs.Digits.{digits_number}
 use Rattle.disco_values.specs.Limits.{most_versions, most_instances, most_queue, most_entries, retention}
 use Rattle.disco_values.specs.declared.settings.Settings.{Settings}
@@ -66,10 +66,12 @@ serve_app =
 
 abbrev pub follow_app : App
 follow_app =
-    with_rule (with_rule (with_rule (with_rule (with_rule (new_app (codes "follow"))
-    (needed (number_rule (codes "port") 1 65535)))
+    with_rule (with_rule (with_rule (with_rule (with_rule (with_rule (with_rule (new_app (codes "follow"))
+    (number_rule (codes "port") 1 65535))
+    (text_rule (codes "server")))
     (text_rule (codes "vip")))
     (flag_rule (codes "compact")))
+    (flag_rule (codes "json")))
     (number_rule (codes "every") 1 18446744073709551615))
     (any_number (codes "times"))
 
@@ -99,13 +101,29 @@ name_of Follow = codes "follow"
 abbrev pub options_app : Subcommand → App
 options_app subcommand = on_top (λ s. record s { no_binary_name = true }) (app_for subcommand)
 
--- what is wrong with the words behind a command's word; a request for help counts too
-abbrev pub faults_of_options : Subcommand → List Text → Kinds
-faults_of_options subcommand words = fault_of (options_app subcommand) words
-
 -- what the words behind a command's word give
 abbrev pub matches_for : Subcommand → List Text → List Row
 matches_for subcommand words = matches_of (options_app subcommand) words
+
+-- the text that is given for a name
+abbrev pub text_given : Text → List Row → Option Text
+text_given name rows = first_of name rows
+
+-- a server is named by `--port` or by `--server`, and by one of them alone
+abbrev pub server_faults : List Row → Kinds
+server_faults rows =
+    if is_some (text_given (codes "port") rows)
+    then (if is_some (text_given (codes "server") rows) then ArgumentConflict ∷ [] else [])
+    else (if is_some (text_given (codes "server") rows) then [] else MissingRequiredArgument ∷ [])
+
+-- what is wrong with a command's options though each of them is right
+abbrev pub faults_between : Subcommand → List Row → Kinds
+faults_between Follow rows = server_faults rows
+faults_between _ rows = []
+
+-- what is wrong with the words behind a command's word; a request for help counts too
+abbrev pub faults_of_options : Subcommand → List Text → Kinds
+faults_of_options subcommand words = or_else (fault_of (options_app subcommand) words) (faults_between subcommand (matches_for subcommand words))
 
 -- the program's own words: a command has to stand among them
 abbrev pub program_app : App
@@ -138,10 +156,6 @@ faults_of subcommand words = option_map_or (faults_of_options subcommand) (optio
 abbrev pub number_given : Text → List Row → Option ℕ
 number_given name rows = option_and_then (λ text. digits_number (without_leading_plus text)) (one_of name rows)
 
--- the text that is given for a name
-abbrev pub text_given : Text → List Row → Option Text
-text_given name rows = first_of name rows
-
 -- the number given from 1 to `most`, and else the other one
 abbrev pub within : ℕ → ℕ → Option ℕ → ℕ
 within most otherwise None = otherwise
@@ -150,7 +164,7 @@ within most otherwise (Some given) = if nat_lt 0 given && nat_le given most then
 abbrev pub flag_given : Text → List Row → Bool
 flag_given name rows = option_map_or (λ text. bytes_eq text (codes "true")) (one_of name rows) false
 
--- the port that is given; words without one are refused
+-- the port that is given; words of `serve` without one are refused
 abbrev pub port_in : List Row → ℕ
 port_in rows = within 65535 1 (number_given (codes "port") rows)
 

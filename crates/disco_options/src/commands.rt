@@ -1,14 +1,15 @@
 //! The command line.
-ghost use Rattle.std.specs.Prelude.{◌≡◌, IfOk, map, string_bytes};
+ghost use Rattle.std.specs.Prelude.{◌≡◌, [], ◌∷◌, IfOk, map, string_bytes};
+ghost use Rattle.std.specs.Option.{option_map_or};
 ghost use Rattle.clap.specs.Words.{FailsBy, HasKind, app_of, found_of, rows_of, with_subcommand};
-ghost use Rattle.disco_options.specs.Options.{AreMatches, app_for, faults_of, faults_of_options, faults_of_others, matches_for, program_app};
-ghost use Rattle.disco_options.specs.Options.{fleet_app, follow_app, replay_app, serve_app};
+ghost use Rattle.disco_options.specs.Options.{AreMatches, app_for, faults_between, faults_of, faults_of_options, faults_of_others};
+ghost use Rattle.disco_options.specs.Options.{fleet_app, follow_app, matches_for, program_app, replay_app, serve_app, server_faults};
 
 use crate::limits::{
     MOST_OPEN, MOST_PORT, MOST_THREADS, MOST_WORKERS, bounds_and_default, most_port, most_threads,
     open, pause, workers,
 };
-use crate::options::{flag, needed, number, text, with_settings};
+use crate::options::{flag, needed, number, text, text_given, with_settings};
 use crate::subcommand::Subcommand;
 use clap::error::ErrorKind;
 use clap::{ArgMatches, Command, Error};
@@ -53,8 +54,10 @@ fn follow_command<'a>(alloc: Global) -> Result<Command<'a>, AllocError>
     ensures { IfOk result (λ c. app_of c ≡ follow_app) }
 {
     let port = most_port!(up_to, "The port of 127.0.0.1 at which the server listens");
+    let server = "The server's host, by name or address, and its port, in place of '--port'";
     let vip = "Tells where the instances are reached that are UP under this vip address, too";
     let compact = "Fetches compact documents";
+    let json = "Writes a JSON object a line";
     let every = pause!(
         by_default,
         "The pause between two refreshes, in milliseconds"
@@ -62,9 +65,11 @@ fn follow_command<'a>(alloc: Global) -> Result<Command<'a>, AllocError>
     let times = "How many refreshes are made; 0 is no end [default: 0]";
     Command::new(alloc, "follow")
         .about("Keeps a certified copy of a server's registry, and tells what changes in it")
-        .arg(needed(number(alloc, "port", "P", 1, MOST_PORT, port)))?
+        .arg(number(alloc, "port", "P", 1, MOST_PORT, port))?
+        .arg(text(alloc, "server", "HOST:PORT", server))?
         .arg(text(alloc, "vip", "VIP", vip))?
         .arg(flag(alloc, "compact", compact))?
+        .arg(flag(alloc, "json", json))?
         .arg(number(alloc, "every", "MS", 1, u64::MAX, every))?
         .arg(number(alloc, "times", "N", 0, u64::MAX, times))
 }
@@ -135,6 +140,52 @@ fn shown(subcommand: Subcommand) -> &'static str {
     }
 }
 
+/// What is wrong with words that name a server to follow: by its port or by its address, and by one
+/// of them alone.
+fn server_fault(matches: &ArgMatches<'_>) -> Option<(ErrorKind, &'static str)>
+    ensures { option_map_or (λ fault. fault.0 ∷ []) result [] ≡ server_faults (rows_of (found_of matches.now)) }
+{
+    match (text_given(matches, "port"), text_given(matches, "server")) {
+        (Some(_), Some(_)) => Some((
+            ErrorKind::ArgumentConflict,
+            "the argument '--port <P>' cannot be used with '--server <HOST:PORT>'",
+        )),
+        (None, None) => Some((
+            ErrorKind::MissingRequiredArgument,
+            "the following required arguments were not provided:\n  <--port <P>|--server <HOST:PORT>>",
+        )),
+        _ => None,
+    }
+}
+
+/// What is wrong with a command's words though each of its options is right.
+fn fault_between(
+    subcommand: Subcommand,
+    matches: &ArgMatches<'_>,
+) -> Option<(ErrorKind, &'static str)>
+    ensures { option_map_or (λ fault. fault.0 ∷ []) result [] ≡ faults_between subcommand (rows_of (found_of matches.now)) }
+{
+    match subcommand {
+        Subcommand::Follow => server_fault(matches),
+        _ => None,
+    }
+}
+
+/// What words give whose options go together.
+fn checked<'a>(
+    command: &mut Command<'a>,
+    subcommand: Subcommand,
+    matches: ArgMatches<'a>,
+) -> Result<ArgMatches<'a>, Error>
+    ensures matches { IfOk result (λ m. m ≡ matches.entry) }
+    ensures faults { FailsBy (faults_between subcommand (rows_of (found_of matches.entry))) result }
+{
+    match fault_between(subcommand, &matches) {
+        Some((kind, text)) => Err(command.error(kind, text)?),
+        None => Ok(matches),
+    }
+}
+
 /// What the words behind a command's word give.
 fn read_options<'a>(
     alloc: Global,
@@ -144,10 +195,13 @@ fn read_options<'a>(
     ensures matches { IfOk result (λ m. rows_of (found_of m) ≡ matches_for subcommand (map string_bytes words.entry.now)) }
     ensures faults { FailsBy (faults_of_options subcommand (map string_bytes words.entry.now)) result }
 {
-    let command = command_of(alloc, subcommand)?
+    let mut command = command_of(alloc, subcommand)?
         .bin_name(shown(subcommand))?
         .no_binary_name(true);
-    command.try_get_matches_from(words)
+    match command.try_get_matches_from_mut(words) {
+        Ok(matches) => checked(&mut command, subcommand, matches),
+        Err(error) => Err(error),
+    }
 }
 
 /// What words that don't begin with the command's word are answered with: help, or what is wrong

@@ -65,29 +65,35 @@ pub fn report<E: Sink>(fault: &Fault, errors: &mut E) -> u8
     }
 }
 
-/// Tells why the host refuses an address of 127.0.0.1.
-fn explain<E: Sink>(alloc: Global, what: &str, port: u16, error: &io::Error, errors: &mut E)
+/// Tells why the host refuses an address.
+fn explain<A: Display, E: Sink>(
+    alloc: Global,
+    what: &str,
+    address: &A,
+    error: &io::Error,
+    errors: &mut E,
+)
     ensures { AddsText (E.contents errors.old) (E.contents errors.new) (E.failed errors.old) (E.failed errors.new) }
 {
-    let Ok(text) = format!(in alloc; "discovery: {what} 127.0.0.1:{port}: {error}\n") else {
+    let Ok(text) = format!(in alloc; "discovery: {what} {address}: {error}\n") else {
         return;
     };
     let _ = write_all(errors, text.as_bytes());
 }
 
-/// Tells what the host refuses at a port of 127.0.0.1, and why, where there is memory for it. Writes
-/// the line of the fault `ReadFailed` behind it, and gives the status 1.
-pub fn report_address<E: Sink>(
+/// Tells what the host refuses at an address, and why, where there is memory for it. Writes the line
+/// of the fault `ReadFailed` behind it, and gives the status 1.
+pub fn report_address<A: Display, E: Sink>(
     alloc: Global,
     what: &str,
-    port: u16,
+    address: &A,
     error: &io::Error,
     errors: &mut E,
 ) -> u8
     ensures status { result ≡ 1 }
     ensures told { SaysAny (E.contents errors.old) (E.contents errors.new) (E.failed errors.old) (E.failed errors.new) }
 {
-    explain(alloc, what, port, error, errors);
+    explain(alloc, what, address, error, errors);
     let status = report(&Fault::ReadFailed, errors);
     // For the proof alone: how far failures are counted.
     let _failures = errors.failures();

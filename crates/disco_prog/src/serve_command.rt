@@ -19,7 +19,7 @@ use disco_press::{Desk, Naming, Opening, Seat, open};
 use disco_server::{Clock, Open, SystemClock, listen, start_timers, start_with};
 use disco_values::Fault;
 use std::alloc::Global;
-use std::net::{Net, TcpListener, TcpStream};
+use std::net::{Ipv4Addr, Net, SocketAddr, TcpListener, TcpStream};
 use std::sync::atomic::{AtomicBool, Ordering};
 use std::sync::{Mutex, Wait};
 use std::thread::{Scope, Threads};
@@ -168,7 +168,8 @@ where
     let listener = match listen(rt, service.port) {
         Ok(listener) => listener,
         Err(error) => {
-            return report_address(alloc, "no listening on", service.port, &error, errors);
+            let address = SocketAddr::from((Ipv4Addr::LOCALHOST, service.port));
+            return report_address(alloc, "no listening on", &address, &error, errors);
         }
     };
     match open_and_serve::<J, R, W>(rt, alloc, &service, listener, opening, out) {

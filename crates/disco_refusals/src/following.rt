@@ -5,7 +5,7 @@ ghost use Rattle.disco_http.specs.Causes.{Raises};
 
 use crate::samples::{GONE, ONE};
 use crate::script::replied;
-use disco_follow::follow_client;
+use disco_follow::{Wanted, follow_client};
 use disco_http::Counted;
 use disco_reconcile::{Client, Fetch, Fetched};
 use disco_values::{Cert, DocKey, Fault, Form, Text};
@@ -109,9 +109,12 @@ fn tell<R: Clock, F: Fetch>(
     client: &mut Client<F>,
     told: &mut Vec<u8>,
 ) -> Result<(), Fault> {
-    let vip = Some(Text::new(alloc, "ORDERS")?);
+    let wanted = Wanted {
+        vip: Some(Text::new(alloc, "ORDERS")?),
+        json: false,
+    };
     let mut out = Counted::new(told);
-    follow_client(rt, alloc, client, &vip, 5, 1, &mut out)
+    follow_client(rt, alloc, client, &wanted, 5, 1, &mut out)
 }
 
 /// What is told of a client's refreshes.

@@ -11,12 +11,13 @@ use std::rt::Clock;
 const REGISTRATION: &[u8] =
     b"POST /eureka/v2/apps/A HTTP/1.1\r\nHost: a\r\nContent-Type: application/json\r\nContent-Length: 177\r\nConnection: close\r\n\r\n{\"instance\":{\"instanceId\":\"1\",\"hostName\":\"h\",\"app\":\"A\",\"ipAddr\":\"10.0.0.1\",\"status\":\"UP\",\"port\":{\"$\":8080,\"@enabled\":\"true\"},\"vipAddress\":\"v\",\"dataCenterInfo\":{\"name\":\"MyOwn\"}}}";
 
-/// What is told of it in two refreshes, where the server's run is 5.
-const TOLD: &[u8] = b"copy 5 1 +A/1=UP\nvip v h:8080\n";
+/// What is told of it in two refreshes as JSON objects, where the server's run is 5.
+const TOLD: &[u8] =
+    b"{\"changes\":[{\"app\":\"A\",\"change\":\"came\",\"id\":\"1\",\"status\":\"UP\"}],\"run\":5,\"version\":1}\n{\"up\":[{\"host\":\"h\",\"port\":8080}],\"vip\":\"v\"}\n";
 
 /// The words that have the program refresh twice, before a port.
 const WORDS: &[&str] = &[
-    "follow", "--vip", "v", "--every", "1", "--times", "2", "--port",
+    "follow", "--vip", "v", "--json", "--every", "1", "--times", "2", "--port",
 ];
 
 /// Words, and a port behind them.

@@ -22,6 +22,6 @@ returns g c =
     ok_then c.follow_client.result _ _
     (λ turns. (
       c.follow_client.new.client,
-      subst (λ (s : ClientState ℕ). Follows (λ _ _ _ _. Unit {0}) (λ l. l) c.args.vip.now (turns_of c.args.plan.now.times) s c.follow_client.new.client (out c.args.out.now) (out c.follow_client.new.out)) first turns,
+      subst (λ (s : ClientState ℕ). Follows (λ _ _ _ _. Unit {0}) (λ l. l) c.args.plan.now.wanted (turns_of c.args.plan.now.times) s c.follow_client.new.client (out c.args.out.now) (out c.follow_client.new.out)) first turns,
     ))
     c.follow_client.ensures.turns

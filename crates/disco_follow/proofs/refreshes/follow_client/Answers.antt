@@ -2,7 +2,7 @@ use Rattle.std.proofs.Common.{◌≡◌, ◌+◌, [], ◌∷◌, ◌++◌, refl,
 use Rattle.std.proofs.lemmas.List.{length-append}
 use Rattle.disco_follow.specs.Follows.{nothing_told}
 use Rattle.disco_follow.proofs.Turns.{texts_more, turns_more}
-use Rattle.disco_follow.proofs.WrittenLines.{appends_none}
+use Rattle.disco_follow.proofs.Appended.{appends_none}
 use Rattle.disco_follow.proofs.refreshes.follow_client.Goals as goal
 
 pub loop-done-init : goal.loop-done-init
@@ -16,7 +16,7 @@ loop-done-preserved g c =
       (
         before.0 ++ now.0 ∷ [],
         length-append before.0 (now.0 ∷ []) ∙ ap (λ n. n + 1) before.1,
-        turns_more g.F.Fetch.gives g.F.Fetch.failed c.args.vip.now c.args.client.now nothing_told before.0 c.loop-done.client c.loop-done.told now.0 c.turn.new.client c.in_ok-told.told before.2 now.1,
+        turns_more g.F.Fetch.gives g.F.Fetch.failed c.args.wanted.now c.args.client.now nothing_told before.0 c.loop-done.client c.loop-done.told now.0 c.turn.new.client c.in_ok-told.told before.2 now.1,
         texts_more (out c.args.out.now) (out c.loop-done.out) (out c.turn.new.out) before.0 now.0 before.3 now.2,
       ),
       c.in_ok-told.ensures.none_failed ∙ c.loop-done.invariant.1,

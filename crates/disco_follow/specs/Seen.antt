@@ -1,0 +1,8 @@
+-- Changes as contracts see them.
+use Rattle.disco_instance.specs.Row.{row}
+use Rattle.disco_follow.specs.Changes.{Change}
+use Rattle.disco_follow.specs.declared.change.Change.{Change as Noted}
+
+-- what became of an instance, and its row
+abbrev pub seen_change : Noted → Change
+seen_change c = (c.what, row c.rec.now)
