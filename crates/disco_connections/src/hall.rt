@@ -1,4 +1,7 @@
 //! All connections of a server, and how workers take turns with them.
+ghost use Rattle.std.specs.Prelude.{◌≡◌, ◌⊎◌, IfErr};
+ghost use Rattle.disco_values.specs.declared.fault.Fault.TheVariants.{OutOfMemory, ReadFailed};
+
 use crate::acceptor::{Acceptor, Refusal};
 use crate::accepts::{Accepted, accept};
 use crate::connection::{Connection, Turn};
@@ -119,7 +122,9 @@ impl<'a, D: Document + Drop> Hall<'a, D> {
     /// # Errors
     ///
     /// As [`Acceptor::outcome`].
-    pub fn into_outcome(self) -> Result<(), Fault> {
+    pub fn into_outcome(self) -> Result<(), Fault>
+        ensures { IfErr result (λ fault. (fault ≡ OutOfMemory) ⊎ (fault ≡ ReadFailed)) }
+    {
         let Hall { entrance, .. } = self;
         entrance.into_inner().acceptor.outcome()
     }
