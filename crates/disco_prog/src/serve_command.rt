@@ -55,6 +55,7 @@ fn serve_in<'s, 'o, E, J: Naming + Send + Sync + 's, R, W: Sink>(
     rt: &'s R,
     alloc: Global,
     service: &Service,
+    clock: SystemClock<&'s R>,
     listener: TcpListener,
     desk: &'s Mutex<Desk<J>>,
     seats: Vec<Seat<J>>,
@@ -65,7 +66,6 @@ where
     R: Net<Listener = TcpListener, Stream = TcpStream> + Threads + Wait + rt::Clock + Sync + 's,
     ensures { IfOk result (λ said. Tells W.contents out.entry said (listening_line service.entry.now.port)) }
 {
-    let clock = SystemClock::new(rt);
     let port = service.port;
     start_timers(scope, rt, desk, clock, stop)?;
     let served = start_with(
@@ -90,6 +90,7 @@ fn run<J: Naming + Send + Sync, R, W: Sink>(
     rt: &R,
     alloc: Global,
     service: &Service,
+    clock: SystemClock<&R>,
     listener: TcpListener,
     desk: &Mutex<Desk<J>>,
     seats: Vec<Seat<J>>,
@@ -102,7 +103,9 @@ where
     let stop = AtomicBool::new(false);
     let stop = &stop;
     let served = thread::scope(thread::scope_env(), rt, move |scope| {
-        serve_in(scope, rt, alloc, service, listener, desk, seats, stop, out)
+        serve_in(
+            scope, rt, alloc, service, clock, listener, desk, seats, stop, out,
+        )
     });
     match served {
         Ok(out) => {
@@ -119,6 +122,7 @@ fn open_and_serve<J: Naming + Send + Sync, R, W: Sink>(
     rt: &R,
     alloc: Global,
     service: &Service,
+    clock: SystemClock<&R>,
     listener: TcpListener,
     opening: Opening,
     out: &mut W,
@@ -130,7 +134,7 @@ where
 {
     let (desk, seats) = open::<J, R>(rt, alloc, &service.settings, service.workers, opening)?;
     let desk = Mutex::new(desk);
-    let served = run(rt, alloc, service, listener, &desk, seats, out);
+    let served = run(rt, alloc, service, clock, listener, &desk, seats, out);
     desk.into_inner().close(rt);
     served
 }
@@ -142,7 +146,7 @@ where
 /// Where the words name no run, it is the moment at which `serve` is called, in milliseconds since 1970.
 /// The status is 0 then, and where help was asked for. It is 2 for words that are refused, with a
 /// message on `errors`. Else it is 1, with the line `discovery: fault N` on `errors`, and in front of it
-/// why where the host refuses the port.
+/// why where the host's clock can't be read and where the host refuses the port.
 pub fn serve<J: Naming + Send + Sync, R, W: Sink, E: Sink>(
     rt: &R,
     alloc: Global,
@@ -159,12 +163,17 @@ where
     ensures listening { faults_of Subcommand.Serve (map string_bytes words.now) ≡ [] → result ≡ 0
         → SaysListening (map string_bytes words.now) (W.contents out.old) (W.contents out.new) }
 {
-    let mut clock = SystemClock::new(rt);
-    let run = clock.now();
-    let service = match read_words(alloc, Subcommand::Serve, words) {
-        Ok(matches) => service_from(&matches, run),
+    let matches = match read_words(alloc, Subcommand::Serve, words) {
+        Ok(matches) => matches,
         Err(error) => return refused(alloc, &error, out, errors),
     };
+    let mut clock = match SystemClock::started(rt) {
+        Ok(clock) => clock,
+        Err(error) => {
+            return report_address(alloc, "no reading of", &"the host's clock", &error, errors);
+        }
+    };
+    let service = service_from(&matches, clock.now());
     let listener = match listen(rt, service.port) {
         Ok(listener) => listener,
         Err(error) => {
@@ -172,7 +181,7 @@ where
             return report_address(alloc, "no listening on", &address, &error, errors);
         }
     };
-    match open_and_serve::<J, R, W>(rt, alloc, &service, listener, opening, out) {
+    match open_and_serve::<J, R, W>(rt, alloc, &service, clock, listener, opening, out) {
         Ok(()) => 0,
         Err(fault) => report(&fault, errors),
     }

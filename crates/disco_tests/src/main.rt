@@ -1,6 +1,6 @@
 //! Tries what no contract and no row of files says: streams that fail, more instances than a file of
-//! lines should have, calls that no event reaches, and looks from several threads beside a desk that
-//! publishes.
+//! lines should have, calls that no event reaches, a host whose time jumps, and looks from several
+//! threads beside a desk that publishes.
 //!
 //! Of each trial it is printed what came of it. Ends with status 1 where one fails.
 //!
@@ -12,6 +12,7 @@
 mod cache;
 mod calls;
 mod client;
+mod clocks;
 mod given;
 mod looking;
 mod press;
@@ -119,6 +120,7 @@ fn try_calls<R: Print>(rt: &R, alloc: Global) -> io::Result<bool> {
 fn tell_all<R: Print>(rt: &R, alloc: Global, threads: Result<Seen, Fault>) -> io::Result<bool> {
     let all = [
         try_calls(rt, alloc)?,
+        compared(rt, "a host's time that jumps", &clocks::WANTED, clocks::moments())?,
         compared(rt, "looks from another thread", &press::WANTED, threads)?,
     ];
     Ok(all.iter().all(|well| *well))
