@@ -78,10 +78,6 @@ pub(crate) fn work<J: Naming, R: Wait + rt::Clock, C: Clock + Copy, G: Gate>(
             let mut service = DeskService::new(context, routes, seat, clock);
             serve_all(rt, alloc, hall, &mut service, room);
         }
-        Err(_) => hall
-            .entrance
-            .lock(rt)
-            .acceptor
-            .refuse(Refusal::NoMemory),
+        Err(_) => hall.entrance.lock(rt).acceptor.refuse(Refusal::NoMemory),
     }
 }

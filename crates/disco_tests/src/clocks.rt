@@ -2,15 +2,14 @@
 use disco_server::{Clock, SystemClock};
 use disco_values::Fault;
 use std::cell::Cell;
-use std::io;
-use std::rt;
 use std::time::Duration;
+use std::{io, rt};
 
 /// What the clock has to say at the start, and a second after each change of the host's time.
 pub(crate) const WANTED: [u64; 4] = [5_000_000, 5_001_000, 5_002_000, 5_003_000];
 
 /// A host whose clocks say what they are told, in milliseconds.
-#[derive(Debug)]
+#[derive(Debug, Drop)]
 struct Host {
     since_1970: Cell<u64>,
     monotonic: Cell<u64>,

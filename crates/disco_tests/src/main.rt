@@ -120,7 +120,12 @@ fn try_calls<R: Print>(rt: &R, alloc: Global) -> io::Result<bool> {
 fn tell_all<R: Print>(rt: &R, alloc: Global, threads: Result<Seen, Fault>) -> io::Result<bool> {
     let all = [
         try_calls(rt, alloc)?,
-        compared(rt, "a host's time that jumps", &clocks::WANTED, clocks::moments())?,
+        compared(
+            rt,
+            "a host's time that jumps",
+            &clocks::WANTED,
+            clocks::moments(),
+        )?,
         compared(rt, "looks from another thread", &press::WANTED, threads)?,
     ];
     Ok(all.iter().all(|well| *well))
