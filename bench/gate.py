@@ -92,7 +92,7 @@ def row(name, minutes):
 
 
 def print_crates(seen):
-    """Prints the minutes of processors by crate, as the table of docs/PROOFS.md."""
+    """Prints the minutes of processors by crate, as a table."""
     spent = collections.Counter()
     for (_, crate, kind), seconds in seen.items():
         spent[crate, kind] += seconds / 60
