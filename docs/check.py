@@ -1,0 +1,196 @@
+"""What `docs/check.sh` runs: whether what the pages name is there, and whether the generated pages are as their scripts write them."""
+
+import glob
+import os
+import re
+import subprocess
+import sys
+
+ROOT = os.path.dirname(os.path.dirname(os.path.abspath(__file__)))
+os.chdir(ROOT)
+sys.dont_write_bytecode = True
+sys.path[:0] = [os.path.join(ROOT, folder) for folder in ("docs", "docs/believe", "bench")]
+
+import believe
+import crates
+import definitions
+import figures
+
+GENERATED = ["docs/DEFINITIONS.md"] + ["docs/believe/%s.md" % name for name, _, _ in believe.THEOREMS]
+# Options of other programs than those of this repository: the kit's `rt`, and what stands in samples and examples.
+OTHERS = set("--allow-holes --anew --cases --data --init --jobs --only --start --seconds --help --check --path-as-is".split())
+ENDINGS = r"(?:rt|antt|md|sh|py|tsv|c|events|service|conf|cfg|txt|edit)"
+findings = []
+
+
+def read(path):
+    with open(path, encoding="utf-8") as file:
+        return file.read()
+
+
+def found(path, line, text):
+    findings.append("%s:%d: %s" % (path, line, text))
+
+
+def tracked():
+    """All files of the repository, also such as aren't committed yet."""
+    listed = subprocess.run(["git", "ls-files", "--cached", "--others", "--exclude-standard"], capture_output=True, text=True, check=True)
+    return [path for path in listed.stdout.split("\n") if path and os.path.exists(path)]
+
+
+def anchors(text):
+    """The anchors of a page's headings."""
+    made, seen = set(), {}
+    for heading in re.findall(r"(?m)^#+ (.*)$", without_code(text)):
+        plain = re.sub(r"\[([^\]]*)\]\([^)]*\)", r"\1", heading).lower()
+        slug = re.sub(r"[^\w\- ]", "", plain).strip().replace(" ", "-")
+        times = seen.get(slug, 0)
+        seen[slug] = times + 1
+        made.add("%s-%d" % (slug, times) if times else slug)
+    return made
+
+
+def without_code(text):
+    """The page without blocks of code, line by line."""
+    return re.sub(r"(?ms)^```.*?^```", lambda block: "\n" * block.group(0).count("\n"), text)
+
+
+def numbered(text, pattern):
+    """The matches of a pattern with the numbers of their lines."""
+    for number, line in enumerate(text.split("\n"), 1):
+        for match in re.finditer(pattern, line):
+            yield number, match, line
+
+
+def check_links(path, text):
+    for number, match, _ in numbered(without_code(text), r"\]\(([^)\s]+)\)"):
+        target = match.group(1)
+        if re.match(r"[a-z]+:", target):
+            continue
+        file, _, anchor = target.partition("#")
+        where = os.path.normpath(os.path.join(os.path.dirname(path), file)) if file else path
+        if not os.path.exists(where):
+            found(path, number, "no file %s" % target)
+        elif anchor and where.endswith(".md") and anchor not in anchors(read(where)):
+            found(path, number, "no heading %s" % target)
+
+
+def check_files(path, text, files):
+    """Names of files in backticks: as they stand, or as the end of a path, in the crate that is named behind them."""
+    for number, match, line in numbered(text, r"`([\w./-]+\.%s)`(?: of `(disco\w+)`)?" % ENDINGS):
+        name, crate = match.group(1), match.group(2)
+        name = name.removeprefix("./")
+        if re.search(r"(^|/)[A-Z_]{3,}\.(?!md$)", name):
+            continue  # the name stands for any
+        hits = [file for file in files if file == name or file.endswith("/" + name)]
+        if crate:
+            hits = [file for file in hits if file.startswith("crates/%s/" % crate)]
+        if not hits:
+            found(path, number, "no file %s%s" % (name, " of %s" % crate if crate else ""))
+    for number, match, _ in numbered(text, r"`((?:crates|docs|bench|samples)/[\w./-]*)`"):
+        name = match.group(1)
+        if not os.path.exists(name.rstrip("/")) and "/out" not in name:
+            found(path, number, "no file or folder %s" % name)
+    for number, match, _ in numbered(text, r"(?<![\w/.])((?:bench|docs|samples)/[\w-]+(?:\.%s)?)\b" % ENDINGS):
+        if not os.path.exists(match.group(1)):
+            found(path, number, "no file %s" % match.group(1))
+
+
+def check_mentions(path, text):
+    """Names of pages, benches and samples in a file that is no page."""
+    for number, match, _ in numbered(text, r"(?<![\w/.])((?:bench|docs|samples)/[\w/-]+\.%s)\b" % ENDINGS):
+        if not os.path.exists(match.group(1)):
+            found(path, number, "no file %s" % match.group(1))
+
+
+def check_crates(path, text, known):
+    for number, match, _ in numbered(text, r"\b(disco_\w+)\b"):
+        if match.group(1) not in known:
+            found(path, number, "no crate %s" % match.group(1))
+
+
+def options():
+    """The options of the program, which are named by literals of the crates of commands, and those of scripts."""
+    known = set(OTHERS)
+    for crate in ("disco_options", "disco_prog", "disco_follow"):
+        for file in glob.glob("crates/%s/src/**/*.rt" % crate, recursive=True):
+            known.update("--" + name for name in re.findall(r'"([a-z][a-z-]*)"', read(file)))
+    for file in ["discovery"] + glob.glob("bench/*") + glob.glob("docs/*.py") + glob.glob("samples/*"):
+        if os.path.isfile(file) and not file.endswith(".md") and "docs/check.py" not in file:
+            known.update(re.findall(r"(?<![\w-])--[a-z][a-z-]+", read(file)))
+    return known
+
+
+def check_options(path, text, known):
+    for number, match, _ in numbered(text, r"(?<![\w-])(--[a-z][a-z-]+)"):
+        if match.group(1) not in known:
+            found(path, number, "no option %s" % match.group(1))
+
+
+def contract(text, function):
+    """The lines of a function's contract, of each function of that name."""
+    lines = text.split("\n")
+    for at, line in enumerate(lines):
+        if re.match(r"\s*pub (?:const )?fn %s\b" % re.escape(function), line):
+            end = next((i for i in range(at, len(lines)) if lines[i].strip() in ("{", "{}")), len(lines))
+            yield "\n".join(lines[at:end])
+
+
+def check_clauses(path, text):
+    """Rows of functions, their clauses and their file. A row without names of clauses, as `one` without backticks, names all."""
+    for number, match, _ in numbered(text, r"^\| ([^|]*) \| ([^|]*) \| `(disco_\w+/src/[\w/]+\.rt)` \|"):
+        names, clauses, file = re.findall(r"`([\w:]+)`", match.group(1)), re.findall(r"`(\w+)`", match.group(2)), "crates/" + match.group(3)
+        if not os.path.exists(file):
+            found(path, number, "no file %s" % file)
+            continue
+        for name in names:
+            function = name.split("::")[-1]
+            contracts = [read(file)] if function[:1].isupper() and function in read(file) else list(contract(read(file), function))
+            if not contracts:
+                found(path, number, "no public function %s in %s" % (function, file))
+            for clause in clauses:
+                if not any(re.search(r"(?:ensures|requires|ghost) %s\b" % clause, one) for one in contracts):
+                    found(path, number, "no clause %s of %s in %s" % (clause, function, file))
+
+
+def check_generated():
+    for script in (crates, definitions):
+        sys.argv = [script.__name__, "--check"]
+        said = script.main()
+        if said:
+            findings.append(said)
+    made, _, names_at = believe.definitions()
+    for name, title, functions in believe.THEOREMS:
+        roots = []
+        for file, function in functions:
+            names, words = believe.contract_words(file, function)
+            roots += believe.named_by(words, None, names, made)
+        if believe.page(title, functions, believe.closure(roots, made, names_at)) != read("docs/believe/%s.md" % name):
+            findings.append("docs/believe/%s.md isn't as docs/believe/believe.py writes it" % name)
+
+
+def main():
+    files = tracked()
+    known_crates = {crate for _, crate in crates.layers()}
+    known_options = options()
+    for path in [file for file in files if file.endswith(".md")]:
+        text = read(path)
+        check_links(path, text)
+        if path in GENERATED:
+            continue
+        check_files(path, text, files)
+        check_crates(path, text, known_crates)
+        check_options(path, text, known_options)
+        check_clauses(path, text)
+    for path in files:
+        if path == "discovery" or re.search(r"\.(?:rt|antt|sh|py|service|conf|cfg|edit)$", path) and path != "docs/check.py":
+            check_mentions(path, read(path))
+    check_generated()
+    findings.extend(figures.faults())
+    said = list(dict.fromkeys(findings))
+    print("\n".join(said + ["%d finding%s" % (len(said), "" if len(said) == 1 else "s")]))
+    return 1 if said else 0
+
+
+if __name__ == "__main__":
+    sys.exit(main())
