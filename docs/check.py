@@ -153,6 +153,15 @@ def check_clauses(path, text):
                     found(path, number, "no clause %s of %s in %s" % (clause, function, file))
 
 
+def check_libraries():
+    """Whether each library of `crates.txt` is among what is trusted."""
+    trusted = read("docs/PROVED.md").split("## What is trusted")[-1].split("\n## ")[0]
+    for line in read("crates.txt").split("\n"):
+        for name in line.split(":")[1].split() if ":" in line and not line.startswith("#") else []:
+            if not name.startswith("disco_") and name != "core" and "`%s`" % name not in trusted:
+                findings.append("docs/PROVED.md: the library %s isn't among what is trusted" % name)
+
+
 def check_generated():
     for script in (crates, definitions):
         sys.argv = [script.__name__, "--check"]
@@ -185,6 +194,7 @@ def main():
     for path in files:
         if path == "discovery" or re.search(r"\.(?:rt|antt|sh|py|service|conf|cfg|edit)$", path) and path != "docs/check.py":
             check_mentions(path, read(path))
+    check_libraries()
     check_generated()
     findings.extend(figures.faults())
     said = list(dict.fromkeys(findings))
