@@ -168,13 +168,16 @@ def check_generated():
         said = script.main()
         if said:
             findings.append(said)
-    made, _, names_at = believe.definitions()
+    made, marked, names_at = believe.definitions()
     for name, title, functions in believe.THEOREMS:
         roots = []
         for file, function in functions:
             names, words = believe.contract_words(file, function)
             roots += believe.named_by(words, None, names, made)
-        if believe.page(title, functions, believe.closure(roots, made, names_at)) != read("docs/believe/%s.md" % name):
+        order = believe.closure(roots, made, names_at)
+        for place in sorted({one.place for one in order} & marked):
+            findings.append("docs/believe/%s.md reaches %s/specs/%s.antt, which says that nothing there is to be believed" % (name, *place))
+        if believe.page(title, functions, order) != read("docs/believe/%s.md" % name):
             findings.append("docs/believe/%s.md isn't as docs/believe/believe.py writes it" % name)
 
 

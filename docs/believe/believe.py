@@ -24,7 +24,7 @@ THEOREMS = [
     ("refresh", "a client's refresh, plain and certified", [("disco_reconcile/src/client.rt", "refresh")]),
 ]
 
-MARK = "Nothing here is to be believed"
+MARK = re.compile(r"nothing here (?:is to|need) be believed", re.I)
 
 READING = """## How to read it
 
@@ -125,7 +125,7 @@ def definitions():
         if place[1] == "Lib":
             continue
         names_at[place] = Names(text)
-        if MARK in text.split("\n", 1)[0] or "nothing here is to be believed" in text.split("\n", 1)[0]:
+        if MARK.search(text.split("\n", 1)[0]):
             marked.add(place)
         for name, lines in blocks(text):
             whole = Definition(place, name, lines, words_of(lines))

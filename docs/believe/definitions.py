@@ -14,7 +14,6 @@ import believe
 
 ROOT = os.path.dirname(os.path.dirname(os.path.dirname(os.path.abspath(__file__))))
 PAGE = os.path.join(ROOT, "docs", "DEFINITIONS.md")
-MARK = re.compile(r"nothing here (?:is to|need) be believed", re.I)
 OWNER = re.compile(r"(?:impl|pub trait)\b(?:<[^{]*?>)?\s*(?:[\w:]+(?:<[^{]*>)?\s+for\s+)?(\w+)")
 HEAD = """# Definitions
 
@@ -107,14 +106,14 @@ def page():
         for path in sorted(glob.glob("crates/%s/specs/*.antt" % crate)):
             text = believe.read(path)
             name = os.path.basename(path)
-            if name == "Lib.antt" or MARK.search(text.split("\nuse ", 1)[0]):
+            if name == "Lib.antt" or believe.MARK.search(text.split("\nuse ", 1)[0]):
                 continue
             if first:
                 lines += ["", "## `%s`" % crate]
                 first = False
             lines += ["", "### `%s/specs/%s`" % (crate, name), "", opening(text) or "No comment.", "", "| Definition | What it says | Contracts |", "|---|---|---|"]
             for label, made in merged(believe.blocks(text)):
-                if MARK.search(comment_of(made)):
+                if believe.MARK.search(comment_of(made)):
                     continue
                 by = ", ".join("`%s`" % user for user in users.get(((crate, name[:-5]), label), []))
                 lines.append("| `%s` | %s | %s |" % (label, cell(comment_of(made)), by))
