@@ -18,7 +18,6 @@ ask POST /apps/ORDERS -H 'Content-Type: application/json' --data-binary @- <<'BO
 BODY
 ask GET /apps/ORDERS/h1:orders:8080
 ask PUT /apps/ORDERS/h1:orders:8080
-ask GET /apps
 ask GET /apps/delta
 ask PUT '/apps/ORDERS/h1:orders:8080/status?value=OUT_OF_SERVICE'
 ask DELETE '/apps/ORDERS/h1:orders:8080/status?value=UP'
