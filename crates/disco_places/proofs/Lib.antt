@@ -1,3 +1,4 @@
 pub mod ByApp
+mod Full
 pub mod Lengths
 pub mod Stored

@@ -3,7 +3,7 @@ use Rattle.std.proofs.Common.{◌≡◌, ℕ, Bool, true, false, ◌&&◌, cond,
 use Rattle.std.specs.BTreeMap.{BTreeMap, UpdatesBy, is_at}
 use Rattle.std.specs.Cmp.{IsTotalOrder, eq_by_cmp_equiv}
 use Rattle.std.specs.Cmp.Lexicographic.{nat_list_cmp_total}
-use Rattle.std.specs.FinMap.{FinMap, entries, find, empty, from_entries, from_sorted, entries-from_sorted, get, get-from_entries, get-from_sorted, insert, remove, same_map, get-insert, get-remove}
+use Rattle.std.specs.FinMap.{FinMap, entries, find, empty, from_entries, from_sorted, entries-from_sorted, get, get-from_entries, get-from_sorted, insert, remove, same_map, get-empty, get-insert, get-remove}
 use Rattle.std.specs.FinMap.Entries.{below_all, is_sorted}
 use Rattle.std.specs.List.{AllByRecursion}
 use Rattle.std.specs.List.Sorted.{IsStrictlySortedBy}
@@ -11,6 +11,7 @@ use Rattle.std.specs.Map.{keys_of, lookup}
 use Rattle.std.specs.Ordering.{eq_by_cmp, is_eq, is_lt}
 use Rattle.std.specs.declared.cmp.Ordering.{Ordering}
 use Rattle.std.specs.declared.cmp.Ordering.TheVariants.{Less, Equal, Greater}
+use Rattle.std.proofs.lemmas.Option.{none-some}
 use Rattle.std.proofs.lemmas.Map.Keys.{sorted_head, sorted_tail}
 use Rattle.std.proofs.lemmas.Map.Lookups.{exact_bytes}
 use Rattle.disco_places.specs.KeyMaps.{text_cmp}
@@ -84,6 +85,19 @@ module _ {V : Type 0} where
   stored es ordered =
       let sorted = in_order es ordered in
       ap entries (same_map texts_total exact_bytes (ids_of es) (from_sorted es) (λ q. get-from_entries texts_total es q ∙ sym (get-from_sorted text_cmp es q sorted))) ∙ entries-from_sorted text_cmp es sorted
+
+  pub stored_none : (es : List (Text × V)) → ids_of es ≡ empty → length es ≡ 0
+  stored_none [] e = refl
+  stored_none (x ∷ es) e =
+      let there : at_text (x ∷ es) x.0 ≡ Some x.1 = ap (λ b. cond b (Some x.1) (at_text es x.0)) ((eq_by_cmp_equiv texts_total).refl x.0) in
+      let none : at_text (x ∷ es) x.0 ≡ None = sym (get_stored (x ∷ es) x.0) ∙ ap (λ m. get m x.0) e ∙ get-empty text_cmp x.0 in
+      absurd (none-some x.1 (sym none ∙ there))
+
+  -- a map that has a value isn't empty
+  pub put_full : (m : FinMap text_cmp V) (k : Text) (v : V) → insert m k v ≡ empty → ⊥
+  put_full m k v e =
+      let there : get (insert m k v) k ≡ Some v = get-insert texts_total m k v k ∙ ap (λ b. cond b (Some v) (get m k)) ((eq_by_cmp_equiv texts_total).refl k) in
+      none-some v (sym (get-empty text_cmp k) ∙ ap (λ n. get n k) (sym e) ∙ there)
 
   pub none_stored : (es : List (Text × V)) → length es ≡ 0 → ids_of es ≡ empty
   none_stored [] e = refl

@@ -2,8 +2,10 @@
 use Rattle.std.specs.Prelude.{◌≡◌, ℕ, List, map, Option, Some}
 use Rattle.std.specs.declared.cmp.Ordering.{Ordering}
 use Rattle.std.specs.Cmp.Lexicographic.{slice_cmp}
-use Rattle.std.specs.FinMap.{FinMap, entries, from_entries, get, insert}
+use Rattle.std.specs.BTreeMap.{is_at}
+use Rattle.std.specs.FinMap.{FinMap, empty, entries, from_entries, get, insert}
 use Rattle.std.specs.List.{flat_map}
+use Rattle.std.specs.Map.{lookup}
 use Rattle.std.specs.Option.{option_flatten}
 use Rattle.std.specs.Ordering.{nat_cmp}
 use Rattle.disco_values.specs.Key.{key_cmp}
@@ -32,3 +34,7 @@ by_key apps = from_entries (of_apps apps)
 -- the place of k had a value, and has now one that F says may come of it; all others are as they were
 abbrev pub Replaces : {K X : Type 0} {cmp : K → K → Ordering} → (X → X → Type 0) → FinMap cmp (Option X) → FinMap cmp (Option X) → K → Type 0
 Replaces {X = X} F m n k = (x : X) × (y : X) × (option_flatten (get m k) ≡ Some x) × F x y × (n ≡ insert m k (Some y))
+
+-- no app stands without an id
+abbrev pub HasNoBareApp : {X : Type 0} → List (List ℕ × ById X) → Type 0
+HasNoBareApp es = (a : List ℕ) → lookup (is_at (text_cmp a)) es ≡ Some empty → ⊥

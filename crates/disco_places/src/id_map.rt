@@ -1,5 +1,5 @@
 //! Values by id.
-ghost use Rattle.std.specs.Prelude.{◌≡◌, IsSome, IsTrue, None, OnErr, OnOk, Some, false, is_some};
+ghost use Rattle.std.specs.Prelude.{◌≡◌, ◌↔◌, IsSome, IsTrue, None, OnErr, OnOk, Some, false, is_some};
 ghost use Rattle.std.specs.BTreeMap as tree;
 ghost use Rattle.std.specs.FinMap as finmap;
 ghost use Rattle.std.specs.Fn.{FnOnceReturnsAt};
@@ -91,7 +91,7 @@ impl<V: Drop> IdMap<V> {
 
     /// Whether there is no id.
     pub(crate) fn is_empty(&self) -> bool
-        ensures { IsTrue result → self.now ≡ finmap.empty }
+        ensures { IsTrue result ↔ (self.now ≡ finmap.empty) }
     {
         self.ids.is_empty()
     }

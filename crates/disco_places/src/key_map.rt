@@ -1,11 +1,11 @@
 //! Values by key.
-ghost use Rattle.std.specs.Prelude.{◌≡◌, IsSome, IsTrue, None, OnErr, OnOk, Some, false, is_some};
+ghost use Rattle.std.specs.Prelude.{◌≡◌, ℕ, IsSome, IsTrue, List, None, OnErr, OnOk, Some, false, is_some};
 ghost use Rattle.std.specs.BTreeMap as tree;
 ghost use Rattle.std.specs.BTreeMap.{IsOrdered};
 ghost use Rattle.std.specs.FinMap as finmap;
 ghost use Rattle.std.specs.Fn.{FnOnceReturnsAt};
 ghost use Rattle.std.specs.Option.{option_copied, option_flatten};
-ghost use Rattle.disco_places.specs.KeyMaps.{Replaces, by_key, of_apps, text_cmp};
+ghost use Rattle.disco_places.specs.KeyMaps.{HasNoBareApp, Replaces, by_key, of_apps, text_cmp};
 
 use crate::id_map::IdMap;
 use disco_values::{Key, Text};
@@ -30,7 +30,7 @@ impl<V> Model for KeyMap<V> {
     ghost use Rattle.std.specs.FinMap.{FinMap, code};
     ghost use Rattle.disco_values.specs.contracts.key.Key as key;
     ghost use Rattle.disco_values.specs.Key.{key_cmp};
-    ghost use Rattle.disco_places.specs.KeyMaps.{by_key, text_cmp};
+    ghost use Rattle.disco_places.specs.KeyMaps.{HasNoBareApp, by_key, text_cmp};
 
     ghost Value = { FinMap key_cmp V };
 
@@ -38,7 +38,8 @@ impl<V> Model for KeyMap<V> {
 
     ghost view = { λ m. by_key m.apps.entries };
 
-    ghost invariant = { λ m. IsOrdered text_cmp m.apps × (m.len ≡ finmap.len (by_key m.apps.entries)) };
+    ghost invariant = { λ m. IsOrdered text_cmp m.apps × (m.len ≡ finmap.len (by_key m.apps.entries))
+        × HasNoBareApp m.apps.entries };
 }
 
 /// Puts a value of a key in.
@@ -52,6 +53,7 @@ fn insert_in<V: Drop>(
     ensures ok { OnOk result (by_key apps.new.entries ≡ finmap.insert (by_key apps.old.entries) key.now value) }
     ensures err { OnErr result (by_key apps.new.entries ≡ by_key apps.old.entries) }
     ensures ordered { IsOrdered text_cmp apps.new }
+    ensures full { HasNoBareApp apps.old.entries → HasNoBareApp apps.new.entries }
 {
     if let Some(ids) = apps.get_mut(&key.app) {
         return ids.insert(&key.id, value);
@@ -70,6 +72,7 @@ fn swap_in<V: Drop>(apps: &mut BTreeMap<Text, IdMap<V>>, key: &Key, value: V) ->
     ensures there { IsSome (finmap.get (by_key apps.old.entries) key.now) → by_key apps.new.entries ≡ finmap.insert (by_key apps.old.entries) key.now value }
     ensures none { finmap.get (by_key apps.old.entries) key.now ≡ None → by_key apps.new.entries ≡ by_key apps.old.entries }
     ensures ordered { IsOrdered text_cmp apps.new }
+    ensures full { HasNoBareApp apps.old.entries → HasNoBareApp apps.new.entries }
 {
     match apps.get_mut(&key.app) {
         Some(ids) => ids.swap(&key.id, value),
@@ -91,6 +94,7 @@ fn update_in<V: Drop, F: FnOnce(&V) -> V + Drop>(
         Replaces (FnOnceReturnsAt F.FnOnce f) (by_key apps.old.entries) (by_key apps.new.entries) key.now }
     ensures same { result ≡ false → by_key apps.new.entries ≡ by_key apps.old.entries }
     ensures ordered { IsOrdered text_cmp apps.new }
+    ensures full { HasNoBareApp apps.old.entries → HasNoBareApp apps.new.entries }
 {
     match apps.get_mut(&key.app) {
         Some(ids) => ids.update(&key.id, f),
@@ -103,6 +107,8 @@ fn close_in<V: Drop>(apps: &mut BTreeMap<Text, IdMap<V>>, key: &Key) -> bool
     requires { IsOrdered text_cmp apps.old }
     ensures closed { by_key apps.new.entries ≡ finmap.remove (by_key apps.old.entries) key.now }
     ensures bare { IsTrue result → tree.get text_cmp apps.new key.now.app ≡ Some finmap.empty }
+    ensures full { result ≡ false → HasNoBareApp apps.old.entries → HasNoBareApp apps.new.entries }
+    ensures others { HasNoBareApp apps.old.entries → (a : List ℕ) → tree.get text_cmp apps.new a ≡ Some finmap.empty → a ≡ key.now.app }
     ensures ordered { IsOrdered text_cmp apps.new }
 {
     match apps.get_mut(&key.app) {
@@ -127,6 +133,7 @@ fn take_out<V: Drop>(apps: &mut BTreeMap<Text, IdMap<V>>, key: &Key)
     requires { IsOrdered text_cmp apps.old }
     ensures closed { by_key apps.new.entries ≡ finmap.remove (by_key apps.old.entries) key.now }
     ensures ordered { IsOrdered text_cmp apps.new }
+    ensures full { HasNoBareApp apps.old.entries → HasNoBareApp apps.new.entries }
 {
     if close_in(apps, key) {
         unset(apps, &key.app);

@@ -10,4 +10,5 @@ invariant_of-self-2 g c =
     let more : c.in-Some.len ≡ c.self.inside.len + 1 = c.in-Some.ensures.1 in (
       c.insert_in.ensures.ordered,
       more ∙ ap (λ (l : ℕ). l + 1) c.self.invariant.1 ∙ sym (len_made (by_key c.self.inside.apps.entries) c.args.key.now (by_key c.insert_in.new.apps.entries) c.args.value none c.in_ok-insert_in.ensures.ok),
+      c.insert_in.ensures.full c.self.invariant.2,
     )

@@ -17,4 +17,5 @@ invariant_of-self g c =
     let there : is_some (get (by_key c.self.inside.apps.entries) c.args.key.now) ≡ true = rw (c.self.view_is) (sym c.has.ensures ∙ c.if-not-has.false) in (
       c.take_out.ensures.ordered,
       ap (λ (l : ℕ). l - 1) c.self.invariant.1 ∙ sym (len_out (by_key c.self.inside.apps.entries) c.args.key.now (by_key c.take_out.new.apps.entries) there c.take_out.ensures.closed),
+      c.take_out.ensures.full c.self.invariant.2,
     )
