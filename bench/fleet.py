@@ -24,6 +24,8 @@ HARMFUL = 1_000
 VISITORS = 200
 # The instances of the document that is read slowly.
 INSTANCES = 10_000
+# How many clients, each how many seconds they ask, and whether there are instances and those who do harm.
+CASES = ((10_000, 20, False, False), (1_000, 3, False, False), (1_000, 3, True, False), (1_000, 3, True, True))
 # What one read gives.
 CAME = bytearray(1 << 18)
 
@@ -277,8 +279,8 @@ def register_all():
             client.made = 0
 
 
-def run_fleet(name, server, clients, period, seconds, harmful):
-    if harmful:
+def run_fleet(name, server, clients, period, seconds, registered, harmful):
+    if registered:
         register_all()
     before = resident(server)
     tally = Tally()
@@ -314,17 +316,18 @@ def main():
     _, hard = resource.getrlimit(resource.RLIMIT_NOFILE)
     resource.setrlimit(resource.RLIMIT_NOFILE, (hard, hard))
     for workers in (4, 64):
-        for clients, period, harmful in ((10_000, 20, False), (1_000, 3, False), (1_000, 3, True)):
-            name = "%d workers, %d clients each %d seconds%s" % (
+        for clients, period, registered, harmful in CASES:
+            name = "%d workers, %d clients each %d seconds%s%s" % (
                 workers,
                 clients,
                 period,
-                ", beside those who do harm" if harmful else "",
+                ", beside %d instances" % INSTANCES if registered else "",
+                " and those who do harm" if harmful else "",
             )
             with_server(
                 program,
                 workers,
-                lambda server: run_fleet(name, server, clients, period, seconds, harmful),
+                lambda server: run_fleet(name, server, clients, period, seconds, registered, harmful),
             )
 
 

@@ -14,6 +14,10 @@ use std::net::{Shutdown, TcpStream};
 /// How many reads, answers and writes a worker makes for a connection before it turns to the others.
 const STEPS: u64 = 256;
 
+/// Bytes of one write, at most. What is left of a reply is written behind the others: a host may take
+/// megabytes at once.
+const WRITE: usize = 65_536;
+
 /// How far a connection has gone.
 #[derive(Clone, Copy, Debug, PartialEq, Eq)]
 pub(crate) enum Turn {
@@ -141,7 +145,7 @@ impl<D: Document + Drop> Connection<D> {
                 if self.session.next() == Next::Write {
                     self.has_answered = true;
                 }
-                None
+                self.is_long().then_some(Turn::Goes)
             }
             Next::Write => self.write(room),
             Next::Over(end) => self.end(end, room),
@@ -201,17 +205,24 @@ impl<D: Document + Drop> Connection<D> {
         }
     }
 
-    /// Writes once.
+    /// Whether it has more to write than one write gives.
+    fn is_long(&self) -> bool {
+        self.session.next() == Next::Write && self.session.unsent() > WRITE
+    }
+
+    /// Writes once. A connection with more to write has had its turn.
     fn write(&mut self, room: &mut Room) -> Option<Turn> {
         let mut stream = &self.stream;
-        match stream.write(self.session.text(&mut room.buffers)) {
+        let text = self.session.text(&mut room.buffers);
+        match stream.write(&text[..text.len().min(WRITE)]) {
             Ok(0) => {
                 self.session.fail(Fault::WriteFailed);
                 None
             }
             Ok(count) => {
                 self.session.sent(count);
-                None
+                let is_whole = count == WRITE && self.session.next() == Next::Write;
+                is_whole.then_some(Turn::Goes)
             }
             Err(error) => match error.kind() {
                 ErrorKind::WouldBlock => Some(Turn::Rests),

@@ -11,6 +11,8 @@ pub struct Entrance {
     pub(crate) events: Events,
     /// How many of the events were taken.
     pub(crate) taken: usize,
+    /// How many connections that were ready went before those of the queue.
+    pub(crate) before: usize,
     /// The moment at which it was looked last which connections are waited for no longer.
     pub(crate) looked: u64,
 }

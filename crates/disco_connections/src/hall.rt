@@ -26,6 +26,9 @@ use std::{io, mem, rt, thread};
 /// How many events one wait gives, at most.
 const EVENTS: usize = 64;
 
+/// So many connections that are ready go before one of the queue.
+const BEFORE: usize = 8;
+
 /// The listener among what is ready.
 const LISTENER: Token = Token(usize::MAX);
 
@@ -102,6 +105,7 @@ impl<'a, D: Document + Drop> Hall<'a, D> {
             poll,
             events,
             taken: 0,
+            before: 0,
             looked: 0,
         };
         Ok(Hall {
@@ -112,7 +116,7 @@ impl<'a, D: Document + Drop> Hall<'a, D> {
             registry,
             waker,
             entrance: Mutex::new(entrance),
-            places: Mutex::new(Places::new(alloc, places)),
+            places: Mutex::new(Places::new(alloc, places)?),
             held: Held::new(),
         })
     }
@@ -140,25 +144,52 @@ impl<'a, D: Document + Drop> Hall<'a, D> {
         }
     }
 
-    /// Waits until a connection is ready, and takes it. None once no connection more is taken and all
-    /// have ended.
+    /// Takes a connection that is ready, or else the first that could go on, for which it may wait. None
+    /// once no connection more is taken and all have ended.
     pub fn next<R: Wait + rt::Clock>(&self, rt: &R, alloc: Global) -> Option<Box<Connection<D>>> {
         let mut entrance = self.entrance.lock(rt);
         for _ in rt.forever() {
             if self.is_over(rt, &entrance.acceptor) {
                 return None;
             }
-            match entrance.next_token() {
-                Some(token) => {
-                    let taken = self.take(rt, alloc, &mut entrance.acceptor, token);
-                    if taken.is_some() {
-                        return taken;
-                    }
-                }
-                None => self.wait(rt, &mut *entrance),
+            let taken = if entrance.before < BEFORE {
+                self.next_ready(rt, alloc, &mut *entrance)
+            } else {
+                self.next_queued(rt, &mut *entrance)
+            };
+            if taken.is_some() {
+                return taken;
             }
         }
         None
+    }
+
+    /// Takes what is ready, if something is. Where nothing is it looks again, and waits while there is no
+    /// queue.
+    fn next_ready<R: Wait + rt::Clock>(
+        &self,
+        rt: &R,
+        alloc: Global,
+        entrance: &mut Entrance,
+    ) -> Option<Box<Connection<D>>> {
+        match entrance.next_token() {
+            Some(token) => {
+                entrance.before = entrance.before.saturating_add(1);
+                self.take(rt, alloc, &mut entrance.acceptor, token)
+            }
+            None => {
+                if self.wait(rt, entrance) {
+                    return None;
+                }
+                self.next_queued(rt, entrance)
+            }
+        }
+    }
+
+    /// Takes the first connection of the queue.
+    fn next_queued<R: Wait>(&self, rt: &R, entrance: &mut Entrance) -> Option<Box<Connection<D>>> {
+        entrance.before = 0;
+        self.places.lock(rt).next_queued()
     }
 
     /// Whether no connection more is taken and all have ended.
@@ -172,16 +203,20 @@ impl<'a, D: Document + Drop> Hall<'a, D> {
     }
 
     /// Waits until something is ready, or it is to be looked which connections are waited for no
-    /// longer.
-    fn wait<R: Wait + rt::Clock>(&self, rt: &R, entrance: &mut Entrance) {
+    /// longer; not at all while there is a queue. Whether something is ready.
+    fn wait<R: Wait + rt::Clock>(&self, rt: &R, entrance: &mut Entrance) -> bool {
         let now = self.moment(rt);
         if now.saturating_sub(entrance.looked) >= self.waits.look {
             entrance.looked = now;
             self.look(rt, now);
         }
-        if !entrance.wait(self.waits.look) {
+        let may_wait = self.places.lock(rt).begin_wait();
+        let waited = entrance.wait(if may_wait { self.waits.look } else { 0 });
+        self.places.lock(rt).end_wait();
+        if !waited {
             thread::sleep(rt, Duration::from_millis(PAUSE_MILLIS));
         }
+        waited && !entrance.events.is_empty()
     }
 
     /// Takes what is ready: the connection that waits in a place, or a new one.
@@ -285,8 +320,8 @@ impl<'a, D: Document + Drop> Hall<'a, D> {
         }
     }
 
-    /// Serves a connection until it would wait, at most so many steps long, and puts it back or ends it.
-    /// One that was ready meanwhile is served once more, and then others go first.
+    /// Serves a connection turn by turn, and puts it back or ends it. Between two turns those that are
+    /// ready go first.
     pub fn serve<R: Wait + rt::Clock, S: Service<Body = D>>(
         &self,
         rt: &R,
@@ -295,15 +330,16 @@ impl<'a, D: Document + Drop> Hall<'a, D> {
         room: &mut Room,
         service: &mut S,
     ) {
-        let Some(connection) = self.serve_once(rt, alloc, connection, room, service) else {
-            return;
-        };
-        if let Some(connection) = self.serve_once(rt, alloc, connection, room, service) {
-            self.tell_anew(rt, connection);
+        let mut goes_on = Some(connection);
+        for _ in rt.forever() {
+            let Some(connection) = goes_on else {
+                return;
+            };
+            goes_on = self.serve_once(rt, alloc, connection, room, service);
         }
     }
 
-    /// Serves a connection for a turn. Gives it back where it was ready meanwhile.
+    /// Serves a connection for a turn. Gives it back where it could go on and nothing is ready.
     fn serve_once<R: Wait + rt::Clock, S: Service<Body = D>>(
         &self,
         rt: &R,
@@ -354,7 +390,7 @@ impl<'a, D: Document + Drop> Hall<'a, D> {
         }
     }
 
-    /// Puts a connection back behind a turn. Gives it again where it was ready meanwhile.
+    /// Puts a connection back behind a turn. Gives it again where it could go on and nothing is ready.
     fn put_back<R: Wait>(
         &self,
         rt: &R,
@@ -364,12 +400,32 @@ impl<'a, D: Document + Drop> Hall<'a, D> {
         if connection.is_held_back {
             self.held.note_short(true);
         }
-        let lacks_room = connection.phase() == Phase::Reply && !connection.tells_room;
-        if turn == Turn::Rests && connection.tells_input && !lacks_room {
-            return self.places.lock(rt).rest(connection);
+        if turn != Turn::Rests {
+            return self.put_off(rt, connection);
         }
-        self.tell_anew(rt, connection);
-        None
+        let lacks_room = connection.phase() == Phase::Reply && !connection.tells_room;
+        if !connection.tells_input || lacks_room {
+            self.tell_anew(rt, connection);
+            return None;
+        }
+        let again = self.places.lock(rt).rest(connection)?;
+        self.put_off(rt, again)
+    }
+
+    /// Puts a connection back that could go on. Gives it again where nothing is ready.
+    fn put_off<R: Wait>(
+        &self,
+        rt: &R,
+        connection: Box<Connection<D>>,
+    ) -> Option<Box<Connection<D>>> {
+        let put = self.places.lock(rt).put_off(connection);
+        match put {
+            Ok(again) => again,
+            Err(connection) => {
+                self.tell_anew(rt, connection);
+                None
+            }
+        }
     }
 
     /// Puts a connection back, and has the poll tell of it as of one that wasn't told of: at once where it

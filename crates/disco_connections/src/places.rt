@@ -3,13 +3,21 @@ use crate::connection::Connection;
 use crate::place::Place;
 use crate::waits::Phase;
 use slab::Slab;
-use std::alloc::Global;
+use std::alloc::{AllocError, Global};
+use std::collections::VecDeque;
+
+/// How many connections are in the queue at most.
+const QUEUE: usize = 1_024;
 
 /// Where each connection is. At most so many have a place.
 #[derive(Drop)]
 pub(crate) struct Places<D> {
     places: Slab<Place<Box<Connection<D>>>>,
     most: usize,
+    /// The places of connections that could go on. Those that are ready go first.
+    queue: VecDeque<usize>,
+    /// A worker waits until something is ready, and the queue is empty.
+    is_waiting: bool,
     /// The next connection is taken as soon as there is a place for it.
     pub(crate) is_awaited: bool,
     /// No connection more is taken.
@@ -17,14 +25,16 @@ pub(crate) struct Places<D> {
 }
 
 impl<D: Drop> Places<D> {
-    /// No connection. Takes no memory.
-    pub(crate) fn new(alloc: Global, most: usize) -> Places<D> {
-        Places {
+    /// No connection.
+    pub(crate) fn new(alloc: Global, most: usize) -> Result<Places<D>, AllocError> {
+        Ok(Places {
             places: Slab::new(alloc),
             most,
+            queue: VecDeque::with_capacity(alloc, QUEUE)?,
+            is_waiting: false,
             is_awaited: false,
             is_shut: false,
-        }
+        })
     }
 
     /// Whether no connection has a place.
@@ -65,6 +75,39 @@ impl<D: Drop> Places<D> {
         if let Some(place) = self.places.get_mut(connection.key) {
             *place = Place::Waits(connection);
         }
+    }
+
+    /// A connection could go on. It is given back where a worker waits, so that nothing is ready which
+    /// would go first, and else it is put into the queue. Where that is full it is an error.
+    pub(crate) fn put_off(
+        &mut self,
+        connection: Box<Connection<D>>,
+    ) -> Result<Option<Box<Connection<D>>>, Box<Connection<D>>> {
+        if self.is_waiting {
+            return Ok(Some(connection));
+        }
+        if self.queue.len() >= QUEUE || self.queue.push_back(connection.key).is_err() {
+            return Err(connection);
+        }
+        self.leave(connection);
+        Ok(None)
+    }
+
+    /// Takes the first connection of the queue.
+    pub(crate) fn next_queued(&mut self) -> Option<Box<Connection<D>>> {
+        let key = self.queue.pop_front()?;
+        self.call(key)
+    }
+
+    /// A worker is about to wait. Whether it may: not while there is a queue.
+    pub(crate) fn begin_wait(&mut self) -> bool {
+        self.is_waiting = self.queue.is_empty();
+        self.is_waiting
+    }
+
+    /// It waits no longer.
+    pub(crate) fn end_wait(&mut self) {
+        self.is_waiting = false;
     }
 
     /// How far the places go.
