@@ -6,8 +6,8 @@ use Rattle.std.specs.Str.{bytes_eq}
 use Rattle.disco_values.specs.Key.{same_key}
 use Rattle.disco_values.specs.declared.key.Key.{Key}
 use Rattle.disco_history.specs.Slots.{written}
-use Rattle.disco_index.specs.Places.{Alters, opened_vip, swept}
-use Rattle.disco_index.specs.Vips.{IsSameVips, KeepsVipPlaces, VipKeys, place_at}
+use Rattle.disco_index.specs.Places.{Alters, IsSameIn, KeepsPlacesIn, OthersOf, opened_vip, place_in, swept}
+use Rattle.disco_index.specs.Vips.{KeysByVip}
 
 -- twice is as once
 abbrev pub IsIdempotent : (Option Bool → Option Bool) → Type 0
@@ -27,8 +27,8 @@ swept-twice (Some true) = refl
 swept-twice (Some false) = refl
 
 -- what is still to be altered under the vips of an address, so that all are
-abbrev pub Left : (Option Bool → Option Bool) → List (List ℕ) → Key → VipKeys → List (List ℕ) → VipKeys → Type 0
-Left f all k old rest here = (new : VipKeys) → Alters f rest k here new → Alters f all k old new
+abbrev pub Left : (Option Bool → Option Bool) → List (List ℕ) → Key → KeysByVip → List (List ℕ) → KeysByVip → Type 0
+Left f all k old rest here = (new : KeysByVip) → Alters f rest k here new → Alters f all k old new
 
 module _ (f : Option Bool → Option Bool) (twice : IsIdempotent f) where
   joined : (a b s : Bool) (o : Option Bool) → cond (b && s) (f (cond ((a || false) && s) (f o) o)) (cond ((a || false) && s) (f o) o) ≡ cond ((a || b) && s) (f o) o
@@ -41,12 +41,12 @@ module _ (f : Option Bool → Option Bool) (twice : IsIdempotent f) where
   joined false false s o = refl
 
   -- first under one vip, and then under the rest
-  pub then_rest : (vip : List ℕ) (rest : List (List ℕ)) (k : Key) (old mid new : VipKeys) → Alters f (vip ∷ []) k old mid → Alters f rest k mid new → Alters f (vip ∷ rest) k old new
+  pub then_rest : (vip : List ℕ) (rest : List (List ℕ)) (k : Key) (old mid new : KeysByVip) → Alters f (vip ∷ []) k old mid → Alters f rest k mid new → Alters f (vip ∷ rest) k old new
   then_rest vip rest k old mid new one more q p =
       more q p ∙ ap (λ o. cond (list_any (bytes_eq q) rest && same_key p k) (f o) o) (one q p)
-      ∙ joined (bytes_eq q vip) (list_any (bytes_eq q) rest) (same_key p k) (place_at old q p)
+      ∙ joined (bytes_eq q vip) (list_any (bytes_eq q) rest) (same_key p k) (place_in old q p)
 
-  pub left-step : (all : List (List ℕ)) (k : Key) (old : VipKeys) (vip : List ℕ) (before rest : List (List ℕ)) (here next : VipKeys) → before ≡ vip ∷ rest → Alters f (vip ∷ []) k here next → Left f all k old before here → Left f all k old rest next
+  pub left-step : (all : List (List ℕ)) (k : Key) (old : KeysByVip) (vip : List ℕ) (before rest : List (List ℕ)) (here next : KeysByVip) → before ≡ vip ∷ rest → Alters f (vip ∷ []) k here next → Left f all k old before here → Left f all k old rest next
   left-step all k old vip before rest here next is one left new more = left new (subst (λ vs. Alters f vs k here new) (sym is) (then_rest vip rest k here next new one more))
 
 -- ---- an empty place where there was none
@@ -62,10 +62,6 @@ one_opened false o = refl
 opened_stays : (b : Bool) (o : Option Bool) → IsSome o → IsSome (cond b (opened_vip o) o)
 opened_stays true o h = refl
 opened_stays false o h = h
-
--- each place but those of the key under these vips is as it was
-abbrev pub OthersOf : List (List ℕ) → Key → VipKeys → VipKeys → Type 0
-OthersOf vs k old new = (q : List ℕ) (p : Key) → (list_any (bytes_eq q) vs && same_key p k) ≡ false → place_at new q p ≡ place_at old q p
 
 -- each of these vips is one of those
 abbrev pub IsAmong : List (List ℕ) → List (List ℕ) → Type 0
@@ -88,16 +84,16 @@ first_among true b is = refl
 first_among false b is = absurd (cc)
 
 -- one more vip of these is opened
-pub others-step : (all : List (List ℕ)) (k : Key) (old : VipKeys) (vip : List ℕ) (before rest : List (List ℕ)) (here next : VipKeys) → before ≡ vip ∷ rest → IsAmong before all → Alters opened_vip (vip ∷ []) k here next → OthersOf all k old here → OthersOf all k old next
+pub others-step : (all : List (List ℕ)) (k : Key) (old : KeysByVip) (vip : List ℕ) (before rest : List (List ℕ)) (here next : KeysByVip) → before ≡ vip ∷ rest → IsAmong before all → Alters opened_vip (vip ∷ []) k here next → OthersOf all k old here → OthersOf all k old next
 others-step all k old vip before rest here next is among one others = λ q p apart.
     let there = one_among (bytes_eq q vip) (list_any (bytes_eq q) all) (same_key p k) (λ h. among q (ap (list_any (bytes_eq q)) is ∙ first_among (bytes_eq q vip) (list_any (bytes_eq q) rest) h)) apart in
-    one q p ∙ ap (λ b. cond b (opened_vip (place_at here q p)) (place_at here q p)) there ∙ others q p apart
+    one q p ∙ ap (λ b. cond b (opened_vip (place_in here q p)) (place_in here q p)) there ∙ others q p apart
 
-module _ (vs : List (List ℕ)) (k : Key) (old new : VipKeys) where
+module _ (vs : List (List ℕ)) (k : Key) (old new : KeysByVip) where
   -- shows nothing
-  pub opens_same : Alters opened_vip vs k old new → IsSameVips old new
-  opens_same h q p = ap there (h q p) ∙ one_opened (list_any (bytes_eq q) vs && same_key p k) (place_at old q p)
+  pub opens_same : Alters opened_vip vs k old new → IsSameIn old new
+  opens_same h q p = ap there (h q p) ∙ one_opened (list_any (bytes_eq q) vs && same_key p k) (place_in old q p)
 
   -- and each place stays
-  pub opens_keeps : Alters opened_vip vs k old new → KeepsVipPlaces old new
-  opens_keeps h q p some = subst (λ (o : Option Bool). IsSome o) (sym (h q p)) (opened_stays (list_any (bytes_eq q) vs && same_key p k) (place_at old q p) some)
+  pub opens_keeps : Alters opened_vip vs k old new → KeepsPlacesIn old new
+  opens_keeps h q p some = subst (λ (o : Option Bool). IsSome o) (sym (h q p)) (opened_stays (list_any (bytes_eq q) vs && same_key p k) (place_in old q p) some)

@@ -16,8 +16,8 @@ use Rattle.disco_values.specs.declared.key.Key.{Key}
 use Rattle.disco_history.proofs.Keys.{keys_total, exact_keys}
 use Rattle.disco_index.proofs.Stored.{entries_stored, itself, keys_by_test}
 use Rattle.disco_history.specs.Slots.{AltersAt, written}
-use Rattle.disco_index.specs.Places.{Alters, HasNoBareVip, IsBareOnly, keys_there, opened_vip, seen_vips}
-use Rattle.disco_index.specs.Vips.{place_at, places_at, under}
+use Rattle.disco_index.specs.Places.{Alters, HasNoBareVip, IsBareOnly, keys_there, opened_vip, place_in, seen_vips, under_in}
+use Rattle.disco_index.specs.Vips.{keys_at}
 
 abbrev pub Places : Type 0
 Places = FinMap key_cmp Bool
@@ -120,7 +120,7 @@ module _ {A : Type 0} where
   taken_out fs vip q false same bare = ap (λ (o : Option Places). unwrap_or o empty) (sym (get_seen fs q))
 
   -- to take a vip without places out changes no place
-  pub without_bare : (fs gs : Stored A) (vip : List ℕ) → Updated fs gs vip None → get (seen_vips fs) vip ≡ Some empty → (q : List ℕ) (p : Key) → place_at (seen_vips gs) q p ≡ place_at (seen_vips fs) q p
+  pub without_bare : (fs gs : Stored A) (vip : List ℕ) → Updated fs gs vip None → get (seen_vips fs) vip ≡ Some empty → (q : List ℕ) (p : Key) → place_in (seen_vips gs) q p ≡ place_in (seen_vips fs) q p
   without_bare fs gs vip update bare q p = ap (λ (m : Places). get m p) (ap (λ (o : Option Places). unwrap_or o empty) (get_seen gs q ∙ update q) ∙ taken_out fs vip q (bytes_eq vip q) refl bare)
 
   rest_bare : (fs : Stored A) (vip q : List ℕ) (bare b : Bool) → IsBareOnly vip bare (seen_vips fs) → bytes_eq vip q ≡ b → cond b None (at_vip fs q) ≡ Some empty → ⊥
@@ -144,13 +144,13 @@ module _ {A : Type 0} where
 
   -- ---- the keys under a vip
 
-  pub under_some : (es : Stored A) (vip : List ℕ) (m : Places) → Some m ≡ at_vip es vip → keys_there m ≡ under (seen_vips es) vip
-  under_some es vip m there = ap (λ (o : Option Places). keys_there (unwrap_or o empty)) (there ∙ sym (get_seen es vip)) ∙ keys_by_test (places_at (seen_vips es) vip)
+  pub under_some : (es : Stored A) (vip : List ℕ) (m : Places) → Some m ≡ at_vip es vip → keys_there m ≡ under_in (seen_vips es) vip
+  under_some es vip m there = ap (λ (o : Option Places). keys_there (unwrap_or o empty)) (there ∙ sym (get_seen es vip)) ∙ keys_by_test (keys_at (seen_vips es) vip)
 
-  pub under_none : (es : Stored A) (vip : List ℕ) → None ≡ at_vip es vip → [] ≡ under (seen_vips es) vip
+  pub under_none : (es : Stored A) (vip : List ℕ) → None ≡ at_vip es vip → [] ≡ under_in (seen_vips es) vip
   under_none es vip none =
       ap (λ (l : List (Key × Bool)). map (λ (e : Key × Bool). e.0) (filter (λ (e : Key × Bool). e.1) l)) (sym (entries_stored [] tt))
-      ∙ ap (λ (o : Option Places). keys_there (unwrap_or o empty)) (none ∙ sym (get_seen es vip)) ∙ keys_by_test (places_at (seen_vips es) vip)
+      ∙ ap (λ (o : Option Places). keys_there (unwrap_or o empty)) (none ∙ sym (get_seen es vip)) ∙ keys_by_test (keys_at (seen_vips es) vip)
 
 -- ---- places that were empty, or are now
 

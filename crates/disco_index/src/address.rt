@@ -1,7 +1,5 @@
 //! The vips of an address, one after another.
 ghost use Rattle.std.specs.Prelude.{◌≡◌, [], ◌∷◌, MatchOption};
-ghost use Rattle.std.specs.List.{list_any};
-ghost use Rattle.std.specs.Str.{bytes_eq};
 ghost use Rattle.disco_history.specs.Query.{vips};
 
 /// The first vip of an address, and the rest of the address. There is none where every piece is
@@ -21,18 +19,4 @@ pub fn next_vip(address: &str) -> Option<(&str, &str)>
     } else {
         Some((rest, ""))
     }
-}
-
-/// Whether a vip is one of an address.
-pub fn has_vip(address: &str, vip: &str) -> bool
-    ensures { result ≡ list_any (bytes_eq vip.now) (vips address.now) }
-{
-    let mut rest = address;
-    while let Some((piece, after)) = next_vip(rest) {
-        if vip == piece {
-            return true;
-        }
-        rest = after;
-    }
-    false
 }

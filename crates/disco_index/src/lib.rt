@@ -1,5 +1,5 @@
 //! How many instances have each status, the hash code that these numbers give, and which
-//! instances have a vip.
+//! instances have a vip or a secure vip.
 #![tactic(auto)]
 
 mod address;
@@ -7,8 +7,9 @@ mod behind;
 mod counts;
 mod pieces;
 mod places;
+mod vip_places;
 mod vips;
 
-pub use address::{has_vip, next_vip};
+pub use address::next_vip;
 pub use counts::Counts;
 pub use vips::VipIndex;

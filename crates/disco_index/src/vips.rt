@@ -1,67 +1,59 @@
-//! Which instances have a vip.
-ghost use Rattle.std.specs.Prelude.{◌≡◌, ◌∷◌, [], IfErr, IfOk, IsTrue, None, OnErr, OnOk, Some, map, option_map, string_bytes};
-ghost use Rattle.std.specs.BTreeMap.{UpdatesBy};
-ghost use Rattle.std.specs.Cmp.Lexicographic.{slice_cmp};
-ghost use Rattle.std.specs.FinMap.{FinMap, empty, get, insert, keys, remove};
-ghost use Rattle.std.specs.Ordering.{nat_cmp};
-ghost use Rattle.std.specs.String.{string_cmp};
+//! Which instances have a vip, and which a secure vip.
+ghost use Rattle.std.specs.Prelude.{◌≡◌, IfErr, IfOk, None, OnErr, OnOk, Some, map, option_map};
+ghost use Rattle.std.specs.FinMap.{FinMap, get, insert, keys, remove};
 ghost use Rattle.disco_values.specs.Key.{key_cmp};
 ghost use Rattle.disco_instance.specs.Row.{Row, row};
 ghost use Rattle.disco_values.specs.declared.key.Key.{Key};
 ghost use Rattle.disco_values.specs.declared.fault.Fault.TheVariants.{OutOfMemory};
 ghost use Rattle.disco_history.specs.Change.{Entry, key_of};
-ghost use Rattle.disco_history.specs.Query.{of_vip, restrict, vips};
+ghost use Rattle.disco_history.specs.Query.{of_secure_vip, of_vip, restrict};
 ghost use Rattle.disco_history.specs.Slots.{written};
-ghost use Rattle.disco_index.specs.Places.{Alters, HasNoBareVip, IsBareOnly, opened_vip, seen_vips, swept};
-ghost use Rattle.disco_index.specs.Vips.{Adds, HasNoneEmpty, HasPlaces, IsIndexOf, IsSameVips, KeepsOtherVips, KeepsVipPlaces, Removes, under};
+ghost use Rattle.disco_index.specs.Places.{AltersRow, opened_vip, swept};
+ghost use Rattle.disco_index.specs.Vips.{Adds, HasNoneEmpty, HasPlaces, IsIndexOf, IsSameVips, KeepsOtherVips, KeepsVipPlaces, Removes};
+ghost use Rattle.disco_index.specs.Vips.{no_vips, plain, secure, under};
 
-use crate::address::next_vip;
-use crate::places::Places;
+use crate::vip_places::VipPlaces;
 use disco_instance::Record;
 use disco_values::{Fault, Key};
 use std::alloc::{AllocError, Global};
-use std::collections::BTreeMap;
 use std::marker::Model;
 
-/// For each vip the keys of the instances that have it. A vip's keys cost nothing for other
-/// instances.
+/// For each vip the keys of the instances that have it, and for each secure vip those that have
+/// that one. A vip's keys cost nothing for other instances.
 ///
 /// For a change of an instance: `ready` with its new record, `take` with the old one, `add` with
 /// the new one, and `sweep` with the old one.
 #[derive(Drop)]
 pub struct VipIndex {
-    alloc: Global,
-    vips: BTreeMap<String, Places>,
+    vips: VipPlaces,
+    secure_vips: VipPlaces,
 }
 
 impl Model for VipIndex {
     ghost use Rattle.std.specs.Coded.{codes};
     ghost use Rattle.std.specs.FinMap.{code};
-    ghost use Rattle.disco_index.specs.Places.{HasNoBareVip, seen_vips};
     ghost use Rattle.disco_index.specs.Vips.{VipKeys};
 
     ghost Value = { VipKeys };
 
     ghost coded = { Prim.hlevel (codes, code) };
 
-    ghost view = { λ v. seen_vips v.vips.entries };
-
-    ghost invariant = { λ v. HasNoBareVip (seen_vips v.vips.entries) };
+    ghost view = { λ v. record { vips = v.vips; secure_vips = v.secure_vips } };
 }
 
 impl VipIndex {
     /// No instances.
     pub fn new(alloc: Global) -> VipIndex
-        ensures { result ≡ empty }
+        ensures { result ≡ no_vips }
     {
         VipIndex {
-            alloc,
-            vips: BTreeMap::new(alloc),
+            vips: VipPlaces::new(alloc),
+            secure_vips: VipPlaces::new(alloc),
         }
     }
 
-    /// Makes a place for the record under each of its vips, so that it can be added. No answer
-    /// shows a place that stands empty.
+    /// Makes a place for the record under each of its vips and secure vips, so that it can be added.
+    /// No answer shows a place that stands empty.
     ///
     /// # Errors
     ///
@@ -73,12 +65,7 @@ impl VipIndex {
         ensures places { KeepsVipPlaces self.old self.new }
         ensures memory { IfErr result (λ e. e ≡ OutOfMemory) }
     {
-        let mut rest = rec.details.vip_address.as_str();
-        while let Some((vip, after)) = next_vip(rest) {
-            self.open(vip, &rec.key)?;
-            rest = after;
-        }
-        Ok(())
+        Ok(self.open_all(rec)?)
     }
 
     /// The record's instance has the record's vips, beside those that it has. Takes no memory.
@@ -109,11 +96,7 @@ impl VipIndex {
         ensures swept { HasNoneEmpty self.new (row rec.now) }
         ensures others { KeepsOtherVips (row rec.now) self.old self.new }
     {
-        let mut rest = rec.details.vip_address.as_str();
-        while let Some((vip, after)) = next_vip(rest) {
-            self.close(vip, &rec.key);
-            rest = after;
-        }
+        self.close_all(rec);
     }
 
     /// The keys of the instances that have a vip, in their order.
@@ -122,13 +105,40 @@ impl VipIndex {
     ///
     /// `OutOfMemory` alone.
     pub fn under(&self, alloc: Global, vip: &str) -> Result<Vec<&Key>, Fault>
-        ensures keys { IfOk result (λ found. map (λ k. k.now) found.items ≡ under self.now vip.now) }
+        ensures keys { IfOk result (λ found. map (λ k. k.now) found.items ≡ under self.now (plain vip.now)) }
         ensures restriction { (m : FinMap key_cmp Entry) (rows : FinMap key_cmp Row) → IsIndexOf self.now m
             → ((k : Key) → get rows k ≡ option_map (λ e. e.0) (get m k))
             → IfOk result (λ found. map (λ k. k.now) found.items ≡ keys (restrict rows (of_vip vip.now))) }
         ensures memory { IfErr result (λ e. e ≡ OutOfMemory) }
     {
-        Ok(self.keys_under(alloc, vip)?)
+        Ok(self.plain_keys(alloc, vip)?)
+    }
+
+    /// The keys of the instances that have a secure vip, in their order.
+    ///
+    /// # Errors
+    ///
+    /// `OutOfMemory` alone.
+    pub fn under_secure(&self, alloc: Global, vip: &str) -> Result<Vec<&Key>, Fault>
+        ensures keys { IfOk result (λ found. map (λ k. k.now) found.items ≡ under self.now (secure vip.now)) }
+        ensures restriction { (m : FinMap key_cmp Entry) (rows : FinMap key_cmp Row) → IsIndexOf self.now m
+            → ((k : Key) → get rows k ≡ option_map (λ e. e.0) (get m k))
+            → IfOk result (λ found. map (λ k. k.now) found.items ≡ keys (restrict rows (of_secure_vip vip.now))) }
+        ensures memory { IfErr result (λ e. e ≡ OutOfMemory) }
+    {
+        Ok(self.secure_keys(alloc, vip)?)
+    }
+
+    fn plain_keys(&self, alloc: Global, vip: &str) -> Result<Vec<&Key>, AllocError>
+        ensures { IfOk result (λ found. map (λ k. k.now) found.items ≡ under self.now (plain vip.now)) }
+    {
+        Ok(self.vips.under(alloc, vip)?)
+    }
+
+    fn secure_keys(&self, alloc: Global, vip: &str) -> Result<Vec<&Key>, AllocError>
+        ensures { IfOk result (λ found. map (λ k. k.now) found.items ≡ under self.now (secure vip.now)) }
+    {
+        Ok(self.secure_vips.under(alloc, vip)?)
     }
 
     fn place(&mut self, rec: &Record)
@@ -146,79 +156,39 @@ impl VipIndex {
         self.write_all(rec, false);
     }
 
-    /// The keys that have a vip in the index.
-    fn keys_under(&self, alloc: Global, vip: &str) -> Result<Vec<&Key>, AllocError>
-        ensures { IfOk result (λ found. map (λ k. k.now) found.items ≡ under self.now vip.now) }
+    /// Makes an empty place for the record under each of its vips, where there is none.
+    fn open_all(&mut self, rec: &Record) -> Result<(), AllocError>
+        ensures ok { OnOk result (AltersRow opened_vip (row rec.now) self.old self.new) }
+        ensures same { IsSameVips self.old self.new }
+        ensures others { KeepsOtherVips (row rec.now) self.old self.new }
+        ensures places { KeepsVipPlaces self.old self.new }
     {
-        match self.vips.get(vip) {
-            Some(places) => Ok(places.there(alloc)?),
-            None => Ok(Vec::new(alloc)),
-        }
+        let details = &rec.details;
+        self.vips.ready(details.vip_address.as_str(), &rec.key)?;
+        Ok(
+            self.secure_vips
+                .ready(details.secure_vip_address.as_str(), &rec.key)?,
+        )
     }
 
     /// Says under each of the record's vips whether its instance is there, where it has a place.
     fn write_all(&mut self, rec: &Record, there: bool)
-        ensures { Alters (written there) (vips rec.now.details.vip_address) rec.now.key self.old self.new }
+        ensures { AltersRow (written there) (row rec.now) self.old self.new }
     {
-        let mut rest = rec.details.vip_address.as_str();
-        while let Some((vip, after)) = next_vip(rest) {
-            self.write(vip, &rec.key, there);
-            rest = after;
-        }
-    }
-
-    fn write(&mut self, vip: &str, key: &Key, there: bool)
-        ensures { Alters (written there) (vip.now ∷ []) key.now self.old self.new }
-    {
-        if let Some(places) = self.vips.get_mut(vip) {
-            places.write(key, there);
-        }
-    }
-
-    /// Makes an empty place for a key under a vip, where there is none.
-    fn open(&mut self, vip: &str, key: &Key) -> Result<(), AllocError>
-        ensures ok { OnOk result (Alters opened_vip (vip.now ∷ []) key.now self.old self.new) }
-        ensures err { OnErr result (self.new ≡ self.old) }
-    {
-        if let Some(places) = self.vips.get_mut(vip) {
-            return places.open(key);
-        }
-        let mut places = Places::new(self.alloc);
-        places.open(key)?;
+        let details = &rec.details;
         self.vips
-            .insert(String::from_str(self.alloc, vip)?, places)?;
-        Ok(())
+            .write(details.vip_address.as_str(), &rec.key, there);
+        self.secure_vips
+            .write(details.secure_vip_address.as_str(), &rec.key, there);
     }
 
-    /// Takes the place of a key under a vip out, where it stands empty, and the vip with its last
-    /// place.
-    fn close(&mut self, vip: &str, key: &Key)
-        ensures { Alters swept (vip.now ∷ []) key.now self.old self.new }
+    /// Takes the places under the record's vips out that stand empty.
+    fn close_all(&mut self, rec: &Record)
+        ensures { AltersRow swept (row rec.now) self.old self.new }
     {
-        if close_under(&mut self.vips, vip, key) {
-            remove(&mut self.vips, vip);
-        }
-    }
-}
-
-fn remove(vips: &mut BTreeMap<String, Places>, vip: &str)
-    ensures { UpdatesBy string_cmp (λ k. slice_cmp nat_cmp vip.now (string_bytes k)) vips.old vips.new None }
-{
-    vips.remove(vip);
-}
-
-/// Takes the place of a key under a vip out, where it stands empty. Answers whether the vip has no
-/// place any more.
-fn close_under(vips: &mut BTreeMap<String, Places>, vip: &str, key: &Key) -> bool
-    ensures places { Alters swept (vip.now ∷ []) key.now (seen_vips vips.old.entries) (seen_vips vips.new.entries) }
-    ensures bare { IsTrue result → get (seen_vips vips.new.entries) vip.now ≡ Some empty }
-    ensures others { HasNoBareVip (seen_vips vips.old.entries) → IsBareOnly vip.now result (seen_vips vips.new.entries) }
-{
-    match vips.get_mut(vip) {
-        Some(places) => {
-            places.close(key);
-            places.is_empty()
-        }
-        None => false,
+        let details = &rec.details;
+        self.vips.sweep(details.vip_address.as_str(), &rec.key);
+        self.secure_vips
+            .sweep(details.secure_vip_address.as_str(), &rec.key);
     }
 }

@@ -1,6 +1,7 @@
 use Rattle.std.proofs.Common.{◌∙◌}
+use Rattle.disco_index.specs.Vips.{plain}
 use Rattle.disco_index.proofs.VipLaws.{under_vip_law}
 use Rattle.disco_index.proofs.vips.VipIndex.under.Goals as goal
 
 pub returns-clause-restriction : goal.returns-clause-restriction
-returns-clause-restriction c = λ m rows is same. c.in_ok-keys_under.ensures ∙ under_vip_law c.args.self.now m rows c.args.vip.now is same
+returns-clause-restriction c = λ m rows is same. c.in_ok-plain_keys.ensures ∙ under_vip_law c.args.self.now m rows (plain c.args.vip.now) is same

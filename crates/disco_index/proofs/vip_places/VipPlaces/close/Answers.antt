@@ -1,7 +1,7 @@
 use Rattle.std.proofs.Common.{None, ◌∙◌}
 use Rattle.std.proofs.lemmas.Map.Text.{btree_map_updates_text}
 use Rattle.disco_index.proofs.VipSteps.{none_after, none_left, without_bare}
-use Rattle.disco_index.proofs.vips.VipIndex.close.Goals as goal
+use Rattle.disco_index.proofs.vip_places.VipPlaces.close.Goals as goal
 
 pub invariant_of-self : goal.invariant_of-self
 invariant_of-self c =

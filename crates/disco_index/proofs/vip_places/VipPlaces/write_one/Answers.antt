@@ -3,8 +3,8 @@ use Rattle.std.specs.FinMap.{empty}
 use Rattle.std.specs.Option.{unwrap_or}
 use Rattle.disco_history.specs.Slots.{AltersAt, written}
 use Rattle.disco_index.proofs.VipSteps.{Places, Updated, at_vip, lent, lifted, lifted-none, no_bare, not_bare, written_empty}
-use Rattle.disco_index.proofs.vips.VipIndex.write.Goals as goal
-use Rattle.disco_index.proofs.vips.VipIndex.write.Goals.{in-Some, in_default}
+use Rattle.disco_index.proofs.vip_places.VipPlaces.write_one.Goals as goal
+use Rattle.disco_index.proofs.vip_places.VipPlaces.write_one.Goals.{in-Some, in_default}
 
 pub invariant_of-self : goal.invariant_of-self
 invariant_of-self c =

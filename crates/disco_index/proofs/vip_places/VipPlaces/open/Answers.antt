@@ -6,7 +6,7 @@ use Rattle.std.proofs.lemmas.Map.Text.{btree_map_updates_text}
 use Rattle.disco_history.specs.Slots.{AltersAt}
 use Rattle.disco_index.specs.Places.{opened_vip}
 use Rattle.disco_index.proofs.VipSteps.{Places, Updated, at_vip, lent, lifted, no_bare, not_bare, on_err, on_ok, opened_or_same, opened_there, unchanged}
-use Rattle.disco_index.proofs.vips.VipIndex.open.Goals as goal
+use Rattle.disco_index.proofs.vip_places.VipPlaces.open.Goals as goal
 
 pub invariant_of-self : goal.invariant_of-self
 invariant_of-self c =

@@ -4,7 +4,7 @@ use Rattle.std.specs.Option.{unwrap_or}
 use Rattle.disco_history.specs.Slots.{AltersAt}
 use Rattle.disco_index.specs.Places.{swept}
 use Rattle.disco_index.proofs.VipSteps.{Places, Updated, at_vip, bare_only, here, lent, lifted, lifted-none}
-use Rattle.disco_index.proofs.vips.close_under.Goals as goal
+use Rattle.disco_index.proofs.vip_places.close_under.Goals as goal
 
 pub returns-in-Some-clause-places : goal.returns-in-Some-clause-places
 returns-in-Some-clause-places c =
