@@ -1,16 +1,21 @@
 //! Where the bytes of a text are.
-ghost use Rattle.std.specs.Prelude.{◌≡◌};
+ghost use Rattle.std.specs.Prelude.{◌≡◌, IfOk, string_bytes};
+ghost use Rattle.std.specs.Arc.{arc_value};
 ghost use Rattle.disco_values.specs.Storage.{bytes_in};
 
 use crate::inline_text::InlineText;
-use std::alloc::AllocError;
+use std::alloc::{AllocError, Global};
+use std::sync::Arc;
 
 /// Where the bytes of a text are.
 #[derive(Debug, Drop)]
 pub(crate) enum Storage {
     /// In the text itself: most texts are short, and take no memory of their own.
     Inline(InlineText),
+    /// In memory of its own, as a `String` brought them.
     Heap(String),
+    /// In memory that it shares with its copies.
+    Shared(Arc<String, Global>),
 }
 
 impl Storage {
@@ -20,7 +25,29 @@ impl Storage {
         match self {
             Storage::Inline(text) => text.as_str(),
             Storage::Heap(text) => text.as_str(),
+            Storage::Shared(text) => text.as_str(),
         }
+    }
+
+    /// The same bytes, in memory that copies share where they take any.
+    pub(crate) fn shared(self, alloc: Global) -> Result<Storage, AllocError>
+        ensures { IfOk result (λ s. bytes_in s ≡ bytes_in self) }
+    {
+        match self {
+            Storage::Inline(text) => Ok(Storage::Inline(text)),
+            Storage::Heap(text) => Ok(Storage::Shared(Arc::new(alloc, text)?)),
+            Storage::Shared(text) => Ok(Storage::Shared(text)),
+        }
+    }
+}
+
+/// The `String` that copies shared, where this is the last of them, and else another one.
+pub(crate) fn unshared(text: Arc<String, Global>, alloc: Global) -> Result<String, AllocError>
+    ensures { IfOk result (λ s. string_bytes s ≡ string_bytes (arc_value text)) }
+{
+    match Arc::try_unwrap(text) {
+        Ok(text) => Ok(text),
+        Err(text) => String::from_str(alloc, text.as_str()),
     }
 }
 
@@ -32,7 +59,8 @@ impl Clone for Storage {
     fn clone(&self) -> Result<Storage, AllocError> {
         match self {
             Storage::Inline(text) => Ok(Storage::Inline(text.copy())),
-            Storage::Heap(text) => Ok(Storage::Heap(text.clone()?)),
+            Storage::Heap(text) => Storage::Heap(text.clone()?).shared(*text.allocator()),
+            Storage::Shared(text) => Ok(Storage::Shared(Arc::try_clone(text)?)),
         }
     }
 }

@@ -11,7 +11,7 @@ ghost use Rattle.disco_values.specs.declared.fault.Fault.TheVariants.{OutOfMemor
 use crate::fault::Fault;
 use crate::front::{front_of, is_whole};
 use crate::inline_text::{InlineText, MOST_INLINE};
-use crate::storage::Storage;
+use crate::storage::{Storage, unshared};
 use std::alloc::{AllocError, Global};
 use std::cmp::Ordering;
 use std::marker::Model;
@@ -89,7 +89,7 @@ fn order(one: &Text, other: &Text) -> Ordering
 }
 
 impl Text {
-    /// The text once more. A short one takes no memory.
+    /// The text once more. A short one takes no memory, and copies of a longer one share theirs.
     ///
     /// # Errors
     ///
@@ -100,7 +100,22 @@ impl Text {
         if text.len() <= MOST_INLINE {
             return Ok(inline(text));
         }
-        Ok(in_memory(String::from_str(alloc, text)?))
+        Ok(in_memory(String::from_str(alloc, text)?).shared(alloc)?)
+    }
+
+    /// The same text. Copies of it take no memory.
+    ///
+    /// # Errors
+    ///
+    /// `AllocError` where memory is refused.
+    fn shared(self, alloc: Global) -> Result<Text, AllocError>
+        ensures { IfOk result (λ t. t ≡ self) }
+    {
+        let Text { front, storage } = self;
+        Ok(Text {
+            front,
+            storage: storage.shared(alloc)?,
+        })
     }
 
     /// The text of a `String`. Takes no memory, and gives that of a short one back.
@@ -129,8 +144,9 @@ impl Text {
         self.storage.as_str()
     }
 
-    /// Gives the `String` back. A text of at most 30 bytes lies in the value itself, so its `String`
-    /// takes memory.
+    /// Gives the `String` back. A text of at most 30 bytes lies in the value itself, and the memory of
+    /// a longer one may be shared with copies: then its `String` takes memory. One that was made of a
+    /// `String` of more than 30 bytes gives that back.
     ///
     /// # Errors
     ///
@@ -142,6 +158,7 @@ impl Text {
         match storage {
             Storage::Inline(text) => String::from_str(alloc, text.as_str()),
             Storage::Heap(text) => Ok(text),
+            Storage::Shared(text) => unshared(text, alloc),
         }
     }
 
@@ -202,7 +219,7 @@ pub fn upper_text(alloc: Global, text: &str) -> Result<Text, AllocError>
     }
     let mut upper = String::from_str(alloc, text)?;
     upper.make_ascii_uppercase();
-    Ok(Text::from_string(upper))
+    Ok(Text::from_string(upper).shared(alloc)?)
 }
 
 impl Clone for Text {
