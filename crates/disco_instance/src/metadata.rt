@@ -22,10 +22,11 @@ fn kept_text(alloc: Global, value: &Value) -> Result<Option<Text>, AllocError>
     }
 }
 
+/// What is kept of an object's members, with no more room than it fills.
 fn kept_pairs(alloc: Global, members: &Map<String, Value>) -> Result<Vec<(Text, Text)>, AllocError>
     ensures { IfOk result (λ v. v.items ≡ kept_entries (members_view members.now.entries)) }
 {
-    let mut kept = Vec::new(alloc);
+    let mut kept = Vec::with_capacity(alloc, members.len())?;
     for (name, value) in members.iter() {
         if name.as_str() != "@class" {
             if let Some(text) = kept_text(alloc, value)? {
@@ -33,6 +34,8 @@ fn kept_pairs(alloc: Global, members: &Map<String, Value>) -> Result<Vec<(Text, 
             }
         }
     }
+    // Some members may not be kept.
+    kept.shrink_to_fit();
     Ok(kept)
 }
 

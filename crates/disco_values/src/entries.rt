@@ -118,6 +118,7 @@ impl Entries {
                 entries.put(name, text)?;
             }
         }
+        entries.entries.shrink_to_fit();
         Ok(entries)
     }
 

@@ -45,6 +45,7 @@ fn first_of<'e>(own: &'e [(Text, Text)], others: &'e [(Text, Text)]) -> Option<F
 }
 
 /// Copies of the entries of both lists, in the order of their names: of one name that of the others.
+/// They have no more room than they fill.
 pub(crate) fn merged(
     alloc: Global,
     own: &[(Text, Text)],
@@ -54,11 +55,13 @@ pub(crate) fn merged(
     ensures { IfOk result (λ v. v.items ≡ with_entries own.now others.now) }
 {
     let (mut own_left, mut others_left) = (own, others);
-    let mut all = Vec::new(alloc);
+    let mut all = Vec::with_capacity(alloc, own.len().saturating_add(others.len()))?;
     while let Some(first) = first_of(own_left, others_left) {
         all.push(first.entry.clone()?)?;
         own_left = first.own;
         others_left = first.others;
     }
+    // Of names that stand in both lists one entry is left.
+    all.shrink_to_fit();
     Ok(all)
 }
