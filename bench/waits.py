@@ -1,6 +1,9 @@
-"""How long writes wait for the publisher of `discovery serve`, on loopback, beside looks, which wait for nobody."""
+"""How long writes wait for the publisher of `discovery serve`, on loopback, beside looks, which wait for nobody,
+and how long heartbeats wait while leases run out and while secure vips are asked for."""
 
 import gc
+import multiprocessing
+import re
 import socket
 import subprocess
 import sys
@@ -16,16 +19,37 @@ WRITES_A_SECOND = 1_000
 # A request more would meet the end of the connection.
 REQUESTS_A_CONNECTION = 999
 LONGEST = 8
+# How the reply to a request that was done begins.
+DONE = b"HTTP/1.1 20"
 # The step of a publisher, which holds the desk's lock from its begin to its end.
 STEP = "publishing::publish_step::<"
 # A step that takes so many milliseconds copies a document of many instances.
 LONG_STEP = 1
 # A publisher begins a round each so many seconds behind the server's start, and is done a second later.
 ROUND_SECONDS = 30
+# As many as a server holds, with the one whose heartbeats wait.
+LEASES = 65_536
+# Of so many instances each, so that a server keeps the documents of no more secure vips than there are.
+OF_A_SECURE_VIP = 16
+# Leases run out where more than 85 of 100 of the heartbeats of a minute came, two of each instance.
+RENEWALS_A_SECOND = 2_200
+HEARTBEATS_A_SECOND = 1_000
+# A minute is closed and leases run out each so many seconds behind the server's start. The first closing may
+# come behind the first run, so that leases run out at the second at the latest.
+EXPIRY_SECONDS = 60
+EXPIRIES = 2
+SECURE_VIP_SECONDS = 10
 
 BODY = (
     '{"instance":{"instanceId":"i%d","hostName":"h%d","app":"APP%d","ipAddr":"10.0.0.1",'
     '"status":"UP","vipAddress":"v","dataCenterInfo":{"name":"MyOwn"}}}'
+)
+
+
+# An instance whose lease runs out a second behind its registration.
+SHORT_LEASE = (
+    '{"instance":{"instanceId":"i%d","hostName":"h%d","app":"APP%d","ipAddr":"10.0.0.1","status":"UP",'
+    '"secureVipAddress":"s%d","leaseInfo":{"durationInSecs":1},"dataCenterInfo":{"name":"MyOwn"}}}'
 )
 
 
@@ -45,15 +69,8 @@ class Connection:
     def ask(self, method, path, body=""):
         """The seconds until the reply is there, whole."""
         self.ready()
-        text = "%s %s%s HTTP/1.1\r\nHost: a\r\nContent-Type: application/json\r\nContent-Length: %d\r\n\r\n%s" % (
-            method,
-            BASE,
-            path,
-            len(body),
-            body,
-        )
         begun = time.perf_counter()
-        self.socket.sendall(text.encode())
+        self.socket.sendall(request(method, path, body))
         self.read()
         return time.perf_counter() - begun
 
@@ -62,7 +79,7 @@ class Connection:
         while b"\r\n\r\n" not in came:
             came += self.more()
         head, rest = came.split(b"\r\n\r\n", 1)
-        if not head.startswith(b"HTTP/1.1 20"):
+        if not head.startswith(DONE):
             sys.exit(head.decode())
         for line in head.split(b"\r\n"):
             if line.lower().startswith(b"content-length:"):
@@ -75,6 +92,25 @@ class Connection:
         if not came:
             sys.exit("the server ended a connection")
         return came
+
+
+def request(method, path, body=""):
+    """The bytes of a request."""
+    head = "%s %s%s HTTP/1.1\r\nHost: a\r\nContent-Type: application/json\r\nContent-Length: %d\r\n\r\n"
+    return (head % (method, BASE, path, len(body)) + body).encode()
+
+
+def ask_all(requests):
+    """Sends requests that have no document, at most as many as a connection takes, before any reply is read."""
+    with socket.create_connection(("127.0.0.1", PORT)) as one:
+        one.sendall(b"".join(requests))
+        left, cut = len(requests), b""
+        while left > 0:
+            came = one.recv(1 << 20)
+            if not came:
+                sys.exit("the server ended a connection")
+            left -= (cut + came).count(DONE)
+            cut = (cut + came)[1 - len(DONE) :]
 
 
 def change(number):
@@ -120,6 +156,80 @@ class Waits:
 
 def is_in_round(at):
     return (at + 0.5) % ROUND_SECONDS < 1.5 and at > 1
+
+
+def short_lease(number):
+    """The registration of an instance whose lease runs out at once."""
+    app = number % APPS
+    return request("POST", "/apps/APP%d" % app, SHORT_LEASE % (number, number, app, number // OF_A_SECURE_VIP))
+
+
+def in_pieces(requests):
+    """Lists of at most as many as a connection takes."""
+    return [requests[i : i + REQUESTS_A_CONNECTION] for i in range(0, len(requests), REQUESTS_A_CONNECTION)]
+
+
+def renew(until):
+    """Heartbeats of the one instance that keeps its lease, so many that leases of others may run out."""
+    begun, done = time.time(), 0
+    while time.time() < until:
+        if done > (time.time() - begun) * RENEWALS_A_SECOND:
+            time.sleep(0.01)
+            continue
+        ask_all([request("PUT", "/apps/APP0/kept")] * REQUESTS_A_CONNECTION)
+        done += REQUESTS_A_CONNECTION
+
+
+def ask_secure_vips(until):
+    """Asks for one secure vip after another, none of which was asked for before."""
+    connection = Connection()
+    for number in range(LEASES // OF_A_SECURE_VIP):
+        if time.time() >= until:
+            return
+        connection.ask("GET", "/svips/s%d" % number)
+
+
+def beat(waits, start, until):
+    """Heartbeats up to a second behind the start."""
+    begun, done = time.perf_counter(), 0
+    while time.perf_counter() < start + until:
+        if done > (time.perf_counter() - begun) * HEARTBEATS_A_SECOND:
+            time.sleep(0.0002)
+            continue
+        waits.ask(time.perf_counter() - start, "PUT", "/apps/APP0/kept")
+        done += 1
+
+
+def held():
+    """How many instances there are, by the hash code of all apps."""
+    with socket.create_connection(("127.0.0.1", PORT)) as one:
+        one.sendall(request("GET", "/apps"))
+        came = b""
+        while True:
+            came += one.recv(1 << 20)
+            found = re.search(rb'"apps__hashcode":"UP_(\d+)_"', came)
+            if found:
+                return int(found.group(1))
+
+
+def measure_leases(start):
+    """The waits of heartbeats while secure vips are asked for, and while leases run out."""
+    ask_all([request("POST", "/apps/APP0", BODY.replace("i%d", "kept") % (0, 0))])
+    for piece in in_pieces([short_lease(number) for number in range(LEASES - 1)]):
+        ask_all(piece)
+    last = EXPIRIES * EXPIRY_SECONDS + 5
+    ends = time.time() + last - (time.perf_counter() - start)
+    renewing = multiprocessing.Process(target=renew, args=(ends,), daemon=True)
+    renewing.start()
+    beside_vips, beside_leases = Waits("heartbeats beside secure vips"), Waits("heartbeats beside leases")
+    asking = multiprocessing.Process(target=ask_secure_vips, args=(time.time() + SECURE_VIP_SECONDS,), daemon=True)
+    asking.start()
+    beat(beside_vips, start, time.perf_counter() - start + SECURE_VIP_SECONDS)
+    asking.join()
+    beat(beside_leases, start, last)
+    renewing.join()
+    print("of %d instances %d are left" % (LEASES, held()))
+    return beside_vips, beside_leases
 
 
 def measure(seconds):
@@ -169,18 +279,26 @@ def show_holds(calls):
         )
 
 
+def served(program, work):
+    """What comes of some work beside a server, which is ended behind it."""
+    server = subprocess.Popen([program, "serve", "--port", str(PORT)], stdout=subprocess.PIPE)
+    try:
+        if not server.stdout.readline().startswith(b"listening"):
+            sys.exit("the server doesn't listen")
+        return work()
+    finally:
+        server.kill()
+        server.wait()
+
+
 def main():
     program = sys.argv[1]
     seconds = float(sys.argv[3]) if len(sys.argv) > 3 else 70
     holds = holds_of(program)
-    server = subprocess.Popen([program, "serve", "--port", str(PORT)], stdout=subprocess.PIPE)
     calls = []
     try:
-        if not server.stdout.readline().startswith(b"listening"):
-            sys.exit("the server doesn't listen")
-        changes, looks = measure(seconds)
+        changes, looks = served(program, lambda: measure(seconds))
     finally:
-        server.kill()
         if holds:
             calls = holds.close()
     for waits in (changes, looks):
@@ -190,6 +308,10 @@ def main():
         % (changes.longest_in_rounds(), looks.longest_in_rounds())
     )
     show_holds(calls)
+    start = time.perf_counter()
+    for waits in served(program, lambda: measure_leases(start)):
+        waits.show()
 
 
-main()
+if __name__ == "__main__":
+    main()
