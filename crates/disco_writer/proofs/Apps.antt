@@ -1,13 +1,10 @@
 -- What is gone through app by app is what the places show by key.
-use Rattle.std.proofs.Common.{◌≡◌, ℕ, Bool, List, [], ◌∷◌, ◌++◌, filter, Option, map, option_map, refl, sym, ap, ◌∙◌, append_assoc}
-use Rattle.std.proofs.lemmas.List.Elements.{filter-append, filter_map-append}
+use Rattle.std.proofs.Common.{◌≡◌, ℕ, List, [], ◌∷◌, ◌++◌, Option, map, option_map, refl, sym, ap, ◌∙◌, append_assoc}
+use Rattle.std.proofs.lemmas.List.Elements.{filter_map-append}
 use Rattle.std.specs.FinMap.{entries}
 use Rattle.std.specs.List.{cons_option, filter_map}
 use Rattle.disco_values.specs.declared.key.Key.{Key}
-use Rattle.disco_history.specs.Change.{Entry}
-use Rattle.disco_history.specs.Held.{entry_of}
 use Rattle.disco_history.specs.Places.{filled}
-use Rattle.disco_history.specs.declared.held.Held.{Held}
 use Rattle.disco_places.specs.KeyMaps.{ById, of_app, of_apps}
 use Rattle.disco_writer.specs.InOrder.{keyed_ids}
 use Rattle.disco_writer.specs.Joined.{Shown, walked, walked_ids}
@@ -45,23 +42,4 @@ keyed_more list new a rest before all is whole more =
     ∙ append_assoc list (keyed_ids a.0 (entries a.1)) (filled (λ t. t) (of_apps rest))
     ∙ ap (λ l. list ++ l) (sym (filter_map-append (λ (e : Key × Option Text). option_map (λ t. (e.0, t)) e.1) (of_app a) (of_apps rest) ∙ ap (λ l. l ++ filled (λ t. t) (of_apps rest)) (keyed_in a.0 (entries a.1))))
     ∙ ap (λ b. list ++ filled (λ t. t) (of_apps b)) (sym is)
-    ∙ whole
-
--- ---- the records of one app more, of those that pass a test
-
-shown_in : (a : Text) (es : List (Text × Option Held)) → filter_map (λ (e : Key × Option Held). option_map entry_of e.1) (map (λ e. (record { app = a; id = e.0 }, e.1)) es) ≡ filter_map (λ (e : Text × Option Held). option_map entry_of e.1) es
-shown_in a [] = refl
-shown_in a (e ∷ es) = ap (cons_option (option_map entry_of e.1)) (shown_in a es)
-
-pub held_more : (P : Entry → Bool) (list new : List Entry) (a : Text × ById (Option Held)) (rest before : List (Text × ById (Option Held))) (all : List Entry) → before ≡ a ∷ rest
-    → list ++ filter P (filter_map (λ (e : Key × Option Held). option_map entry_of e.1) (of_apps before)) ≡ all
-    → new ≡ list ++ filter P (filter_map (λ (e : Text × Option Held). option_map entry_of e.1) (entries a.1))
-    → new ++ filter P (filter_map (λ (e : Key × Option Held). option_map entry_of e.1) (of_apps rest)) ≡ all
-held_more P list new a rest before all is whole more =
-    let shown : List (Key × Option Held) → List Entry = filter_map (λ (e : Key × Option Held). option_map entry_of e.1) in
-    let here = filter_map (λ (e : Text × Option Held). option_map entry_of e.1) (entries a.1) in
-    ap (λ l. l ++ filter P (shown (of_apps rest))) more
-    ∙ append_assoc list (filter P here) (filter P (shown (of_apps rest)))
-    ∙ ap (λ l. list ++ l) (sym (ap (filter P) (filter_map-append (λ (e : Key × Option Held). option_map entry_of e.1) (of_app a) (of_apps rest) ∙ ap (λ l. l ++ shown (of_apps rest)) (shown_in a.0 (entries a.1))) ∙ filter-append P here (shown (of_apps rest))))
-    ∙ ap (λ b. list ++ filter P (shown (of_apps b))) (sym is)
     ∙ whole

@@ -65,7 +65,7 @@ pub fn write_document(
         Query::Delta => Ok(Some(write_delta(room, form, registry, queue, counts, texts)?)),
         Query::App(name) => write_app(room, form, registry, texts, name),
         Query::Vip(vip) => write_vip(room, form, registry, vips, texts, vip),
-        Query::Svip(svip) => write_svip(room, form, registry, texts, svip),
+        Query::Svip(svip) => write_svip(room, form, registry, vips, texts, svip),
         Query::Instance(key) => write_instance(*room.allocator(), form, registry, texts, key),
     }
 }
@@ -185,15 +185,17 @@ fn write_svip(
     room: Vec<u8>,
     form: Form,
     registry: &Registry,
+    vips: &VipIndex,
     texts: &Texts,
     svip: &Text,
 ) -> Result<Option<Vec<u8>>, Fault>
-    requires { AreKept form texts.now registry.now.held }
+    requires index { IsIndexOf vips.now registry.now.held }
+    requires kept { AreKept form texts.now registry.now.held }
     ensures written { IfOk result (λ o. (h : List Entry) → StandsFor registry.now h
         → IsWritten form (query.Svip svip.now) h (length h) (option_map (λ v. v.items) o)) }
     ensures memory { IfErr result (λ e. e ≡ OutOfMemory) }
 {
-    let held = held_under_svip(*room.allocator(), registry, svip)?;
+    let held = held_under_svip(*room.allocator(), registry, vips, svip)?;
     Ok(write_some(room, form, texts, held.as_slice(), registry.version())?)
 }
 

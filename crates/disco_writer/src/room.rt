@@ -102,7 +102,7 @@ pub fn room_for(
             room_of_held(alloc, form, texts, held.as_slice())
         }
         Query::Svip(svip) => {
-            let held = held_under_svip(alloc, registry, svip).ok()?;
+            let held = held_under_svip(alloc, registry, vips, svip).ok()?;
             room_of_held(alloc, form, texts, held.as_slice())
         }
         Query::Instance(_) => None,
