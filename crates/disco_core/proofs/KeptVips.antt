@@ -10,22 +10,23 @@ use Rattle.disco_values.specs.declared.action.Action.{Action}
 use Rattle.disco_values.specs.declared.action.Action.TheVariants.{Added, Modified, Deleted}
 use Rattle.disco_values.specs.declared.key.Key.{Key}
 use Rattle.disco_history.specs.Change.{Entry, key_of}
-use Rattle.disco_history.specs.Query.{asks_for, of_vip, vips}
+use Rattle.disco_history.specs.Query.{asks_for, vips}
 use Rattle.disco_history.specs.Registry.{put_of}
 use Rattle.disco_history.proofs.Keys.{keys_total, same_is}
-use Rattle.disco_index.specs.Vips.{HasPlaces, IsIndexOf, VipKeys, entry_has, has, place_at}
+use Rattle.disco_index.specs.Vips.{HasPlaces, IsIndexOf, Vip, VipKeys, asked, entry_has, has, place_at, plain, secure}
 use Rattle.disco_registry.specs.Commit.{held_after}
-use Rattle.disco_core.specs.Moves.{OthersStay, VipsStay}
+use Rattle.disco_core.specs.Moves.{HasVipsOf, OthersStay, VipsStay}
 use Rattle.disco_core.specs.State.{HasVipPlaces, IsSwept}
 
-same_asked : (q : List ℕ) (c d : Entry) → c.0.vip_address ≡ d.0.vip_address → asks_for (of_vip q) c.0 ≡ asks_for (of_vip q) d.0
-same_asked q c d same = ap (λ (a : List ℕ). list_any (bytes_eq q) (vips a)) same
+same_asked : (q : Vip) (c d : Row) → HasVipsOf d c → asks_for (asked q) c ≡ asks_for (asked q) d
+same_asked (plain q) c d same = ap (λ (a : List ℕ). list_any (bytes_eq q) (vips a)) same.0
+same_asked (secure q) c d same = ap (λ (a : List ℕ). list_any (bytes_eq q) (vips a)) same.1
 
-put_same : (m : FinMap key_cmp Entry) (c d : Entry) (v : VipKeys) → IsIndexOf v m → get m (key_of c) ≡ Some d → c.0.vip_address ≡ d.0.vip_address → IsIndexOf v (insert m (key_of c) c)
+put_same : (m : FinMap key_cmp Entry) (c d : Entry) (v : VipKeys) → IsIndexOf v m → get m (key_of c) ≡ Some d → HasVipsOf d.0 c.0 → IsIndexOf v (insert m (key_of c) c)
 put_same m c d v is there same q p = is q p ∙ one (same_key p (key_of c)) refl ∙ sym (ap (entry_has q) (get-insert keys_total m (key_of c) c p))
   where
     one : (b : Bool) → same_key p (key_of c) ≡ b → entry_has q (get m p) ≡ entry_has q (cond b (Some c) (get m p))
-    one true at = ap (entry_has q) (ap (get m) (same_is p (key_of c) at) ∙ there) ∙ sym (same_asked q c d same)
+    one true at = ap (entry_has q) (ap (get m) (same_is p (key_of c) at) ∙ there) ∙ sym (same_asked q c.0 d.0 same)
     one false at = refl
 
 -- where what is put has the vips of what is held, the index is that of what is held then
@@ -59,10 +60,10 @@ placed : (o : Option Bool) → unwrap_or o false ≡ true → IsSome o
 placed (Some b) e = refl
 placed None e = absurd (cc)
 
-put_placed : (m : FinMap key_cmp Entry) (c d : Entry) (v : VipKeys) → IsIndexOf v m → get m (key_of c) ≡ Some d → c.0.vip_address ≡ d.0.vip_address → HasPlaces v c.0
+put_placed : (m : FinMap key_cmp Entry) (c d : Entry) (v : VipKeys) → IsIndexOf v m → get m (key_of c) ≡ Some d → HasVipsOf d.0 c.0 → HasPlaces v c.0
 put_placed m c d v is there same = λ q p under.
     let at : p ≡ key_of c = same_is p (key_of c) (right _ _ under) in
-    let here : entry_has q (get m p) ≡ true = ap (λ x. entry_has q (get m x)) at ∙ ap (entry_has q) there ∙ sym (same_asked q c d same) ∙ left _ _ under in
+    let here : entry_has q (get m p) ≡ true = ap (λ x. entry_has q (get m x)) at ∙ ap (entry_has q) there ∙ sym (same_asked q c.0 d.0 same) ∙ left _ _ under in
     placed (place_at v q p) (is q p ∙ here)
 
 -- where what is put has the vips of what is held, there are places for it

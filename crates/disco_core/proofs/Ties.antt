@@ -14,7 +14,7 @@ use Rattle.disco_history.proofs.Sets.{said_nil}
 use Rattle.disco_index.specs.Tally.{Tally, tally_in, tally_of}
 use Rattle.disco_index.proofs.Changes.{empty_law}
 use Rattle.disco_index.proofs.VipLaws.{gone_vips_law, no_vips_law, put_vips_law, same_vips_law}
-use Rattle.disco_index.specs.Vips.{IsIndexOf, VipKeys}
+use Rattle.disco_index.specs.Vips.{IsIndexOf, VipKeys, no_vips}
 use Rattle.disco_index.specs.Vips as vips
 use Rattle.disco_lease.specs.Leases as leases
 use Rattle.disco_lease.specs.Leases.{Lease, Leases, Sets, extended, lease_at, marked, no_leases}
@@ -43,12 +43,12 @@ entry_lasts o = rows_last (option_map (λ e. e.0) o)
 
 -- ---- a new world
 
-pub tied_new : (s : RegistryState) (t : Tally) (i : VipKeys) (v : Leases) (q : Queue) (w : KeptTexts) → StandsFor s [] → t ≡ tally_of [] → i ≡ empty → v ≡ no_leases → KeepsHistory q [] → w ≡ none_written → IsTied s t i v q w
+pub tied_new : (s : RegistryState) (t : Tally) (i : VipKeys) (v : Leases) (q : Queue) (w : KeptTexts) → StandsFor s [] → t ≡ tally_of [] → i ≡ no_vips → v ≡ no_leases → KeepsHistory q [] → w ≡ none_written → IsTied s t i v q w
 tied_new s t i v q w stands ts is vs keeps none =
     let held : s.held ≡ empty = stands.held ∙ said_nil in
     record {
       counts = ts ∙ sym empty_law ∙ ap tally_in (sym held);
-      indexed = subst (λ x. IsIndexOf x s.held) (sym is) (subst (λ m. IsIndexOf empty m) (sym held) no_vips_law);
+      indexed = subst (λ x. IsIndexOf x s.held) (sym is) (subst (λ m. IsIndexOf no_vips m) (sym held) no_vips_law);
       leased = λ k.
           ap (λ x. lasts (lease_at x k)) vs ∙ ap (λ o. lasts (option_flatten o)) (get-empty key_cmp k)
           ∙ sym (ap (λ m. rows_last (record_at m k)) held ∙ ap entry_lasts (get-empty key_cmp k));

@@ -2,6 +2,7 @@
 use Rattle.std.specs.Prelude.{◌≡◌, ℕ, Bool, if◌then◌else◌, Option, Some, None, IsSome, option_map}
 use Rattle.disco_values.specs.declared.action.Action.TheVariants.{Added, Modified, Deleted}
 use Rattle.disco_values.specs.declared.key.Key.{Key}
+use Rattle.disco_instance.specs.Row.{Row}
 use Rattle.disco_history.specs.Change.{Entry, key_of}
 use Rattle.disco_index.specs.Vips.{KeepsOtherVips, VipKeys}
 use Rattle.disco_lease.specs.Leases.{Lease, Leases, Sets, counted, extended, lease_at, marked}
@@ -38,8 +39,12 @@ abbrev pub OthersStay : Option Entry → VipKeys → VipKeys → Type 0
 OthersStay None old new = old ≡ new
 OthersStay (Some e) old new = KeepsOtherVips e.0 old new
 
--- what is put has the vips of what is held
+-- one row has the vips and the secure vips of the other
+abbrev pub HasVipsOf : Row → Row → Type 0
+HasVipsOf d c = (c.vip_address ≡ d.vip_address) × (c.secure_vip_address ≡ d.secure_vip_address)
+
+-- what is put has the vips and the secure vips of what is held
 abbrev pub VipsStay : Option Entry → Option Entry → Type 0
 VipsStay None c = ⊥
 VipsStay (Some d) None = ⊥
-VipsStay (Some d) (Some c) = c.0.vip_address ≡ d.0.vip_address
+VipsStay (Some d) (Some c) = HasVipsOf d.0 c.0

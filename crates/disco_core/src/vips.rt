@@ -2,16 +2,18 @@
 ghost use Rattle.std.specs.Prelude.{◌≡◌, IfErr, IsTrue, OnOk, Some, option_map};
 ghost use Rattle.std.specs.FinMap.{get};
 ghost use Rattle.disco_values.specs.declared.fault.Fault.TheVariants.{OutOfMemory};
+ghost use Rattle.disco_instance.specs.Row.{row};
 ghost use Rattle.disco_history.specs.Change.{key_of, change_view};
 ghost use Rattle.disco_history.specs.Held.{entry_of};
 ghost use Rattle.disco_history.specs.Registry.{put_of};
 ghost use Rattle.disco_index.specs.Vips.{IsIndexOf, IsSameVips, KeepsVipPlaces, RemovesAny};
 ghost use Rattle.disco_registry.specs.Commit.{held_after};
-ghost use Rattle.disco_core.specs.Moves.{OthersStay, VipsStay};
+ghost use Rattle.disco_core.specs.Moves.{HasVipsOf, OthersStay, VipsStay};
 ghost use Rattle.disco_core.specs.State.{AddsAny, HasVipPlaces, IsSwept};
 
 use disco_history::{Change, Held};
 use disco_index::VipIndex;
+use disco_instance::Record;
 use disco_registry::Registry;
 use disco_values::{Action, Fault};
 
@@ -86,6 +88,14 @@ fn sweep(vips: &mut VipIndex, held: Option<&Held>)
     }
 }
 
+/// Whether two records have the same vips and the same secure vips.
+fn same_vips(held: &Record, rec: &Record) -> bool
+    ensures { IsTrue result → HasVipsOf (row held.now) (row rec.now) }
+{
+    held.details.vip_address == rec.details.vip_address
+        && held.details.secure_vip_address == rec.details.secure_vip_address
+}
+
 /// Whether a change puts a record with the vips of the held one.
 fn stay(held: Option<&Held>, change: &Change) -> bool
     ensures { IsTrue result → VipsStay (option_map (λ h. entry_of h.now) held.entry) (put_of (change_view change.now)) }
@@ -97,7 +107,7 @@ fn stay(held: Option<&Held>, change: &Change) -> bool
                 action: Action::Added | Action::Modified,
                 rec,
             },
-        ) => held.rec.details.vip_address == rec.details.vip_address,
+        ) => same_vips(&held.rec, rec),
         _ => false,
     }
 }
