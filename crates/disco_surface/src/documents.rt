@@ -1,7 +1,7 @@
 //! Documents that are written, and kept.
 ghost use Rattle.std.specs.Prelude.{◌≡◌, []};
-ghost use Rattle.std.specs.FinMap.{empty};
 ghost use Rattle.disco_index.specs.Tally.{tally_of};
+ghost use Rattle.disco_index.specs.Vips.{no_vips};
 ghost use Rattle.disco_registry.specs.State.{StandsFor};
 ghost use Rattle.disco_writer.specs.Kept.{none_kept};
 
@@ -36,7 +36,7 @@ fn tell_apps(
     out: &mut String,
 ) -> Result<(), Fault>
     requires registry { StandsFor registry.now [] }
-    requires vips { vips.now ≡ empty }
+    requires vips { vips.now ≡ no_vips }
     requires counts { counts.now ≡ tally_of [] }
     requires texts { texts.now ≡ none_kept }
 {

@@ -74,6 +74,11 @@ fn tell_counts(alloc: Global, out: &mut String) -> Result<(), Fault> {
     tell_text(alloc, &counts, out)
 }
 
+fn say_secure(alloc: Global, vips: &VipIndex, out: &mut String) -> Result<(), Fault> {
+    let keys = vips.under_secure(alloc, "b")?;
+    say(out, "under secure vip b", keys.len() as u64)
+}
+
 fn tell_vips_of(
     alloc: Global,
     rec: &Record,
@@ -83,6 +88,7 @@ fn tell_vips_of(
     vips.ready(rec)?;
     vips.add(rec);
     say(out, "under vip b", vips.under(alloc, "b")?.len() as u64)?;
+    say_secure(alloc, vips, out)?;
     vips.take(rec);
     say(out, "then", vips.under(alloc, "b")?.len() as u64)
 }
