@@ -115,12 +115,13 @@ impl TextBuffer {
         Ok(())
     }
 
-    /// The text by itself.
+    /// The text by itself, with no more room than it fills.
     pub(crate) fn into_vec(self) -> Vec<u8>
         ensures { result.items ≡ self }
     {
         let TextBuffer { mut room, len } = self;
         room.truncate(len);
+        room.shrink_to_fit();
         room
     }
 }
