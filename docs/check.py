@@ -1,17 +1,18 @@
 """What `docs/check.sh` runs: whether what the pages name is there, and whether the generated pages are as their scripts write them."""
 
+import fnmatch
 import glob
 import os
 import re
-import subprocess
 import sys
 
 ROOT = os.path.dirname(os.path.dirname(os.path.abspath(__file__)))
 os.chdir(ROOT)
 sys.dont_write_bytecode = True
-sys.path[:0] = [os.path.join(ROOT, folder) for folder in ("docs", "docs/believe", "bench")]
+sys.path[:0] = [os.path.join(ROOT, folder) for folder in ("docs", "docs/believe", "bench", "samples")]
 
 import believe
+import certificates
 import crates
 import definitions
 import figures
@@ -20,6 +21,12 @@ GENERATED = ["docs/DEFINITIONS.md"] + ["docs/believe/%s.md" % name for name, _, 
 # Options of other programs than those of this repository: the kit's `rt`, and what stands in samples and examples.
 OTHERS = set("--allow-holes --anew --cases --data --init --jobs --only --start --seconds --help --check --path-as-is".split())
 ENDINGS = r"(?:rt|antt|md|sh|py|tsv|c|events|service|conf|cfg|txt|edit)"
+# Pages whose figures have to be in `bench/figures.tsv`, and units: those of any number in a block with a date, and those of measured numbers anywhere.
+WITH_FIGURES = ("README.md", "docs/OPERATING.md", "docs/PROVED.md")
+UNITS = {"seconds": "s", "second": "s", "minutes": "min", "minute": "min"}
+DATED = r"ms|µs|ns|s|seconds?|minutes?|min|[KMG]B|[KM]iB|in 100"
+MEASURED = r"ms|µs|ns|minutes?|min|[KMG]B"
+DATE = re.compile(r"\b\d{4}-\d\d-\d\d\b")
 findings = []
 
 
@@ -33,9 +40,16 @@ def found(path, line, text):
 
 
 def tracked():
-    """All files of the repository, also such as aren't committed yet."""
-    listed = subprocess.run(["git", "ls-files", "--cached", "--others", "--exclude-standard"], capture_output=True, text=True, check=True)
-    return [path for path in listed.stdout.split("\n") if path and os.path.exists(path)]
+    """All files of the repository but those that `.gitignore` leaves out."""
+    ignored, found_files = [".git/"] + read(".gitignore").split(), []
+    for folder, folders, names in os.walk("."):
+        folders[:] = [name for name in folders if not any(fnmatch.fnmatchcase(name + "/", one) for one in ignored)]
+        found_files += [
+            os.path.normpath(os.path.join(folder, name)).replace(os.sep, "/")
+            for name in names
+            if not any(fnmatch.fnmatchcase(name, one) for one in ignored)
+        ]
+    return sorted(found_files)
 
 
 def anchors(text):
@@ -162,12 +176,39 @@ def check_libraries():
                 findings.append("docs/PROVED.md: the library %s isn't among what is trusted" % name)
 
 
+def amounts(text, units):
+    """The numbers of a text with their units: of `0.8 and 1.3 ms` both. Dates don't count."""
+    for match in re.finditer(r"(?:\d[\d,.]*\d|\d)(?: (?:and|to) (?:\d[\d,.]*\d|\d))* (%s)(?!\w)" % units, DATE.sub("", text)):
+        unit = UNITS.get(match.group(1), match.group(1))
+        for number in re.findall(r"\d[\d,.]*\d|\d", match.group(0)[: -len(match.group(1))]):
+            yield number, unit
+
+
+def check_figures():
+    """Whether each number with a unit is the last figure of its kind, in paragraphs and tables with a date, and in a table behind such a paragraph."""
+    known = {amount for _, what, value, _, _ in figures.latest([]) for cell in (what, value) for amount in amounts(cell, DATED)}
+    for path in WITH_FIGURES:
+        line, dated_before = 1, False
+        for block in re.split(r"(\n\s*\n)", re.sub(r"`[^`\n]*`", "", without_code(read(path)))):
+            parts = block.split("\n") if re.match(r"\s*- ", block) else [block]
+            for at, part in enumerate(parts):
+                dated = bool(DATE.search(part)) or part.startswith("|") and dated_before
+                for number, unit in amounts(" ".join(part.split()), DATED if dated else MEASURED):
+                    if (number, unit) not in known:
+                        found(path, line + at, "no figure %s %s in bench/figures.tsv" % (number, unit))
+            if block.strip():
+                dated_before = bool(DATE.search(block))
+            line += block.count("\n")
+
+
 def check_generated():
     for script in (crates, definitions):
         sys.argv = [script.__name__, "--check"]
         said = script.main()
         if said:
             findings.append(said)
+    if certificates.text()[0] != read("samples/certificates.tsv"):
+        findings.append("samples/certificates.tsv isn't as samples/certificates.py writes it")
     made, marked, names_at = believe.definitions()
     for name, title, functions in believe.THEOREMS:
         roots = []
@@ -198,10 +239,11 @@ def main():
         if path == "discovery" or re.search(r"\.(?:rt|antt|sh|py|service|conf|cfg|edit)$", path) and path != "docs/check.py":
             check_mentions(path, read(path))
     check_libraries()
+    check_figures()
     check_generated()
     findings.extend(figures.faults())
     said = list(dict.fromkeys(findings))
-    print("\n".join(said + ["%d finding%s" % (len(said), "" if len(said) == 1 else "s")]))
+    print("\n".join(said + ["docs/check.py: %d finding%s" % (len(said), "" if len(said) == 1 else "s")]))
     return 1 if said else 0
 
 

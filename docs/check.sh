@@ -1,8 +1,15 @@
 #!/bin/sh
-# Looks over the pages, in seconds and without the kit: whether each file, crate, option, clause and link that
-# they name is there, whether the generated pages are as their scripts write them, and whether the rows of
-# `bench/figures.tsv` are in order. Prints a line a finding, and ends with 1 where there is one. Run it before
-# `rt ci`.
-set -u
+# Looks over the pages, in seconds and without the kit. It ends with 1 where a page names a file, a crate, an
+# option, a clause, a heading or a figure that isn't there, where a generated page isn't as its script writes
+# it, where a word of this repository is used before it is said, or where the sample of a certified client
+# fails. It prints a line a finding. It needs Python 3 and nothing else, and writes nothing.
+set -eu
 root=$(CDPATH='' cd -- "$(dirname -- "$0")/.." && pwd)
-exec python3 "$root/docs/check.py"
+run() {
+    python3 -E -B -X utf8 "$@" || status=1
+}
+status=0
+run "$root/docs/check.py"
+run "$root/docs/words.py" --quiet
+run "$root/samples/certified_test.py"
+exit "$status"

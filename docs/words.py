@@ -3,9 +3,9 @@
 These are the words of the second column of docs/GLOSSARY.md that aren't in backticks. Of each it prints the place
 where it is first said, which is where it stands in *italics*, and where it is first used. Code and the targets of
 links don't count. It ends with status 1 where a word is used before it is said, or where a word or a name of
-GLOSSARY stands neither in these pages nor in `specs/` or public names of the crates.
+GLOSSARY stands neither in these pages nor in `specs/` or public names of the crates. With `--quiet` it prints these alone.
 
-    python3 docs/words.py
+    python3 docs/words.py [--quiet]
 """
 
 import glob
@@ -82,7 +82,7 @@ def place_in_order(place):
 def main():
     words, names = glossary()
     pages = [(path, prose(read(path))) for path in PAGES]
-    known, listed, status = public(), [], 0
+    known, listed, status, quiet = public(), [], 0, "--quiet" in sys.argv[1:]
     for word in words:
         used = list(places(uses(word), pages))
         said = [place for place, is_said in used if is_said]
@@ -96,7 +96,8 @@ def main():
             print("GLOSSARY has a name that stands nowhere: %s" % name)
             status = 1
     for (used, is_said), said, word in sorted(listed, key=lambda it: place_in_order(it[0][0])):
-        print("%-24s said at %-22s used at %s%s" % (word, said, used, "" if is_said else "   USED BEFORE IT IS SAID"))
+        if not (quiet and is_said):
+            print("%-24s said at %-22s used at %s%s" % (word, said, used, "" if is_said else "   USED BEFORE IT IS SAID"))
         status = status or int(not is_said)
     return status
 

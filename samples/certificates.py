@@ -16,7 +16,7 @@ COLUMNS = ("row", "client", "query", "form", "certificate", "document", "answer"
 def parts_of(path):
     """The parts of a row by their headings: lists of lines. A part may have a file of its own."""
     parts, lines = {}, []
-    for line in path.read_text().split("\n"):
+    for line in path.read_text(encoding="utf-8").split("\n"):
         if line.startswith("== "):
             lines = parts.setdefault(line[3:], [])
         else:
@@ -24,7 +24,7 @@ def parts_of(path):
     for name in ("words", "events", "answers"):
         other = path.with_suffix("." + name)
         if name not in parts and other.exists():
-            parts[name] = other.read_text().split("\n")
+            parts[name] = other.read_text(encoding="utf-8").split("\n")
     return {name: [line for line in part if line] for name, part in parts.items()}
 
 
@@ -52,12 +52,18 @@ def vectors(path):
     return found
 
 
-def main():
-    rows = [path for path in sorted(ROWS.glob("*/*.row")) if "\ncertified " in path.read_text()]
+def text():
+    """The file as it has to be, with the numbers of its documents and of its rows."""
+    rows = [path for path in sorted(ROWS.glob("*/*.row")) if "\ncertified " in path.read_text(encoding="utf-8")]
     lines = [line for path in rows if "status" not in parts_of(path) for line in vectors(path)]
-    text = "".join("\t".join(line) + "\n" for line in [COLUMNS, *lines])
-    (HERE / "certificates.tsv").write_text(text)
-    print("%d documents of %d rows" % (len(lines), len({line[0] for line in lines})))
+    joined = "".join("\t".join(line) + "\n" for line in [COLUMNS, *lines])
+    return joined, len(lines), len({line[0] for line in lines})
+
+
+def main():
+    joined, documents, rows = text()
+    (HERE / "certificates.tsv").write_text(joined, encoding="utf-8")
+    print("%d documents of %d rows" % (documents, rows))
 
 
 if __name__ == "__main__":

@@ -86,7 +86,7 @@ def held_by(client):
 def of_vectors():
     """Each line of the file: what comes of its document, and the copy then."""
     clients = {}
-    for line in VECTORS.read_text().split("\n")[1:-1]:
+    for line in VECTORS.read_text(encoding="utf-8").split("\n")[1:-1]:
         row, number, query, form, cert, text, answer, copy = line.split("\t")
         client = clients.setdefault((row, number), Client(None))
         yield row, answer, answer_of(client, query, form, cert, text)
