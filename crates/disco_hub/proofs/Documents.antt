@@ -1,5 +1,5 @@
 -- What becomes of kept documents: those that a change doesn't name stay true.
-use Rattle.std.proofs.Common.{◌≡◌, ℕ, ◌≤◌, ◌==◌, ◌&&◌, ◌||◌, not, Bool, true, false, cond, List, [], ◌∷◌, ◌++◌, ◌⊎◌, inl, inr, Option, Some, None, option_map, is_some, nat_lt, Result, Ok, Err, IfOk, IfSome, OnErr, refl, sym, ap, subst, ◌∙◌, arith}
+use Rattle.std.proofs.Common.{◌≡◌, ℕ, ◌≤◌, ◌==◌, ◌&&◌, ◌||◌, not, Bool, true, false, cond, List, [], ◌∷◌, ◌++◌, ◌⊎◌, inl, inr, Option, Some, None, option_map, is_some, nat_lt, Result, Ok, Err, IfOk, OnErr, refl, sym, ap, subst, ◌∙◌, arith}
 use borrow.Author.Tests.{ltb-true}
 use Rattle.std.proofs.lemmas.List.{length-append, map-append, take-append-le}
 use Rattle.std.proofs.lemmas.Option.{same_Some}
@@ -39,7 +39,7 @@ use Rattle.disco_values.proofs.Orders.{docs_total, exact_docs}
 use Rattle.disco_core.specs.Past.{Past, history, with_done}
 use Rattle.disco_core.specs.Refusals.{refusal_of}
 use Rattle.disco_core.specs.State as core
-use Rattle.disco_hub.specs.Kept.{Forgets, IsAsKept, Keeps, KeepsAtMost}
+use Rattle.disco_hub.specs.Kept.{Forgets, IsAsKept, IsKeptOrNew, Keeps, KeepsAtMost}
 use Rattle.disco_hub.specs.State.{AreServable, MayServe, is_cached}
 
 -- ---- a change that doesn't name a document
@@ -225,12 +225,13 @@ cached_on on (query.Vip vip) is deltas = refl
 cached_on on (query.Svip vip) is deltas = refl
 cached_on on (query.Instance key) is deltas = absurd (cc)
 
--- a document is as it is kept, or none is kept
-pub is_as_kept : (s : Docs) (k : DocKey) (d e : Payload) → get s.docs k ≡ Some e → d ≡ e → IsAsKept s k d
-is_as_kept s k d e is same = subst (λ (o : Option Payload). IfSome o (λ e. d ≡ e)) (sym is) same
+-- a document is as it is kept, or none is kept and it is of now
+module _ (version base : ℕ) (s : Docs) (k : DocKey) (d : Payload) where
+  pub is_as_kept : (e : Payload) → get s.docs k ≡ Some e → d ≡ e → IsAsKept version base s k d
+  is_as_kept e is same = subst (λ o. IsKeptOrNew version base o d) (sym is) same
 
-pub is_not_kept : (s : Docs) (k : DocKey) (d : Payload) → get s.docs k ≡ None → IsAsKept s k d
-is_not_kept s k d none = subst (λ (o : Option Payload). IfSome o (λ e. d ≡ e)) (sym none) tt
+  pub is_new : get s.docs k ≡ None → d.version ≡ version → (is_delta d.key.query ≡ true → d.base ≡ base) → IsAsKept version base s k d
+  is_new none of from = subst (λ o. IsKeptOrNew version base o d) (sym none) (of, from)
 
 -- a kept document isn't refused
 pub allowed : (run : ℕ) (on : Bool) (q : Query) (h : List Entry) (d : Payload) → d.key.query ≡ q → IsTrue run d h → (is_delta q ≡ true → on ≡ true) → refusal_of on q h ≡ None

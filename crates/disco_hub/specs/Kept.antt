@@ -1,11 +1,12 @@
 -- What calls do to kept documents.
-use Rattle.std.specs.Prelude.{◌≡◌, ◌<◌, ◌⊎◌, Bool, true, Option, Some, None, IfSome}
+use Rattle.std.specs.Prelude.{◌≡◌, ◌<◌, ◌⊎◌, ℕ, Bool, true, Option, Some, None}
 use Rattle.std.specs.FinMap.{get, insert, len}
 use Rattle.disco_instance.specs.Row.{Row}
 use Rattle.disco_values.specs.declared.key.Key.{Key}
 use Rattle.disco_history.specs.Change.{Entry, key_of}
 use Rattle.disco_history.specs.Query.{is_named}
 use Rattle.disco_wire.specs.Documents.{asked_by}
+use Rattle.disco_values.specs.Query.{is_delta}
 use Rattle.disco_cache.specs.Docs.{Docs, Drops}
 use Rattle.disco_values.specs.declared.doc_key.DocKey.{DocKey}
 use Rattle.disco_cache.specs.declared.payload.Payload.{Payload}
@@ -29,11 +30,16 @@ pub record Keeps (on : Bool) (d : Payload) (old new : Docs) : Type 0 where
 abbrev pub KeepsAtMost : Bool → Payload → Docs → Docs → Type 0
 KeepsAtMost on d old new = (new ≡ old) ⊎ Keeps on d old new
 
--- the document of a key is given as it is kept, where it is kept
-abbrev pub IsAsKept : Docs → DocKey → Payload → Type 0
-IsAsKept s k d = IfSome (get s.docs k) (λ e. d ≡ e)
+-- a document is the kept one, or where none is kept it is of this version, a delta from this base
+abbrev pub IsKeptOrNew : ℕ → ℕ → Option Payload → Payload → Type 0
+IsKeptOrNew version base (Some e) d = d ≡ e
+IsKeptOrNew version base None d = (d.version ≡ version) × (is_delta d.key.query ≡ true → d.base ≡ base)
+
+-- the document of a key is so, by what is kept
+abbrev pub IsAsKept : ℕ → ℕ → Docs → DocKey → Payload → Type 0
+IsAsKept version base s k d = IsKeptOrNew version base (get s.docs k) d
 
 -- and so is what is copied of it
-abbrev pub IsCopiedAsKept : Docs → DocKey → Copied → Type 0
-IsCopiedAsKept s k (Doc d) = IsAsKept s k d.value
-IsCopiedAsKept s k (Drop j) = get s.docs k ≡ None
+abbrev pub IsCopiedAsKept : ℕ → ℕ → Docs → DocKey → Copied → Type 0
+IsCopiedAsKept version base s k (Doc d) = IsAsKept version base s k d.value
+IsCopiedAsKept version base s k (Drop j) = get s.docs k ≡ None

@@ -17,7 +17,7 @@ use Rattle.disco_hub.specs.declared.copied.Copied.{Copied}
 use Rattle.disco_core.specs.Past.{Past, cleaned, history, minute_closed, with_done}
 use Rattle.disco_core.specs.Refusals.{doc_of_id, refusal_of, refusal_of_id}
 use Rattle.disco_hub.specs.Kept.{Forgets, IsAsKept, IsCopiedAsKept, KeepsAtMost}
-use Rattle.disco_hub.specs.State.{IsCopied, MayServe, HubState, HubStandsFor, open_round, rules_of}
+use Rattle.disco_hub.specs.State.{IsCopied, MayServe, HubState, HubStandsFor, open_round, rules_of, version_of}
 
 -- ---- operations
 
@@ -78,9 +78,9 @@ pub record IsDocOfId (s : HubState) (id : List ℕ) (f : Form) (d : Payload) : T
 abbrev pub WithholdsId : HubState → List ℕ → Fault → Type 0
 WithholdsId s id e = e ≢ OutOfMemory → (p : Past) → HubStandsFor s p → refusal_of_id id (history p) ≡ Some e
 
--- a load of a key gives this document, as it is kept where it is kept, keeps it at most, and moves nothing else
+-- a load of a key gives this document, as it is kept where it is kept and else of now, keeps it at most, and moves nothing else
 pub record Loads (old new : HubState) (k : DocKey) (d : Payload) : Type 0 where
-  pub as_kept : IsAsKept old.docs k d
+  pub as_kept : IsAsKept (version_of old) old.core.queue.base old.docs k d
   pub keeps : KeepsAtMost old.core.delta d old.docs new.docs
   pub history : (p : Past) → HubStandsFor old p → HubStandsFor new p
   pub rest : new ≡ record old { docs = new.docs }
@@ -100,10 +100,10 @@ pub record BeginsRound (old new : HubState) (n : ℕ) : Type 0 where
 abbrev pub RefusesRound : HubState → Fault → Type 0
 RefusesRound s e = e ≢ OutOfMemory → (e ≡ RoundOpen) × (open_round s ≢ None)
 
--- what is copied is of the first key that is left of the open round, and as it is kept where it is kept
+-- what is copied is of the first key that is left of the open round, and as it is kept where it is kept and else of now
 pub record IsNextCopy (s : HubState) (c : Copied) : Type 0 where
   pub copied : (p : Past) → HubStandsFor s p → IfSome (open_round s) (λ r. IfSome (slice_get r.left 0) (λ k. IsCopied k c p))
-  pub as_kept : IfSome (open_round s) (λ r. IfSome (slice_get r.left 0) (λ k. IsCopiedAsKept s.docs k c))
+  pub as_kept : IfSome (open_round s) (λ r. IfSome (slice_get r.left 0) (λ k. IsCopiedAsKept (version_of s) s.core.queue.base s.docs k c))
 
 -- the first key that is left is copied, and kept where it has a document
 pub record CopiesOne (old new : HubState) (c : Copied) : Type 0 where

@@ -308,7 +308,7 @@ impl Hub {
     /// What a copy of a key gives.
     fn copied(&self, key: &DocKey, room: Vec<u8>) -> Result<Copied, Fault>
         ensures copied { IfOk result (λ c. (p : Past) → HubStandsFor self.now p → IsCopied key.now c p) }
-        ensures as_kept { IfOk result (IsCopiedAsKept self.now.docs key.now) }
+        ensures as_kept { IfOk result (IsCopiedAsKept (version_of self.now) self.now.core.queue.base self.now.docs key.now) }
         ensures memory { IfErr result (λ e. e ≡ OutOfMemory) }
     {
         if let Some(doc) = self.cache.get(key) {

@@ -18,7 +18,7 @@ use Rattle.disco_hub.specs.Levels.{AreLevels}
 use Rattle.disco_hub.specs.Press.{Edition, change, edition_of, is_doc, key_of_copy}
 use Rattle.disco_hub.specs.Rounds.{KeySet, Round, Rounds, StaysOpen, round_keys}
 use Rattle.disco_hub.specs.Kept.{IsCopiedAsKept}
-use Rattle.disco_hub.specs.State.{IsCopied, HubState, HubStandsFor, rules_of}
+use Rattle.disco_hub.specs.State.{IsCopied, HubState, HubStandsFor, rules_of, version_of}
 use Rattle.disco_hub.specs.Transitions.{BeginsRound, EndsRound}
 use Rattle.disco_hub.specs.declared.copied.Copied.{Copied}
 use Rattle.disco_hub.specs.declared.copied.Copied.TheVariants as copied
@@ -130,9 +130,15 @@ module _ (old new : CacheLevels) (w : World) (was : AreLevelsOf old w) where
   both_in P Q R None f p q = tt
   both_in P Q R (Some r) f p q = both_of P Q R (slice_get r.left 0) f p q
 
+  -- what is copied of the first key that is left, by a version and a base
+  abbrev CopiedBy : HubState → Copied → ℕ → ℕ → Type 0
+  CopiedBy h c version base = IfSome h.rounds.round (λ r. IfSome (slice_get r.left 0) (λ k. IsCopiedAsKept version base h.docs k c))
+
   next_is : (h : HubState) (c : Copied) → ((p : Past) → HubStandsFor h p → IfSome h.rounds.round (λ r. IfSome (slice_get r.left 0) (λ k. IsCopied k c p))) → (p : Past) → HubStandsFor h p
-      → IfSome h.rounds.round (λ r. IfSome (slice_get r.left 0) (λ k. IsCopiedAsKept h.docs k c)) → IsNext (cache_of h) c
-  next_is h c copied p stands kept = both_in (λ k. IsCopied k c p) (λ k. IsCopiedAsKept h.docs k c) (λ k. key_of_copy c ≡ k) h.rounds.round (λ k it. key_is c k p it) (copied p stands) kept
+      → CopiedBy h c (version_of h) h.core.queue.base → IsNext p (cache_of h) c
+  next_is h c copied p stands kept =
+      let by_past = subst (λ n. CopiedBy h c n p.base) stands.core.registry.version (subst (λ b. CopiedBy h c (version_of h) b) stands.core.queue.base kept) in
+      both_in (λ k. IsCopied k c p) (λ k. IsCopiedAsKept (length (history p)) p.base h.docs k c) (λ k. key_of_copy c ≡ k) h.rounds.round (λ k it. key_is c k p it) (copied p stands) by_past
 
   pub copied_turns : (c : Copied) → Copies old new c → IsAnswer (rules_of old.hub) w copies (reply.Copied c) × AreLevelsOf new (after (rules_of old.hub) w copies (reply.Copied c)) × Caches (rules_of old.hub) w.past copies (reply.Copied c) (cache_of old.hub) (cache_of new.hub)
   copied_turns c is =

@@ -7,7 +7,7 @@ use Rattle.disco_values.specs.declared.fault.Fault.TheVariants.{OutOfMemory}
 use Rattle.disco_history.specs.Change.{Entry}
 use Rattle.disco_core.specs.Past.{Past, after_ask, history, with_done}
 use Rattle.disco_core.specs.State.{Rules}
-use Rattle.disco_hub.specs.State.{HubState, HubStandsFor, rules_of}
+use Rattle.disco_hub.specs.State.{HubState, HubStandsFor, rules_of, version_of}
 use Rattle.disco_hub.specs.Transitions.{Declines, IsDocOf, Loads, Withholds, Writes}
 use Rattle.disco_values.specs.declared.doc_key.DocKey.{DocKey}
 use Rattle.disco_cache.specs.declared.payload.Payload.{Payload}
@@ -30,7 +30,7 @@ use Rattle.disco_world.specs.declared.event.Reply.{Reply}
 use Rattle.disco_world.specs.Levels.{AreLevelsOf}
 use Rattle.std.specs.FinMap.{get}
 use Rattle.disco_history.specs.Registry.{registry_of}
-use Rattle.disco_hub.specs.Kept.{Forgets, IsAsKept}
+use Rattle.disco_hub.specs.Kept.{Forgets, IsAsKept, IsKeptOrNew}
 use Rattle.disco_world.specs.Caching.{Caches}
 use Rattle.disco_world.specs.Steps.{AreHeld, Performs, Holders, cache_of, certified_done, change_made, clients_done, is_plain, past_after, past_done, reply_of, reply_to, with_clients}
 use Rattle.disco_world.specs.declared.levels.CacheLevels.{CacheLevels}
@@ -118,8 +118,12 @@ nothing_then rules p asked f = one (ran_out (Refused f))
 abbrev unless : DocKey → Option Fault → Result DocKey Fault
 unless k o = option_map_or (λ e. Err e) o (Ok k)
 
+-- what is kept or of now is so by what has happened
+kept_or_new : (s : HubState) (p : Past) → HubStandsFor s p → (o : Option Payload) (d : Payload) → IsKeptOrNew (version_of s) s.core.queue.base o d → IsKeptOrNew (length (history p)) p.base o d
+kept_or_new s p stands o d is = subst (λ n. IsKeptOrNew n p.base o d) stands.core.registry.version (subst (λ b. IsKeptOrNew (version_of s) b o d) stands.core.queue.base is)
+
 pub loads_so : (old new : HubState) (key : DocKey) (r : Result (Arc Payload Global) Fault) → IfOk r (λ d. IsDocOf old (rules_of old).delta key d.value) → IfErr r (Withholds old (rules_of old).delta key) → IfOk r (λ d. Loads old new key d.value) → OnErr r (new ≡ old) → Performs old new (λ w. loads (loaded (rules_of old).delta key (history w.past))) (reply_of r)
-loads_so old new key (Ok d) may refused did same = λ w stands. ((ap (unless key) (may.allowed w.past stands) ∙ ap (λ k. Ok k) (sym may.key), may.served w.past stands), did.history w.past stands, (subst (λ k. IsAsKept old.docs k d.value) (sym may.key) did.as_kept, did.keeps, ap (λ (s : HubState). s.rounds) did.rest))
+loads_so old new key (Ok d) may refused did same = λ w stands. ((ap (unless key) (may.allowed w.past stands) ∙ ap (λ k. Ok k) (sym may.key), may.served w.past stands), did.history w.past stands, (subst (λ k. IsAsKept (length (history w.past)) w.past.base old.docs k d.value) (sym may.key) (kept_or_new old w.past stands (get old.docs.docs key) d.value did.as_kept), did.keeps, ap (λ (s : HubState). s.rounds) did.rest))
 loads_so old new key (Err e) may refused did same = λ w stands.
     (λ other. ap (unless key) (refused other w.past stands), subst (HubStandsFor new) (sym (nothing_then (rules_of old) w.past (loaded (rules_of old).delta key (history w.past)) e)) (subst (λ (s : HubState). HubStandsFor s w.past) (sym same) stands), ap cache_of same)
 

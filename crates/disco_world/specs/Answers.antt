@@ -108,7 +108,8 @@ NeverFall rules run events replies = (i : ℕ) (client : ℕ) (k : CertifiedCopy
     → (l : CertifiedCopy) × ((world rules run events replies (i + 1)).certified client ≡ Some l)
     × (l.known.run ≡ k.known.run → k.known.version ≤ l.known.version)
 
--- the fault names the first event that can't be run, by its number from 1: those before it are answered
+-- the fault names the first event that can't be run, by its number from 1: those before it are answered, and each of these answers may be want of
+-- memory, which a caller that gets the fault isn't told
 pub record IsFirstBadEvent (rules : Rules) (run : ℕ) (events : List Event) (fault : Fault) : Type 0 where
   pub replies : List Reply
   pub event : Event

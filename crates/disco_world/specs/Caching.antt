@@ -27,21 +27,21 @@ pub record Cache : Type 0 where
 abbrev pub new_cache : ℕ → Cache
 new_cache most = record { docs = record { docs = empty; max = most }; rounds = record { edition = empty; round = None } }
 
--- what is copied is of the first key that is left, and as it is kept where it is kept
-abbrev pub IsNext : Cache → copied.Copied → Type 0
-IsNext s c = IfSome s.rounds.round (λ r. IfSome (slice_get r.left 0) (λ k. (key_of_copy c ≡ k) × IsCopiedAsKept s.docs k c))
+-- what is copied is of the first key that is left, and as it is kept where it is kept and else of now
+abbrev pub IsNext : Past → Cache → copied.Copied → Type 0
+IsNext p s c = IfSome s.rounds.round (λ r. IfSome (slice_get r.left 0) (λ k. (key_of_copy c ≡ k) × IsCopiedAsKept (length (history p)) p.base s.docs k c))
 
--- what an effect with that answer does to it: a change drops what it names, a load is answered as it is kept and keeps its document at most, a round
--- begins with the keys that are due, each copy takes out the first that is left, a publish ends it, and after a restart nothing is kept and no round
--- is open
+-- what an effect with that answer does to it: a change drops what it names, a load is answered as it is kept or else as of now and keeps its document
+-- at most, a round begins with the keys that are due, each copy takes out the first that is left, a publish ends it, and after a restart nothing is
+-- kept and no round is open
 abbrev pub Caches : Rules → Past → Effect → Reply → Cache → Cache → Type 0
 Caches rules p (writes now asked) (Changed v) old new =
     Forgets (get (registry_of (history p))) (option_flatten (result_ok (done rules p now asked))) old.docs new.docs × (new.rounds ≡ old.rounds)
-Caches rules p (loads asked) (Doc d) old new = IsAsKept old.docs d.value.key d.value × KeepsAtMost rules.delta d.value old.docs new.docs
-    × (new.rounds ≡ old.rounds)
+Caches rules p (loads asked) (Doc d) old new = IsAsKept (length (history p)) p.base old.docs d.value.key d.value
+    × KeepsAtMost rules.delta d.value old.docs new.docs × (new.rounds ≡ old.rounds)
 Caches rules p (expires now) (Expired run) old new = ForgetsEach rules p now (taken_in p now) run.gone old.docs new.docs × (new.rounds ≡ old.rounds)
 Caches rules p begins (Begun n) old new = Begins (round_keys old.rounds.edition old.docs) n old.rounds new.rounds × (new.docs ≡ old.docs)
-Caches rules p copies (Copied c) old new = IsNext old c × Advances (is_doc c) old.rounds new.rounds × (new.docs ≡ old.docs)
+Caches rules p copies (Copied c) old new = IsNext p old c × Advances (is_doc c) old.rounds new.rounds × (new.docs ≡ old.docs)
 Caches rules p publishes (Published n) old new = Ends n old.rounds new.rounds × (new.docs ≡ old.docs)
 Caches rules p (restarts run) (Restarted r) old new = new ≡ new_cache old.docs.max
 Caches rules p _ _ old new = new ≡ old

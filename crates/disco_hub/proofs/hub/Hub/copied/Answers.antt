@@ -1,7 +1,7 @@
 use Rattle.std.proofs.Common.{◌∙◌, ap, sym, subst}
 use Rattle.disco_cache.specs.declared.payload.Payload.{Payload}
 use Rattle.disco_hub.specs.Kept.{IsAsKept}
-use Rattle.disco_hub.specs.State.{MayServe, HubState, HubStandsFor}
+use Rattle.disco_hub.specs.State.{MayServe, HubState, HubStandsFor, version_of}
 use Rattle.disco_hub.proofs.Documents.{is_as_kept}
 use Rattle.disco_hub.proofs.hub.Hub.copied.Goals as goal
 
@@ -14,5 +14,7 @@ returns-in-Some-clause-copied c = λ p stands.
 
 pub returns-in-Some-clause-as_kept : goal.returns-in-Some-clause-as_kept
 returns-in-Some-clause-as_kept c =
-    subst (λ (s : HubState). IsAsKept s.docs c.args.key.now c.in_ok-try_clone.field-0.value) c.self.view_is
-    (is_as_kept c.self.inside.cache c.args.key.now c.in_ok-try_clone.field-0.value c.in-Some.doc.now.value (sym c.in-Some.ensures.found) c.in_ok-try_clone.ensures)
+    let i = c.self.inside in
+    let d = c.in_ok-try_clone.field-0.value in
+    subst (λ (s : HubState). IsAsKept (version_of s) s.core.queue.base s.docs c.args.key.now d) c.self.view_is
+    (is_as_kept i.core.registry.version i.core.queue.base i.cache c.args.key.now d c.in-Some.doc.now.value (sym c.in-Some.ensures.found) c.in_ok-try_clone.ensures)
