@@ -124,6 +124,7 @@ looked_before before mid after asked now y same knew heard so =
           by_seat = was.answered.by_seat;
           replied = was.answered.replied;
         };
+        kept = was.kept;
         knows = was.knows;
         hears = was.hears;
       };

@@ -1,2 +1,3 @@
 mod DeskAnswers
 mod HubAnswers
+mod KeptDocuments

@@ -17,7 +17,7 @@ use Rattle.disco_press.specs.Seats.{SeatState}
 use Rattle.disco_press.specs.declared.look.Looked.TheVariants.{Doc}
 use Rattle.disco_message.specs.ReplyText.{ReplyView}
 use Rattle.disco_calls.specs.Calls.{CallView, loads}
-use Rattle.disco_server.specs.Replies.{IsReply, with_document}
+use Rattle.disco_server.specs.Replies.{IsReply, KeepsAsked, with_document}
 
 -- these changes are noted, and counted by the seat and as a seat's; whatever has happened before, this is a reply to it, they come behind it, and the
 -- desk stands for what has happened after
@@ -30,13 +30,14 @@ pub record IsAnsweredOn (old new : DeskState) (before after : SeatState) (asked 
       × HubStandsFor new.hub q
 
 -- and the desk had no fewer changes than the seat, had published what the seat knew, and had noted what the seat had heard of; then the seat knows
--- what it has published, and all that it has noted
+-- what it has published, and all that it has noted; and kept documents move as for what is asked
 pub record IsAnsweredBy (old new : DeskState) (before after : SeatState) (asked : Result CallView Fault) (now : ℕ) (y : ReplyView) : Type 0 where
   pub valid : IsValid old
   pub bound : before.changes ≤ version_of old.hub
   pub knew : IsPrefix before.known old.published
   pub heard : IsPrefix before.heard (notes_of old)
   pub answered : IsAnsweredOn old new before after asked now y
+  pub kept : KeepsAsked old.hub new.hub asked
   pub knows : after.known ≡ new.published
   pub hears : after.heard ≡ notes_of new
 

@@ -1,6 +1,7 @@
 -- Replies to requests (Eureka's REST operations), by what has happened before and happens after.
 use Rattle.std.specs.Prelude.{◌≡◌, ◌⊎◌, ℕ, true, List, Option, Some, None, Result, Ok, Err}
 use Rattle.std.specs.Arc.{arc_value}
+use Rattle.std.specs.FinMap.{get}
 use Rattle.disco_values.specs.declared.fault.Fault.{Fault}
 use Rattle.disco_history.specs.Change.{Entry}
 use Rattle.disco_registry.specs.Accept.{accept_after}
@@ -11,6 +12,7 @@ use Rattle.disco_cache.specs.declared.payload.Payload.{Payload}
 use Rattle.disco_core.specs.Past.{Past, history, with_done}
 use Rattle.disco_core.specs.Refusals.{doc_of_key, loaded, loaded_by_id}
 use Rattle.disco_core.specs.State.{Rules}
+use Rattle.disco_hub.specs.Kept.{Keeps}
 use Rattle.disco_hub.specs.State.{MayServe, HubStandsFor, HubState, rules_of}
 use Rattle.disco_message.specs.ReplyText.{ReplyView}
 use Rattle.disco_message.specs.StatusLine.{refusal}
@@ -63,3 +65,9 @@ IsReply rules p asked now y q = Replies rules p asked now y q ⊎ ((y ≡ plain 
 -- whatever has happened to a hub before, this is a reply to it, and the hub stands for what has happened after
 abbrev pub IsAnswered : HubState → HubState → Result CallView Fault → ℕ → ReplyView → Type 0
 IsAnswered old new asked now y = (p : Past) → HubStandsFor old p → (q : Past) × IsReply (rules_of old) p asked now y q × HubStandsFor new q
+
+-- what a call does to kept documents: a load keeps at most that of its key, an operation keeps none more, and nothing else moves them
+abbrev pub KeepsAsked : HubState → HubState → Result CallView Fault → Type 0
+KeepsAsked old new (Ok (loads key)) = (new.docs ≡ old.docs) ⊎ ((d : Payload) × (d.key ≡ key) × Keeps (rules_of old).delta d old.docs new.docs)
+KeepsAsked old new (Ok (writes ask)) = (p : Past) → HubStandsFor old p → (k : DocKey) (d : Payload) → get new.docs.docs k ≡ Some d → get old.docs.docs k ≡ Some d
+KeepsAsked old new _ = new.docs ≡ old.docs

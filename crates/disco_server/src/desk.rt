@@ -8,7 +8,7 @@ ghost use Rattle.disco_calls.specs.Calls.{CallView, call, loads, call_view, show
 ghost use Rattle.disco_press.specs.Desks.{NotesNothing};
 ghost use Rattle.disco_registry.specs.Op.{op_view};
 ghost use Rattle.disco_server.specs.Desks.{IsAnsweredBy, IsAnsweredOn};
-ghost use Rattle.disco_server.specs.Replies.{IsAnswered, shared_text};
+ghost use Rattle.disco_server.specs.Replies.{IsAnswered, KeepsAsked, shared_text};
 
 use crate::replies::{lacking, refused, showing, success_of, wrote};
 use crate::shared::Shared;
@@ -22,6 +22,7 @@ use std::alloc::Global;
 /// Serves the document of a key.
 fn load<J: Naming>(desk: &mut Desk<J>, key: &DocKey, now: u64) -> Reply<Shared>
     ensures answered { IsAnswered desk.old.hub desk.new.hub (Ok (loads key.now)) now (reply_view shared_text result) }
+    ensures kept { KeepsAsked desk.old.hub desk.new.hub (Ok (loads key.now)) }
     ensures noted { NotesNothing desk.old desk.new }
     ensures rest { KeepsRest desk.old.hub desk.new.hub }
 {
@@ -45,6 +46,7 @@ fn by_id<J: Naming>(desk: &Desk<J>, id: &Text, form: Form, now: u64) -> Reply<Sh
 /// Does an operation for a seat.
 fn write<J: Naming>(desk: &mut Desk<J>, seat: &mut Seat<J>, op: Op, now: u64) -> Reply<Shared>
     ensures answered { IsAnsweredOn desk.old desk.new seat.old seat.new (Ok (writes (op_view op))) now (reply_view shared_text result) }
+    ensures kept { KeepsAsked desk.old.hub desk.new.hub (Ok (writes (op_view op))) }
     ensures rest { KeepsRest desk.old.hub desk.new.hub }
 {
     let success = success_of(&op);
@@ -59,6 +61,7 @@ fn answer_call<J: Naming>(
     now: u64,
 ) -> Reply<Shared>
     ensures answered { IsAnsweredOn desk.old desk.new seat.old seat.new (Ok (call_view call)) now (reply_view shared_text result) }
+    ensures kept { KeepsAsked desk.old.hub desk.new.hub (Ok (call_view call)) }
     ensures rest { KeepsRest desk.old.hub desk.new.hub }
 {
     match call {
@@ -79,6 +82,7 @@ fn answer_called<J: Naming>(
 ) -> Reply<Shared>
     ensures answered { (asked : Result CallView Fault) → Gives call_view called asked
         → IsAnsweredOn desk.old desk.new seat.old seat.new asked now (reply_view shared_text result) }
+    ensures kept { (asked : Result CallView Fault) → Gives call_view called asked → KeepsAsked desk.old.hub desk.new.hub asked }
     ensures rest { KeepsRest desk.old.hub desk.new.hub }
 {
     match called {

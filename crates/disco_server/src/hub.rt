@@ -4,7 +4,7 @@ ghost use Rattle.disco_hub.specs.Transitions.{KeepsRest};
 ghost use Rattle.disco_message.specs.ReplyText.{reply_view};
 ghost use Rattle.disco_calls.specs.Calls.{call, loads, call_view, shows, shows_id, writes};
 ghost use Rattle.disco_registry.specs.Op.{op_view};
-ghost use Rattle.disco_server.specs.Replies.{IsAnswered, shared_text};
+ghost use Rattle.disco_server.specs.Replies.{IsAnswered, KeepsAsked, shared_text};
 
 use crate::replies::{lacking, refused, showing, success_of, wrote};
 use crate::shared::Shared;
@@ -18,6 +18,7 @@ use std::alloc::Global;
 /// Serves the document of a key.
 fn load(hub: &mut Hub, key: &DocKey, now: u64) -> Reply<Shared>
     ensures answered { IsAnswered hub.old hub.new (Ok (loads key.now)) now (reply_view shared_text result) }
+    ensures kept { KeepsAsked hub.old hub.new (Ok (loads key.now)) }
     ensures rest { KeepsRest hub.old hub.new }
 {
     showing(hub.load(key))
@@ -42,6 +43,7 @@ fn by_id(hub: &mut Hub, id: &Text, form: Form, now: u64) -> Reply<Shared>
 /// Does an operation.
 fn write(hub: &mut Hub, op: Op, now: u64) -> Reply<Shared>
     ensures answered { IsAnswered hub.old hub.new (Ok (writes (op_view op))) now (reply_view shared_text result) }
+    ensures kept { KeepsAsked hub.old hub.new (Ok (writes (op_view op))) }
     ensures rest { KeepsRest hub.old hub.new }
 {
     let success = success_of(&op);
@@ -51,6 +53,7 @@ fn write(hub: &mut Hub, op: Op, now: u64) -> Reply<Shared>
 /// Does what is called for.
 fn answer_call(hub: &mut Hub, call: Call, now: u64) -> Reply<Shared>
     ensures answered { IsAnswered hub.old hub.new (Ok (call_view call)) now (reply_view shared_text result) }
+    ensures kept { KeepsAsked hub.old hub.new (Ok (call_view call)) }
     ensures rest { KeepsRest hub.old hub.new }
 {
     match call {
@@ -62,8 +65,8 @@ fn answer_call(hub: &mut Hub, call: Call, now: u64) -> Reply<Shared>
     }
 }
 
-/// The reply to a request at a moment in milliseconds, of which the hub does what it asks for.
-/// `ServiceUnavailable` may stand in the place of another reply where memory is refused, and then
+/// The reply to a request at a moment in milliseconds, of which the hub does what it asks for. It keeps
+/// no document but the one that is asked for. `ServiceUnavailable` may stand in the place of another reply where memory is refused, and then
 /// nothing has happened.
 pub fn answer_hub(
     alloc: Global,
@@ -73,6 +76,7 @@ pub fn answer_hub(
     now: u64,
 ) -> Reply<Shared>
     ensures answered { IsAnswered hub.old hub.new (call request.now) now (reply_view shared_text result) }
+    ensures kept { KeepsAsked hub.old hub.new (call request.now) }
     ensures rest { KeepsRest hub.old hub.new }
 {
     match call_of(alloc, routes, request) {

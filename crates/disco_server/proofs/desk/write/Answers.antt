@@ -4,6 +4,7 @@ use Rattle.disco_registry.specs.Op.{op_view}
 use Rattle.disco_server.specs.Replies.{plain, refusal_answer, shared_text}
 use Rattle.disco_server.proofs.HubAnswers.{changes_by, written}
 use Rattle.disco_server.proofs.DeskAnswers.{counts, counts_too, notes}
+use Rattle.disco_server.proofs.KeptDocuments.{written_keeps}
 use Rattle.disco_server.proofs.desk.write.Goals as goal
 
 pub returns-clause-answered : goal.returns-clause-answered
@@ -18,3 +19,8 @@ returns-clause-answered g c =
       by_seat = counts_too c.args.desk.now c.write_as.new.self c.write_as.result w.counted w.not_noted;
       replied = written c.args.desk.now.hub c.write_as.new.self.hub c.args.now y (op_view c.args.op) c.write_as.result w.done w.refused shown;
     }
+
+pub returns-clause-kept : goal.returns-clause-kept
+returns-clause-kept g c =
+    let w = c.write_as.ensures in
+    written_keeps c.args.desk.now.hub c.write_as.new.self.hub (op_view c.args.op) c.args.now c.write_as.result w.done w.refused
