@@ -66,6 +66,7 @@ where
 {
     tell_locked(rt, alloc, desk, seat, out)?;
     servers::tell_beside(rt, alloc, desk, seat, out)?;
+    servers::tell_renewals(rt, alloc, desk, seat, out)?;
     servers::tell_running(rt, alloc, desk, seats, out)
 }
 

@@ -21,6 +21,12 @@ use std::thread::{Threads, join, yield_now};
 
 const GET: &[u8] = b"GET /eureka/v2/apps HTTP/1.1\r\nHost: a\r\n\r\n";
 
+/// Registers an instance whose lease lasts 90 seconds.
+const POST: &[u8] = b"POST /eureka/v2/apps/A HTTP/1.1\r\nHost: a\r\nContent-Length: 110\r\n\r\n{\"instance\":{\"instanceId\":\"r\",\"hostName\":\"h\",\"app\":\"A\",\"ipAddr\":\"10.0.0.1\",\"dataCenterInfo\":{\"name\":\"MyOwn\"}}}";
+
+/// Renews it.
+const PUT: &[u8] = b"PUT /eureka/v2/apps/A/r HTTP/1.1\r\nHost: a\r\n\r\n";
+
 /// How often a thread looks whether another one has come so far, at most.
 const TURNS: u64 = 10_000_000;
 
@@ -194,6 +200,41 @@ pub(crate) fn tell_beside<J: Naming + Send + Sync, R: Threads + Wait + Sync>(
     );
     say(out, "beside the lock", status? as u64)?;
     say(out, "in time", in_time as u64)
+}
+
+/// Tells the status of what is answered at a moment under the lock.
+fn tell_asked<J: Naming, R: Wait>(
+    rt: &R,
+    alloc: Global,
+    desk: &Mutex<Desk<J>>,
+    seat: &mut Seat<J>,
+    bytes: &[u8],
+    now: u64,
+    out: &mut String,
+) -> Result<(), Fault> {
+    let (routes, request) = (Routes::new(alloc)?, read(alloc, bytes)?);
+    let reply = answer(rt, alloc, &routes, desk, seat, &request, now);
+    say(out, "asked", reply.status.as_u16() as u64)
+}
+
+/// Two renewals under the lock are counted once each and keep their instance, and nothing else is done
+/// there: else fewer or more renewals were counted, or the instance, which had else run out, were gone.
+pub(crate) fn tell_renewals<J: Naming, R: Wait>(
+    rt: &R,
+    alloc: Global,
+    desk: &Mutex<Desk<J>>,
+    seat: &mut Seat<J>,
+    out: &mut String,
+) -> Result<(), Fault> {
+    tell_asked(rt, alloc, desk, seat, POST, 0, out)?;
+    tell_asked(rt, alloc, desk, seat, PUT, 10_000, out)?;
+    tell_asked(rt, alloc, desk, seat, PUT, 10_000, out)?;
+    let mut guard = desk.lock(rt);
+    let minute = guard.close_minute();
+    let expired = guard.expire(150_000);
+    MutexGuard::unlock(guard);
+    say(out, "renewals", minute.renewals)?;
+    say(out, "gone", expired.gone)
 }
 
 /// How many instances a client holds that fetches once over a connection of its own.
