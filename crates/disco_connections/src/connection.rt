@@ -39,6 +39,8 @@ pub struct Connection<D> {
     /// Its place.
     pub(crate) key: usize,
     pub(crate) deadline: Deadline,
+    /// It is waited for no longer.
+    pub(crate) is_late: bool,
     /// The sending side is ended, and what comes is dropped.
     is_ending: bool,
     /// A request was answered since the last turn.
@@ -72,6 +74,7 @@ impl<D: Document + Drop> Connection<D> {
             number,
             key,
             deadline,
+            is_late: false,
             is_ending: false,
             has_answered: false,
             held: 0,
@@ -106,6 +109,9 @@ impl<D: Document + Drop> Connection<D> {
         room: &mut Room,
         service: &mut S,
     ) -> Turn {
+        if self.is_late {
+            return Turn::Over;
+        }
         for _ in 0..STEPS {
             if let Some(turn) = self.step(alloc, held, room, service) {
                 return turn;

@@ -444,18 +444,10 @@ impl<'a, D: Document + Drop> Hall<'a, D> {
         }
     }
 
-    /// Ends the connections that are waited for no longer, and tells anew of those that may go on.
+    /// Has the connections end that are waited for no longer, and tells anew of those that may go on.
     fn look<R: Wait>(&self, rt: &R, now: u64) {
         let mut places = self.places.lock(rt);
-        for key in 0..places.bound() {
-            let over = match places.waiting(key) {
-                Some(connection) => connection.deadline.is_over(now),
-                None => false,
-            };
-            if over {
-                self.forget(places.free(key));
-            }
-        }
+        places.queue_late(now);
         self.let_on(&mut *places);
         if mem::replace(&mut places.is_awaited, false) {
             let _ = tell_listener(&self.registry, self.listener);

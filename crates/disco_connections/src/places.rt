@@ -7,14 +7,14 @@ use std::alloc::{AllocError, Global};
 use std::collections::VecDeque;
 
 /// How many connections are in the queue at most.
-const QUEUE: usize = 1_024;
+const QUEUE: usize = 4_096;
 
 /// Where each connection is. At most so many have a place.
 #[derive(Drop)]
 pub(crate) struct Places<D> {
     places: Slab<Place<Box<Connection<D>>>>,
     most: usize,
-    /// The places of connections that could go on. Those that are ready go first.
+    /// The places of connections that could go on, or are to end. Those that are ready go first.
     queue: VecDeque<usize>,
     /// A worker waits until something is ready, and the queue is empty.
     is_waiting: bool,
@@ -91,6 +91,30 @@ impl<D: Drop> Places<D> {
         }
         self.leave(connection);
         Ok(None)
+    }
+
+    /// Puts the connections into the queue that are waited for no longer, as far as it goes. Whoever takes
+    /// one ends it: that may take long, and nobody waits for it here.
+    pub(crate) fn queue_late(&mut self, now: u64) {
+        for key in 0..self.bound() {
+            if self.queue.len() >= QUEUE {
+                return;
+            }
+            if self.is_late(key, now) && self.queue.push_back(key).is_err() {
+                let _ = self.free(key);
+            }
+        }
+    }
+
+    /// Whether a connection waits in a place that is waited for no longer, and wasn't before. It is noted.
+    fn is_late(&mut self, key: usize, now: u64) -> bool {
+        match self.waiting(key) {
+            Some(connection) if !connection.is_late && connection.deadline.is_over(now) => {
+                connection.is_late = true;
+                true
+            }
+            _ => false,
+        }
     }
 
     /// Takes the first connection of the queue.
