@@ -31,8 +31,8 @@ FORGOTTEN = 35
 
 
 def counted(piece, size):
-    """Pieces of consecutive numbers, as many as fit."""
-    return [piece % number for number in range(size // len(piece % 0))]
+    """Pieces of consecutive numbers, as many as fit with something between each two."""
+    return [piece % number for number in range(size // (len(piece % 0) + 1))]
 
 
 def object_of(pieces):
@@ -49,11 +49,11 @@ def deep(size):
 
 # The members of a record beside those that each needs, by shape, in some number of bytes.
 SHAPES = {
-    "a long id and many vips": lambda n: {"instanceId": "i" * 8_000, "vipAddress": ",".join(counted("%07d", n - 8_000 - n // 8))},
+    "a long id and many vips": lambda n: {"instanceId": "i" * 8_000, "vipAddress": ",".join(counted("%07d", n - 8_000))},
     "4,096 vips of 3 bytes": lambda n: {"vipAddress": ",".join("%03x" % number for number in range(4_096))},
-    "many vips of 7 bytes": lambda n: {"vipAddress": ",".join(counted("%07d", n * 7 // 8))},
-    "many vips of 30 bytes": lambda n: {"vipAddress": ",".join(counted("%030d", n * 30 // 31))},
-    "many secure vips of 7 bytes": lambda n: {"secureVipAddress": ",".join(counted("%07d", n * 7 // 8))},
+    "many vips of 7 bytes": lambda n: {"vipAddress": ",".join(counted("%07d", n))},
+    "many vips of 30 bytes": lambda n: {"vipAddress": ",".join(counted("%030d", n))},
+    "many secure vips of 7 bytes": lambda n: {"secureVipAddress": ",".join(counted("%07d", n))},
     "one long vip": lambda n: {"vipAddress": "v" * n},
     "many commas": lambda n: {"vipAddress": "," * n},
     "a long id": lambda n: {"instanceId": "i" * n},
@@ -147,23 +147,34 @@ def judged(of, bytes_each, free, most):
     return "%5.1f times%s" % (times, "" if times <= most else " TOO MUCH")
 
 
-def measure_shape(program, name, members, ignored):
+def measure_ignored(program, name, ignored):
+    """What a body takes while it is read whose record is small."""
+    with Server(program) as server:
+        server.register(body_of(0, {}))
+        before = number_in(server.process, "VmRSS:")
+        forget_peak(server.process)
+        body = body_of(1, {}, ignored)
+        server.register(body)
+        taken = number_in(server.process, "VmHWM:") - before
+        print("%-28s %8d bytes: taken %s" % (name, len(body), judged(taken, len(body), FREE_TAKEN, MOST_TAKEN)), flush=True)
+
+
+def measure_shape(program, name, members):
     """What records of a shape keep, and what the first of them takes while it is read."""
     with Server(program) as server:
         server.register(body_of(0, {}))
         before = number_in(server.process, "VmRSS:")
         forget_peak(server.process)
         begun = time.perf_counter()
-        server.register(body_of(1, members, ignored))
+        server.register(body_of(1, members))
         seconds = time.perf_counter() - begun
         taken = number_in(server.process, "VmHWM:") - before
-        size = len(body_of(1, members, ignored))
-        kept_size = len(body_of(1, members))
+        size = len(body_of(1, members))
         half = 0
         for number in range(2, 2 * MANY + 2):
             if number == MANY + 2:
                 half = number_in(server.process, "VmRSS:")
-            server.register(body_of(number, members, ignored))
+            server.register(body_of(number, members))
         kept = (number_in(server.process, "VmRSS:") - half) / MANY
         begun = time.perf_counter()
         for number in range(2 * MANY):
@@ -179,8 +190,8 @@ def measure_shape(program, name, members, ignored):
                 name,
                 size,
                 judged(taken, size, FREE_TAKEN, MOST_TAKEN),
-                judged(kept, kept_size, FREE_KEPT, MOST_KEPT),
-                judged(changed, kept_size, FREE_KEPT, MOST_KEPT),
+                judged(kept, size, FREE_KEPT, MOST_KEPT),
+                judged(changed, size, FREE_KEPT, MOST_KEPT),
                 seconds * 1000,
             ),
             flush=True,
@@ -269,9 +280,9 @@ def edge(program):
 def main():
     program = sys.argv[1]
     for name, members in SHAPES.items():
-        measure_shape(program, name, members(SIZE - 1_000), "0")
+        measure_shape(program, name, members(SIZE - 1_000))
     for name, ignored in IGNORED.items():
-        measure_shape(program, name, {}, ignored(SIZE - 1_000))
+        measure_ignored(program, name, ignored(SIZE - 1_000))
     for name, ignored in IGNORED.items():
         measure_follow(program, name, ignored(SIZE - 1_000))
     edge(program)
