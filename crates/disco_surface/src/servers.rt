@@ -22,7 +22,8 @@ use std::thread::{Threads, join, yield_now};
 const GET: &[u8] = b"GET /eureka/v2/apps HTTP/1.1\r\nHost: a\r\n\r\n";
 
 /// Registers an instance whose lease lasts 90 seconds.
-const POST: &[u8] = b"POST /eureka/v2/apps/A HTTP/1.1\r\nHost: a\r\nContent-Length: 110\r\n\r\n{\"instance\":{\"instanceId\":\"r\",\"hostName\":\"h\",\"app\":\"A\",\"ipAddr\":\"10.0.0.1\",\"dataCenterInfo\":{\"name\":\"MyOwn\"}}}";
+const POST: &[u8] =
+    b"POST /eureka/v2/apps/A HTTP/1.1\r\nHost: a\r\nContent-Length: 110\r\n\r\n{\"instance\":{\"instanceId\":\"r\",\"hostName\":\"h\",\"app\":\"A\",\"ipAddr\":\"10.0.0.1\",\"dataCenterInfo\":{\"name\":\"MyOwn\"}}}";
 
 /// Renews it.
 const PUT: &[u8] = b"PUT /eureka/v2/apps/A/r HTTP/1.1\r\nHost: a\r\n\r\n";
