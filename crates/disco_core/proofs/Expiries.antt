@@ -31,7 +31,7 @@ due_by v p k (Some l) are is =
     ∙ ap (option_map (λ m. m + duration_at p k)) (sym (ap (option_map (λ l. l.mark)) is) ∙ are.marks k)
 
 -- leases run out when what has happened says
-due_is : (v : Leases) (p : Past) (k : Key) → AreLeasesOf v p → due_at v k ≡ due_in p k
+pub due_is : (v : Leases) (p : Past) (k : Key) → AreLeasesOf v p → due_at v k ≡ due_in p k
 due_is v p k are = due_by v p k (lease_at v k) are refl
 
 -- a run takes what what has happened says

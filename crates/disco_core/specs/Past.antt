@@ -1,5 +1,5 @@
 -- What has happened to a core. Moments and durations are in milliseconds.
-use Rattle.std.specs.Prelude.{ℕ, ◌+◌, ◌*◌, List, [], ◌∷◌, ◌++◌, length, Option, option_map, Result}
+use Rattle.std.specs.Prelude.{ℕ, Bool, ◌+◌, ◌*◌, List, [], ◌∷◌, ◌++◌, length, Option, option_map, Result}
 use Rattle.std.specs.Result.{result_ok}
 use Rattle.std.specs.FinMap.{FinMap, empty, get, insert, keys, len, remove}
 use Rattle.std.specs.Option.{option_map_or}
@@ -8,7 +8,7 @@ use Rattle.disco_values.specs.declared.fault.Fault.{Fault}
 use Rattle.disco_values.specs.declared.key.Key.{Key}
 use Rattle.disco_history.specs.Change.{Entry}
 use Rattle.disco_history.specs.Registry.{registry_of}
-use Rattle.disco_lease.specs.Due.{taken}
+use Rattle.disco_lease.specs.Due.{is_overdue, taken}
 use Rattle.disco_lease.specs.Leases.{counted}
 use Rattle.disco_lease.specs.declared.minute.Minute.{Minute}
 use Rattle.disco_queue.specs.Base.{base_after_change, base_after_cleaning}
@@ -75,6 +75,10 @@ minute_closed p = record p { renewals = 0; closed = record { renewals = p.renewa
 -- when the lease of a key runs out, if it has one: its duration after its mark
 abbrev pub due_in : Past → Key → Option ℕ
 due_in p k = option_map (λ mark. mark + duration_at p k) (get p.marks k)
+
+-- whether the lease of a key has run out by a moment
+abbrev pub has_run_out : Past → ℕ → Key → Bool
+has_run_out p now k = is_overdue now (due_in p k)
 
 -- the keys that one run takes at a moment, in their order
 abbrev pub taken_in : Past → ℕ → List Key

@@ -20,7 +20,7 @@ ghost use Rattle.disco_registry.specs.State as registry;
 ghost use Rattle.disco_wire.specs.Documents.{IsWritten, asked_by};
 ghost use Rattle.disco_values.specs.Query.{is_delta};
 ghost use Rattle.disco_cache.specs.Payloads.{IsTrue};
-ghost use Rattle.disco_core.specs.Past.{Past, cleaned, history, minute_closed, nothing, taken_in, with_done};
+ghost use Rattle.disco_core.specs.Past.{Past, cleaned, has_run_out, history, minute_closed, nothing, taken_in, with_done};
 ghost use Rattle.disco_core.specs.Refusals.{doc_of_id, doc_of_key, refusal_of, refusal_of_id};
 ghost use Rattle.disco_core.specs.Moves.{Moves, OthersStay};
 ghost use Rattle.disco_core.specs.Tied.{AreLeased};
@@ -507,6 +507,14 @@ impl Core {
         ensures refused { OnErr result ((p : Past) → CoreStandsFor self.now p → 0 < length (taken_in p now)) }
     {
         self.leases.due(self.alloc, now, self.instances())
+    }
+
+    /// Whether the lease of a key has run out by a moment in milliseconds. At its due moment it hasn't,
+    /// and where no instance is held under the key none has. Takes no memory.
+    pub fn is_overdue(&self, key: &Key, now: u64) -> bool
+        ensures { (p : Past) → CoreStandsFor self.now p → result ≡ has_run_out p now key.now }
+    {
+        self.leases.is_overdue(key, now)
     }
 
     fn payload(&self, key: &DocKey, base: u64, text: Vec<u8>) -> Result<Arc<Payload, Global>, Fault>

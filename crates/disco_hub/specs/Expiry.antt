@@ -1,5 +1,5 @@
 -- What has happened after a run that cancels instances whose leases ran out. Moments are in milliseconds.
-use Rattle.std.specs.Prelude.{◌≡◌, ◌≢◌, ◌↔◌, ◌<◌, ◌≤◌, ℕ, zero, suc, List, length, Option, Some, None, IfSome, Result, Ok, Err, IsOk, slice_get}
+use Rattle.std.specs.Prelude.{◌≡◌, ◌≢◌, ◌↔◌, ◌<◌, ◌≤◌, ℕ, zero, suc, List, filter, length, Option, Some, None, IfSome, Result, Ok, Err, IsOk, slice_get}
 use Rattle.std.specs.Option.{option_map_or}
 use Rattle.std.specs.FinMap.{get}
 use Rattle.disco_values.specs.declared.fault.Fault.{Fault}
@@ -9,11 +9,15 @@ use Rattle.disco_history.specs.Change.{Entry}
 use Rattle.disco_history.specs.Registry.{registry_of}
 use Rattle.disco_registry.specs.Accept.{accept_after}
 use Rattle.disco_registry.specs.Op.{cancel}
-use Rattle.disco_core.specs.Past.{Past, after_ask, history}
+use Rattle.disco_core.specs.Past.{Past, after_ask, has_run_out, history}
 use Rattle.disco_core.specs.State.{Rules}
 use Rattle.disco_cache.specs.Docs.{Docs}
 use Rattle.disco_hub.specs.Kept.{Forgets}
 use Rattle.disco_hub.specs.State.{HubState, HubStandsFor, rules_of}
+
+-- those of the keys whose leases have run out by a moment, in their order
+abbrev pub overdue_among : Past → ℕ → List Key → List Key
+overdue_among p now ks = filter (has_run_out p now) ks
 
 -- what a cancel does at a moment after what has happened: its change, or the first cause against it
 abbrev pub cancel_of : Rules → Past → ℕ → Key → Result (Option Entry) Fault

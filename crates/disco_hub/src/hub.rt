@@ -7,7 +7,7 @@ ghost use Rattle.disco_registry.specs.Commit.{Takes, changes_properly, done_by};
 ghost use Rattle.disco_registry.specs.Op.{OpView, op_view, renew};
 ghost use Rattle.disco_registry.specs.State as registry;
 ghost use Rattle.disco_values.specs.Query.{is_delta};
-ghost use Rattle.disco_core.specs.Past.{Past, history, taken_in, with_done};
+ghost use Rattle.disco_core.specs.Past.{Past, has_run_out, history, taken_in, with_done};
 ghost use Rattle.disco_history.specs.Registry.{registry_of};
 ghost use Rattle.std.specs.FinMap.{get};
 ghost use Rattle.disco_core.specs.Refusals.{doc_of_key};
@@ -186,6 +186,14 @@ impl Hub {
         ensures refused { OnErr result ((p : Past) → HubStandsFor self.now p → 0 < length (taken_in p now)) }
     {
         self.core.due(now)
+    }
+
+    /// Whether the lease of a key has run out by a moment in milliseconds, as
+    /// [`disco_core::Core::is_overdue`] says. Takes no memory.
+    pub fn is_overdue(&self, key: &Key, now: u64) -> bool
+        ensures { (p : Past) → HubStandsFor self.now p → result ≡ has_run_out p now key.now }
+    {
+        self.core.is_overdue(key, now)
     }
 
     /// Cancels at a moment in milliseconds, one by one, the instances that [`Hub::due`] gives when it

@@ -1,5 +1,5 @@
 -- Which leases have run out, and which of them one run takes. Moments are in milliseconds.
-use Rattle.std.specs.Prelude.{ℕ, ◌+◌, ◌-◌, ◌*◌, ◌/◌, Bool, ◌&&◌, nat_lt, if◌then◌else◌, List, [], map, take, Option, Some, None, option_and_then, option_map}
+use Rattle.std.specs.Prelude.{ℕ, ◌+◌, ◌-◌, ◌*◌, ◌/◌, Bool, ◌&&◌, nat_lt, if◌then◌else◌, List, [], map, take, Option, Some, None, is_some, option_and_then, option_map}
 use Rattle.std.specs.FinMap.{FinMap, from_entries, keys}
 use Rattle.std.specs.List.{filter_map}
 use Rattle.std.specs.Ordering.{nat_cmp, ordering_then}
@@ -24,6 +24,10 @@ due_cmp a b = ordering_then (nat_cmp a.0 b.0) (key_cmp a.1 b.1)
 -- a moment that is over
 abbrev pub passed : ℕ → Option ℕ → Option ℕ
 passed now due = option_and_then (λ m. if nat_lt m now then Some m else None) due
+
+-- whether a lease that runs out then, if there is one, has run out by a moment
+abbrev pub is_overdue : ℕ → Option ℕ → Bool
+is_overdue now due = is_some (passed now due)
 
 -- those of the keys whose lease has run out by a moment, by due moment and then by key; at its due moment it hasn't
 unfoldable pub overdue : (Key → Option ℕ) → List Key → ℕ → FinMap due_cmp (Unit {0})

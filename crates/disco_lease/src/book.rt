@@ -2,11 +2,12 @@
 ghost use Rattle.std.specs.Prelude.{◌≡◌, ◌↔◌, ◌<◌, [], IfErr, IfOk, IsTrue, None, OnErr, OnOk, Some, Err, false, length, map, option_map, true};
 ghost use Rattle.disco_values.specs.declared.fault.Fault.TheVariants.{NotFound, OutOfMemory};
 ghost use Rattle.std.specs.FinMap.{keys};
-ghost use Rattle.disco_lease.specs.Due.{due_at, lets_expire, taken};
+ghost use Rattle.disco_lease.specs.Due.{due_at, is_overdue, lets_expire, taken};
 ghost use Rattle.disco_lease.specs.Leases.{HasPlace, IsFilled, IsSameLeases, KeepsOthers, KeepsPlaces, Sets, counted, extended, lease_at, marked, no_leases};
 
 use crate::lease::Lease;
 use crate::minute::{Minute, most_taken};
+use crate::overdue::has_run_out;
 use crate::places::Places;
 use disco_values::{Fault, Key};
 use std::alloc::Global;
@@ -205,6 +206,14 @@ impl LeaseBook {
         let mut found = self.places.overdue(alloc, now)?;
         found.truncate(most_taken(held) as usize);
         Ok(found)
+    }
+
+    /// Whether the lease of a key has run out by a moment in milliseconds. At its due moment it hasn't,
+    /// and where the key has no lease none has. Takes no memory.
+    pub fn is_overdue(&self, key: &Key, now: u64) -> bool
+        ensures { result ≡ is_overdue now (due_at self.now key.now) }
+    {
+        has_run_out(&self.places.lease(key), now)
     }
 
     /// Whether a run at a moment takes no lease. Takes no memory.

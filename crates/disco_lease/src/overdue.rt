@@ -88,7 +88,8 @@ fn keys(alloc: Global, overdue: Overdue) -> Result<Vec<Key>, AllocError>
     Ok(keys)
 }
 
-fn has_run_out(place: &Option<Lease>, now: u64) -> bool
+/// Whether the lease of a place has run out by a moment.
+pub(crate) fn has_run_out(place: &Option<Lease>, now: u64) -> bool
     ensures { result ≡ has_run_out now place.now }
 {
     match place {
