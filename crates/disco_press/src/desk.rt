@@ -9,6 +9,7 @@ ghost use Rattle.disco_press.specs.Desks.{IsValid, NotesNothing, notes_of};
 
 use crate::log::PublicationLog;
 use crate::published_log::Naming;
+use crate::reserve::Reserve;
 use crate::seat::Seat;
 use crate::snapshot_writer::SnapshotWriter;
 use disco_cache::{Edition, Payload};
@@ -32,6 +33,8 @@ pub struct Desk<J: Naming> {
     pub(crate) next: Edition,
     /// Room for the document of the next copy.
     pub(crate) room: Vec<u8>,
+    /// Memory for a cancel that is refused any.
+    pub(crate) reserve: Reserve,
     /// The changes that seats made.
     pub(crate) book: Book<J>,
     /// How many changes were made without a seat.
@@ -75,6 +78,7 @@ impl<J: Naming> Desk<J> {
             log,
             next: Edition::new(alloc),
             room: Vec::new(alloc),
+            reserve: Reserve::none(alloc),
             book,
             by_none: 0,
         }
@@ -163,6 +167,7 @@ impl<J: Naming> Desk<J> {
             log: _log,
             next: _next,
             room: _room,
+            reserve: _reserve,
             book: _book,
             by_none: _,
         } = self;

@@ -9,6 +9,7 @@ mod log;
 mod look;
 mod opening;
 mod published_log;
+mod reserve;
 mod rounds;
 mod scroll;
 mod seat;

@@ -1,19 +1,30 @@
 //! Writes, which note their changes.
-ghost use Rattle.std.specs.Prelude.{◌≡◌, ◌+◌, IfErr, IfOk, OnErr, length, true};
+ghost use Rattle.std.specs.Prelude.{◌≡◌, ◌+◌, ◌<◌, ◌≤◌, IfErr, IfOk, OnErr, length, true, vec_len};
+ghost use Rattle.std.specs.Vec.{vec_capacity};
+ghost use Rattle.disco_values.specs.declared.fault.Fault.TheVariants.{OutOfMemory};
 ghost use Rattle.disco_registry.specs.Commit.{changes_properly, done_by};
 ghost use Rattle.disco_registry.specs.Op.{op_view};
-ghost use Rattle.disco_core.specs.Past.{taken_in};
-ghost use Rattle.disco_hub.specs.Expiry.{Expires, cancelled};
-ghost use Rattle.disco_hub.specs.State.{rules_of};
+ghost use Rattle.disco_core.specs.Past.{Past, taken_in};
+ghost use Rattle.disco_hub.specs.Expiry.{Expires, cancelled, overdue_among};
+ghost use Rattle.disco_hub.specs.State.{HubStandsFor, rules_of};
 ghost use Rattle.disco_hub.specs.Transitions.{Declines, KeepsRest, Writes};
 ghost use Rattle.disco_press.specs.Desks.{CountsByNone, CountsBySeat, Notes, NotesCancels, NotesNothing, note_done};
 
 use crate::desk::Desk;
 use crate::published_log::Naming;
 use crate::seat::Seat;
-use disco_hub::{Cancel, Expired, cancel_all};
+use disco_hub::{Cancel, Expired, Hub, cancel_all};
 use disco_registry::{Applied, Op};
 use disco_values::{Fault, Key};
+
+/// Of these keys those stay whose leases have run out by a moment.
+fn keep_overdue(hub: &Hub, keys: &mut Vec<Key>, now: u64)
+    ensures fewer { vec_len keys.new ≤ vec_len keys.old }
+    ensures room { vec_capacity keys.new ≡ vec_capacity keys.old }
+    ensures keys { (p : Past) → HubStandsFor hub.now p → keys.new.items ≡ overdue_among p now keys.old.items }
+{
+    keys.retain(|key| hub.is_overdue(key, now));
+}
 
 impl<J: Naming> Desk<J> {
     /// Does one operation at a moment in milliseconds, as [`disco_hub::Hub::write`] does, and notes
@@ -80,13 +91,45 @@ impl<J: Naming> Desk<J> {
         ensures noted { NotesCancels self.old self.new (λ p. cancelled (rules_of self.old.hub) p now (taken_in p now) result.gone) }
         ensures rest { KeepsRest self.old.hub self.new.hub }
     {
-        match self.hub.due(now) {
+        match self.due(now) {
             Ok(keys) => cancel_all(self, keys.as_slice(), now),
             Err(fault) => Expired {
                 gone: 0,
                 stopped: Some(fault),
             },
         }
+    }
+}
+
+impl<J: Naming> Desk<J> {
+    /// The keys that one run takes at a moment in milliseconds, as [`disco_hub::Hub::due`] gives them.
+    ///
+    /// # Errors
+    ///
+    /// `OutOfMemory` alone, and only where there is such a key.
+    pub fn due(&self, now: u64) -> Result<Vec<Key>, Fault>
+        ensures keys { IfOk result (λ found. (p : Past) → HubStandsFor self.now.hub p → found.items ≡ taken_in p now) }
+        ensures memory { IfErr result (λ e. e ≡ OutOfMemory) }
+        ensures refused { OnErr result ((p : Past) → HubStandsFor self.now.hub p → 0 < length (taken_in p now)) }
+    {
+        self.hub.due(now)
+    }
+
+    /// Of these keys exactly those stay whose leases have run out by a moment in milliseconds, in
+    /// their order. Their instances are cancelled at that moment, up to the first cancel that is
+    /// refused, as [`Desk::write`] refuses it, and each cancel is noted. No seat counts them. What is
+    /// cancelled stays so; the keys of a run that was stopped may be handed in again. The list of the
+    /// keys keeps its room.
+    pub fn cancel_overdue(&mut self, keys: &mut Vec<Key>, now: u64) -> Expired
+        ensures fewer { vec_len keys.new ≤ vec_len keys.old }
+        ensures room { vec_capacity keys.new ≡ vec_capacity keys.old }
+        ensures keys { (p : Past) → HubStandsFor self.old.hub p → keys.new.items ≡ overdue_among p now keys.old.items }
+        ensures history { Expires self.old.hub self.new.hub now (λ p. overdue_among p now keys.old.items) result.gone result.stopped }
+        ensures noted { NotesCancels self.old self.new (λ p. cancelled (rules_of self.old.hub) p now (overdue_among p now keys.old.items) result.gone) }
+        ensures rest { KeepsRest self.old.hub self.new.hub }
+    {
+        keep_overdue(&self.hub, keys, now);
+        cancel_all(self, keys.as_slice(), now)
     }
 }
 

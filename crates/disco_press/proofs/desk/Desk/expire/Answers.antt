@@ -1,14 +1,13 @@
-use Rattle.std.proofs.Common.{◌<◌, length, subst, sym}
-use Rattle.disco_core.specs.Past.{Past, taken_in}
+use Rattle.std.proofs.Common.{sym}
+use Rattle.disco_core.specs.Past.{taken_in}
 use Rattle.disco_hub.specs.Expiry.{cancelled}
-use Rattle.disco_hub.specs.State.{HubStandsFor, rules_of}
+use Rattle.disco_hub.specs.State.{rules_of}
 use Rattle.disco_hub.proofs.Cancels.{none_gone, none_yet}
-use Rattle.disco_press.specs.Desks.{DeskState}
 use Rattle.disco_press.proofs.Cancels.{noted_nothing}
 use Rattle.disco_press.proofs.desk.Desk.expire.Goals as goal
 
 pub returns-in-Err-clause-history : goal.returns-in-Err-clause-history
-returns-in-Err-clause-history g c = none_gone c.args.self.now.hub c.args.now (λ p. taken_in p c.args.now) c.in-Err.fault c.in-Err.ensures.memory (subst (λ (d : DeskState). (p : Past) → HubStandsFor d.hub p → 0 < length (taken_in p c.args.now)) c.self.view_is c.in-Err.ensures.refused)
+returns-in-Err-clause-history g c = none_gone c.args.self.now.hub c.args.now (λ p. taken_in p c.args.now) c.in-Err.fault c.in-Err.ensures.memory c.in-Err.ensures.refused
 
 pub returns-in-Err-clause-noted : goal.returns-in-Err-clause-noted
 returns-in-Err-clause-noted g c =
