@@ -117,7 +117,7 @@ where
     }
 }
 
-/// Opens a desk, and serves connections over it.
+/// Opens a desk that keeps a reserve of memory, and serves connections over it.
 fn open_and_serve<J: Naming + Send + Sync, R, W: Sink>(
     rt: &R,
     alloc: Global,
@@ -132,9 +132,13 @@ where
     requires opening { Opens J.list J.name J.parts opening }
     ensures said { OnOk result (Appends (W.contents out.old) (W.contents out.new) (listening_line service.now.port)) }
 {
-    let (desk, seats) = open::<J, R>(rt, alloc, &service.settings, service.workers, opening)?;
+    let (mut desk, seats) = open::<J, R>(rt, alloc, &service.settings, service.workers, opening)?;
+    let kept = desk.keep_reserve();
     let desk = Mutex::new(desk);
-    let served = run(rt, alloc, service, clock, listener, &desk, seats, out);
+    let served = match kept {
+        Ok(()) => run(rt, alloc, service, clock, listener, &desk, seats, out),
+        Err(fault) => Err(fault),
+    };
     desk.into_inner().close(rt);
     served
 }

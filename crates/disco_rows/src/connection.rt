@@ -60,12 +60,7 @@ fn at_a_seat<J: Naming, R: Wait>(
     request: &[u8],
     piece: usize,
 ) -> io::Result<Came> {
-    let context = ServerContext {
-        rt,
-        alloc,
-        desk,
-        gate: &Open,
-    };
+    let context = ServerContext::new(rt, alloc, desk, &Open);
     let mut service = DeskService::new(&context, Routes::new(alloc)?, seat, Ticks::new(STEP));
     Ok(run(alloc, &mut service, request, piece)?)
 }

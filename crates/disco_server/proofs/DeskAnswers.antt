@@ -4,13 +4,15 @@ use mathlib.Core.List.{IsPrefix}
 use base.Growing.{prefix_trans}
 use Rattle.disco_instance.specs.Instance.{Gives}
 use Rattle.disco_values.specs.declared.fault.Fault.{Fault}
+use Rattle.disco_values.specs.declared.fault.Fault.TheVariants.{OutOfMemory}
 use Rattle.disco_history.specs.Change.{Entry}
 use Rattle.disco_registry.specs.Commit.{done_by}
 use Rattle.disco_registry.specs.declared.op.Applied.{Applied}
 use Rattle.disco_core.specs.Past.{Past, history}
 use Rattle.disco_core.specs.State.{Rules}
 use Rattle.disco_hub.specs.Press.{change}
-use Rattle.disco_hub.specs.State.{rules_of}
+use Rattle.disco_hub.specs.State.{HubStandsFor, rules_of}
+use Rattle.disco_hub.specs.Transitions.{KeepsRest}
 use Rattle.disco_message.specs.ReplyText.{ReplyView}
 use Rattle.disco_calls.specs.Calls.{CallView, loads, shows, shows_id, writes, lacks, call_view}
 use Rattle.disco_calls.specs.declared.call.Call.{Call}
@@ -74,6 +76,33 @@ pub counts : (before after : SeatState) (r : Result Applied Fault) → IfOk r (�
     → after.changes ≡ before.changes + length (changes_by r)
 counts before after (Ok a) counted same = ap (λ (s : SeatState). s.changes) counted ∙ ap (λ n. before.changes + n) (many_is (done_by a))
 counts before after (Err e) counted same = omega (arith, ap (λ (s : SeatState). s.changes) same)
+
+-- no memory is there for it
+pub no_memory : (d : DeskState) (s : SeatState) (asked : Result CallView Fault) (now : ℕ) (y : ReplyView) → y ≡ refusal_answer OutOfMemory → IsAnsweredOn d d s s asked now y
+no_memory d s asked now y shown = record {
+  changes = [];
+  noted = (refl, sym (append-nil d.pending));
+  counted = omega arith;
+  by_seat = (omega arith, refl);
+  replied = λ p stands. (p, inr (shown, refl), sym (append-nil (history p)), stands);
+}
+
+-- what holds of a refusal holds where memory was lacking
+pub lacked_memory : (P : Type 0) (r : Result Applied Fault) → r ≡ Err OutOfMemory → OnErr r P → P
+lacked_memory P r is so = subst (λ (r : Result Applied Fault). OnErr r P) is so
+
+-- a refused try came before
+pub tried_before : (old mid new : DeskState) (before between after : SeatState) (asked : Result CallView Fault) (now : ℕ) (y : ReplyView) → ((p : Past) → HubStandsFor old.hub p → HubStandsFor mid.hub p) → NotesNothing old mid → KeepsRest old.hub mid.hub → between ≡ before
+    → IsAnsweredOn mid new between after asked now y → IsAnsweredOn old new before after asked now y
+tried_before old mid new before between after asked now y stood nothing rest same so = record {
+  changes = so.changes;
+  noted = (so.noted.0 ∙ nothing.0, so.noted.1 ∙ ap (λ l. l ++ map change so.changes) nothing.1);
+  counted = so.counted ∙ ap (λ (s : SeatState). s.changes + length so.changes) same;
+  by_seat = (so.by_seat.0 ∙ ap (λ n. n + length so.changes) nothing.2.0, so.by_seat.1 ∙ nothing.2.1);
+  replied = λ p stands.
+      let r = so.replied p (stood p stands) in
+      (r.0, subst (λ rules. IsReply rules p asked now y r.0) rest.rules r.1, r.2, r.3);
+}
 
 -- ---- a request that was read
 

@@ -1,5 +1,5 @@
 -- What a hub does is answered.
-use Rattle.std.proofs.Common.{◌≡◌, ◌≢◌, ◌⊎◌, inl, inr, ℕ, true, List, [], ◌∷◌, ◌++◌, Option, Some, None, option_map, Result, Ok, Err, IfOk, IfErr, MatchResult, refl, sym, ap, subst, ◌∙◌, arith, append-nil}
+use Rattle.std.proofs.Common.{◌≡◌, ◌≢◌, ◌⊎◌, inl, inr, ℕ, true, List, [], ◌∷◌, ◌++◌, Option, Some, None, option_map, Result, Ok, Err, IfOk, IfErr, OnErr, MatchResult, refl, sym, ap, subst, ◌∙◌, arith, append-nil}
 use Rattle.std.proofs.lemmas.List.{map-append}
 use Rattle.std.specs.Option.{ok_or, option_map_or}
 use Rattle.std.specs.declared.alloc.Global.{Global}
@@ -84,6 +84,11 @@ module _ (old new : HubState) (now : ℕ) (y : ReplyView) where
             let refuses = sym (accepts_after old.core.registry (history p) stands.core.registry ask now) ∙ why.cause other in
             (p, inl (subst (λ r. IsDone (rules_of old) p ask now r y p) (sym refuses) (is, refl)), none, why.history p stands)
       ]
+
+-- what is refused has left all
+pub stood : (old new : HubState) (ask : OpView) (now : ℕ) (r : Result Applied Fault) → IfErr r (Declines old new ask now) → OnErr r ((p : Past) → HubStandsFor old p → HubStandsFor new p)
+stood old new ask now (Ok a) why = tt
+stood old new ask now (Err e) why = why.history
 
 -- a path that lacks the method
 pub lacked : (s : HubState) (allow : Allow) (now : ℕ) (y : ReplyView) → y ≡ record { status = 405; allow = Some allow; document = None; cert = None } → IsAnswered s s (Ok (lacks allow)) now y

@@ -15,9 +15,9 @@ use Rattle.disco_registry.specs.Op.{OpView}
 use Rattle.disco_registry.specs.declared.op.Applied.{Applied}
 use Rattle.disco_cache.specs.Docs.{Docs, Drops}
 use Rattle.disco_cache.specs.declared.payload.Payload.{Payload}
-use Rattle.disco_core.specs.Past.{history}
+use Rattle.disco_core.specs.Past.{Past, history}
 use Rattle.disco_hub.specs.Kept.{Forgets}
-use Rattle.disco_hub.specs.State.{HubState, rules_of}
+use Rattle.disco_hub.specs.State.{HubState, HubStandsFor, rules_of}
 use Rattle.disco_hub.specs.Transitions.{Declines, IsDocOf, Loads, Writes}
 use Rattle.disco_calls.specs.Calls.{CallView, loads, shows, shows_id, writes, lacks, call_view}
 use Rattle.disco_calls.specs.declared.call.Call.{Call}
@@ -52,6 +52,10 @@ forgotten held (Some c) old new drops k d is = dropped _ old new drops k d is
 pub written_keeps : (old new : HubState) (ask : OpView) (now : ℕ) (r : Result Applied Fault) → IfOk r (λ a. Writes old new ask now (done_by a)) → IfErr r (Declines old new ask now) → KeepsAsked old new (Ok (writes ask))
 written_keeps old new ask now (Ok a) done why = λ p stands. forgotten (get (registry_of (history p))) (done_by a) old.docs new.docs (done.docs p stands)
 written_keeps old new ask now (Err e) done why = λ p stands k d is. ap (λ (s : Docs). get s.docs k) (sym why.docs) ∙ is
+
+-- an operation is tried again
+pub kept_twice : (old mid new : HubState) (ask : OpView) → ((p : Past) → HubStandsFor old p → HubStandsFor mid p) → KeepsAsked old mid (Ok (writes ask)) → KeepsAsked mid new (Ok (writes ask)) → KeepsAsked old new (Ok (writes ask))
+kept_twice old mid new ask stood first second = λ p stands k d is. first p stands k d (second p (stood p stands) k d is)
 
 -- what was called for
 pub kept_by_call : (old new : HubState) (called : Result Call Fault) (call : Call) → called ≡ Ok call → KeepsAsked old new (Ok (call_view call)) → (asked : Result CallView Fault) → Gives call_view called asked → KeepsAsked old new asked

@@ -1,3 +1,4 @@
 mod DeskAnswers
+mod FirstKeys
 mod HubAnswers
 mod KeptDocuments

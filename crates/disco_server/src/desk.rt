@@ -10,6 +10,7 @@ ghost use Rattle.disco_registry.specs.Op.{op_view};
 ghost use Rattle.disco_server.specs.Desks.{IsAnsweredBy, IsAnsweredOn};
 ghost use Rattle.disco_server.specs.Replies.{IsAnswered, KeepsAsked, shared_text};
 
+use crate::cancel::cancel;
 use crate::replies::{lacking, refused, showing, success_of, wrote};
 use crate::shared::Shared;
 use disco_calls::{Call, Routes, call_of};
@@ -43,14 +44,26 @@ fn by_id<J: Naming>(desk: &Desk<J>, id: &Text, form: Form, now: u64) -> Reply<Sh
     showing(desk.by_id(id.as_str(), form))
 }
 
-/// Does an operation for a seat.
-fn write<J: Naming>(desk: &mut Desk<J>, seat: &mut Seat<J>, op: Op, now: u64) -> Reply<Shared>
+/// Does an operation for a seat, once.
+fn apply<J: Naming>(desk: &mut Desk<J>, seat: &mut Seat<J>, op: Op, now: u64) -> Reply<Shared>
     ensures answered { IsAnsweredOn desk.old desk.new seat.old seat.new (Ok (writes (op_view op))) now (reply_view shared_text result) }
     ensures kept { KeepsAsked desk.old.hub desk.new.hub (Ok (writes (op_view op))) }
     ensures rest { KeepsRest desk.old.hub desk.new.hub }
 {
     let success = success_of(&op);
     wrote(desk.write_as(seat, op, now), success)
+}
+
+/// Does an operation for a seat. A cancel that is refused memory is done once more.
+fn write<J: Naming>(desk: &mut Desk<J>, seat: &mut Seat<J>, op: Op, now: u64) -> Reply<Shared>
+    ensures answered { IsAnsweredOn desk.old desk.new seat.old seat.new (Ok (writes (op_view op))) now (reply_view shared_text result) }
+    ensures kept { KeepsAsked desk.old.hub desk.new.hub (Ok (writes (op_view op))) }
+    ensures rest { KeepsRest desk.old.hub desk.new.hub }
+{
+    match op {
+        Op::Cancel(key) => cancel(desk, seat, &key, now),
+        other => apply(desk, seat, other, now),
+    }
 }
 
 /// Does what is called for.

@@ -3,7 +3,7 @@ ghost use Rattle.std.specs.Prelude.{◌≡◌};
 
 use crate::clock::Clock;
 use crate::gate::{Gate, Point};
-use crate::locked::answer;
+use crate::locked::answer_in;
 use crate::shared::Shared;
 use disco_calls::Routes;
 use disco_http::Service;
@@ -19,6 +19,26 @@ pub struct ServerContext<'a, J: Naming, R, G> {
     pub alloc: Global,
     pub desk: &'a Mutex<Desk<J>>,
     pub gate: &'a G,
+    /// Whoever reads a long body has it.
+    pub(crate) long_body: Mutex<()>,
+}
+
+impl<'a, J: Naming, R, G> ServerContext<'a, J, R, G> {
+    /// What the workers share that serve a desk.
+    pub fn new(
+        rt: &'a R,
+        alloc: Global,
+        desk: &'a Mutex<Desk<J>>,
+        gate: &'a G,
+    ) -> ServerContext<'a, J, R, G> {
+        ServerContext {
+            rt,
+            alloc,
+            desk,
+            gate,
+            long_body: Mutex::new(()),
+        }
+    }
 }
 
 /// A desk that answers the requests of one connection after another, each at the moment that the
@@ -74,15 +94,7 @@ impl<'a, J: Naming, R: Wait, C: Clock, G: Gate> Service for DeskService<'a, J, R
     fn call(&mut self, request: &Request) -> Reply<Shared> {
         self.context.gate.pass(Point::Received(self.connection));
         let now = self.clock.now();
-        let reply = answer(
-            self.context.rt,
-            self.context.alloc,
-            &self.routes,
-            self.context.desk,
-            &mut self.seat,
-            request,
-            now,
-        );
+        let reply = answer_in(self.context, &self.routes, &mut self.seat, request, now);
         self.context.gate.pass(Point::Answered(self.connection));
         reply
     }

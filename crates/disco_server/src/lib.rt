@@ -5,9 +5,11 @@
 //! of a connection, by a [`Clock`].
 #![tactic(auto)]
 
+mod cancel;
 mod clock;
 mod desk;
 mod desk_service;
+mod expiry;
 mod gate;
 mod hub;
 mod locked;
@@ -22,6 +24,7 @@ mod system_clock;
 mod tasks;
 mod threads;
 mod timer;
+mod turns;
 mod worker;
 
 pub use clock::Clock;

@@ -9,9 +9,11 @@ ghost use Rattle.disco_server.specs.Desks.{IsAnsweredBySome, IsLooked, IsLookOrC
 ghost use Rattle.disco_server.specs.Replies.{shared_text};
 
 use crate::desk::answer_read;
+use crate::desk_service::ServerContext;
 use crate::replies::showing;
 use crate::shared::Shared;
 use crate::spin::spin_and_lock;
+use crate::turns::call_in_turn;
 use disco_calls::{Call, Routes, call_of};
 use disco_message::{Reply, Request};
 use disco_press::{Desk, Looked, Naming, Seat};
@@ -71,6 +73,28 @@ fn answer_called<J: Naming, R: Wait>(
         Some(reply) => reply,
         None => answer_locked(rt, desk, seat, called, now),
     }
+}
+
+/// The reply to a request at a moment, as [`answer`] gives it, for a worker of a server: of long bodies
+/// one is read at a time.
+pub(crate) fn answer_in<J: Naming, R: Wait, G>(
+    context: &ServerContext<'_, J, R, G>,
+    routes: &Routes,
+    seat: &mut Seat<J>,
+    request: &Request,
+    now: u64,
+) -> Reply<Shared>
+    ensures told { IsLookOrCall seat.old seat.new (call request.now) now (reply_view shared_text result) }
+    ensures known { IsPrefix seat.old.known seat.new.known }
+{
+    let called = call_in_turn(
+        context.rt,
+        context.alloc,
+        routes,
+        &context.long_body,
+        request,
+    );
+    answer_called(context.rt, context.desk, seat, called, now)
 }
 
 /// The reply to a request at a moment in milliseconds. Where it asks for a document that readers

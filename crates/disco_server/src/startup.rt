@@ -149,12 +149,7 @@ where
     ensures made { IfOk result (λ made. F.post ready (Ok made)) }
     ensures fault { IfErr result (λ fault. (fault ≡ OutOfMemory) ⊎ ((fault ≡ ReadFailed) ⊎ F.post ready (Err fault))) }
 {
-    let context = ServerContext {
-        rt,
-        alloc,
-        desk,
-        gate,
-    };
+    let context = ServerContext::new(rt, alloc, desk, gate);
     let workers = workers_for(&context, seats, *limits, clock)?;
     let hall = hall_for(rt, alloc, &listener, *limits, places, connections)?;
     let made = run(rt, alloc, &hall, workers, ready)?;

@@ -1,7 +1,8 @@
 //! What is done to a desk again and again, and how often.
-ghost use Rattle.std.specs.Prelude.{◌≡◌, None, Ok, Some};
-ghost use Rattle.disco_server.specs.Tasks.{LetsRunOut, PublishesOn, Tends, next_go, period_of};
+ghost use Rattle.std.specs.Prelude.{◌≡◌};
+ghost use Rattle.disco_server.specs.Tasks.{PublishesOn, Tends, next_go, period_of};
 
+use crate::expiry::{Expiry, run_on};
 use crate::publisher::{Step, publish_step};
 use disco_press::{Desk, Naming};
 use disco_values::Fault;
@@ -67,39 +68,32 @@ fn publish_on<J: Naming, R: Wait>(rt: &R, desk: &mut Desk<J>) -> Result<bool, Fa
     }
 }
 
-/// Lets leases run out. Why the run stopped, if it did.
-fn expire<J: Naming>(desk: &mut Desk<J>, now: u64) -> Option<Fault>
-    ensures { LetsRunOut now desk.old desk.new result }
-{
-    desk.expire(now).stopped
-}
-
-/// What one go at a task does to a desk that is lent to it, at a moment. Answers whether the task
-/// goes on at once: a round, up to its publication. May wait for a seat that is inside its look.
+/// What one go at a task does to a desk that is lent to it, at a moment, and to the run that lets
+/// leases run out, if one is open. What is left of that run, and whether the task goes on at once: a
+/// round, up to its publication, and a run, until none of its keys is left. May wait for a seat that is
+/// inside its look.
 ///
-/// Refused as `OutOfMemory` in a step of a round, which stays as it was, and as a run is that lets
-/// leases run out, with what is gone by then.
+/// Refused as `OutOfMemory` in a step of a round, which stays as it was, and where a run begins, of
+/// which nothing is there then; and as a cancel of a run is, with what is gone by then.
 pub(crate) fn tend_once<J: Naming, R: Wait>(
     rt: &R,
     desk: &mut Desk<J>,
     task: Task,
+    run: Option<Expiry>,
     now: u64,
-) -> Result<bool, Fault>
-    ensures { Tends task now desk.old result desk.new }
+) -> (Option<Expiry>, Result<bool, Fault>)
+    ensures { Tends task now desk.old run result.1 desk.new result.0 }
 {
     match task {
-        Task::Publish => publish_on(rt, desk),
+        Task::Publish => (run, publish_on(rt, desk)),
         Task::Clean => {
             let _from = desk.clean(now);
-            Ok(false)
+            (run, Ok(false))
         }
         Task::CloseMinute => {
             let _closed = desk.close_minute();
-            Ok(false)
+            (run, Ok(false))
         }
-        Task::Expire => match expire(desk, now) {
-            Some(fault) => Err(fault),
-            None => Ok(false),
-        },
+        Task::Expire => run_on(desk, run, now),
     }
 }

@@ -3,6 +3,7 @@ ghost use Rattle.std.specs.Prelude.{◌≡◌, IfErr};
 ghost use Rattle.disco_values.specs.declared.fault.Fault.TheVariants.{ReadFailed};
 
 use crate::clock::Clock;
+use crate::expiry::Expiry;
 use crate::pauses::Pauses;
 use crate::tasks::{TASKS, Task, next_go, tend_once};
 use crate::timer::Timer;
@@ -48,9 +49,44 @@ fn lock_with_room<'a, J: Naming, R: Wait>(
     guard
 }
 
+/// Whether a task goes on at once behind a go at it. A run that is refused memory does once more, where
+/// the desk had a reserve to give up for it. The reserve is taken again once a task is done.
+fn goes_on<J: Naming>(desk: &mut Desk<J>, task: Task, tended: Result<bool, Fault>) -> bool {
+    match tended {
+        Ok(true) => true,
+        Ok(false) => {
+            desk.take_reserve_again();
+            false
+        }
+        Err(Fault::OutOfMemory) => matches!(task, Task::Expire) && desk.give_up_reserve(),
+        Err(_) => false,
+    }
+}
+
+/// One go at a task at a moment, under the lock. Whether the task goes on at once.
+fn go<J: Naming, R: Wait + rt::Clock>(
+    rt: &R,
+    desk: &Mutex<Desk<J>>,
+    task: Task,
+    run: &mut Option<Expiry>,
+    now: u64,
+    pauses: &mut Pauses,
+    stop: &AtomicBool,
+) -> bool {
+    if stop.load(Ordering::SeqCst) {
+        return false;
+    }
+    pauses.pause_if_due(rt);
+    let mut guard = lock_with_room(rt, desk, task);
+    let (left, tended) = tend_once(rt, &mut *guard, task, run.take(), now);
+    *run = left;
+    let more = goes_on(&mut *guard, task, tended);
+    MutexGuard::unlock(guard);
+    more
+}
+
 /// Does a task at a moment, each go of it under the lock, which others may have between two goes.
-/// Where there is no memory the round stays open for the next time, and what a run is refused is taken
-/// the next time.
+/// Where there is no memory the round stays open for the next time.
 fn tend<J: Naming, R: Wait + rt::Clock>(
     rt: &R,
     desk: &Mutex<Desk<J>>,
@@ -60,14 +96,25 @@ fn tend<J: Naming, R: Wait + rt::Clock>(
     stop: &AtomicBool,
 ) {
     for _ in rt.forever() {
-        if stop.load(Ordering::SeqCst) {
+        if !go(rt, desk, task, &mut None, now, pauses, stop) {
             return;
         }
-        pauses.pause_if_due(rt);
-        let mut guard = lock_with_room(rt, desk, task);
-        let tended = tend_once(rt, &mut *guard, task, now);
-        MutexGuard::unlock(guard);
-        if !matches!(tended, Ok(true)) {
+    }
+}
+
+/// Lets leases run out: the keys that a run takes when it begins are cancelled some at a time, each
+/// where its lease has run out by the moment of its go. What a run is refused is taken the next time.
+fn expire<J: Naming, R: Wait + rt::Clock, C: Clock>(
+    rt: &R,
+    desk: &Mutex<Desk<J>>,
+    clock: &mut C,
+    pauses: &mut Pauses,
+    stop: &AtomicBool,
+) {
+    let mut run = None;
+    for _ in rt.forever() {
+        let now = clock.now();
+        if !go(rt, desk, Task::Expire, &mut run, now, pauses, stop) {
             return;
         }
     }
@@ -110,6 +157,7 @@ fn tend_often<J: Naming, R: Wait + rt::Clock, C: Clock + Copy>(
             let mut pauses = Pauses::new(rt);
             match task {
                 Task::Clean => clean(rt, desk, now, &mut pauses, stop),
+                Task::Expire => expire(rt, desk, &mut clock, &mut pauses, stop),
                 other => tend(rt, desk, other, now, &mut pauses, stop),
             }
         }

@@ -1,26 +1,15 @@
-use Rattle.std.proofs.Common.{ℕ, ◌≡◌, MatchResult, subst}
+use Rattle.std.proofs.Common.{Ok, subst, sym}
+use Rattle.disco_calls.specs.Calls.{writes}
 use Rattle.disco_message.specs.ReplyText.{reply_view}
 use Rattle.disco_registry.specs.Op.{op_view}
-use Rattle.disco_server.specs.Replies.{plain, refusal_answer, shared_text}
-use Rattle.disco_server.proofs.HubAnswers.{changes_by, written}
-use Rattle.disco_server.proofs.DeskAnswers.{counts, counts_too, notes}
-use Rattle.disco_server.proofs.KeptDocuments.{written_keeps}
+use Rattle.disco_registry.specs.declared.op.Op.{Op}
+use Rattle.disco_server.specs.Desks.{IsAnsweredOn}
+use Rattle.disco_server.specs.Replies.{KeepsAsked, shared_text}
 use Rattle.disco_server.proofs.desk.write.Goals as goal
 
-pub returns-clause-answered : goal.returns-clause-answered
-returns-clause-answered g c =
-    let y = reply_view shared_text c.wrote.result in
-    let w = c.write_as.ensures in
-    let shown = subst (λ (success : ℕ). MatchResult c.write_as.result (λ a. y ≡ plain success) (λ e. y ≡ refusal_answer e)) c.success_of-success.ensures c.wrote.ensures in
-    record {
-      changes = changes_by c.write_as.result;
-      noted = notes c.args.desk.now c.write_as.new.self c.write_as.result w.noted w.not_noted;
-      counted = counts c.args.seat.now c.write_as.new.seat c.write_as.result w.count w.not_counted;
-      by_seat = counts_too c.args.desk.now c.write_as.new.self c.write_as.result w.counted w.not_noted;
-      replied = written c.args.desk.now.hub c.write_as.new.self.hub c.args.now y (op_view c.args.op) c.write_as.result w.done w.refused shown;
-    }
+pub returns-in-Cancel-clause-answered : goal.returns-in-Cancel-clause-answered
+returns-in-Cancel-clause-answered g c =
+    subst (λ (op : Op). IsAnsweredOn c.args.desk.now c.cancel.new.desk c.args.seat.now c.cancel.new.seat (Ok (writes (op_view op))) c.args.now (reply_view shared_text c.cancel.result)) (sym c.in-Cancel.is) c.cancel.ensures.answered
 
-pub returns-clause-kept : goal.returns-clause-kept
-returns-clause-kept g c =
-    let w = c.write_as.ensures in
-    written_keeps c.args.desk.now.hub c.write_as.new.self.hub (op_view c.args.op) c.args.now c.write_as.result w.done w.refused
+pub returns-in-Cancel-clause-kept : goal.returns-in-Cancel-clause-kept
+returns-in-Cancel-clause-kept g c = subst (λ (op : Op). KeepsAsked c.args.desk.now.hub c.cancel.new.desk.hub (Ok (writes (op_view op)))) (sym c.in-Cancel.is) c.cancel.ensures.kept
