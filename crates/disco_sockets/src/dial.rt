@@ -8,8 +8,9 @@ use std::sync::atomic::{AtomicU64, Ordering};
 const CLOCKS: u64 = 4;
 
 /// How often each clock is asked until all is done that was due: it may be in the midst of being asked,
-/// then it says the moment, and when it is asked once more what was due is done.
-const TURNS: u64 = 3;
+/// then it says the moment, a run that lets one lease run out asks when it begins and when it cancels,
+/// and when the clock is asked once more what was due is done.
+const TURNS: u64 = 5;
 
 /// What all clocks say, and how often each was asked.
 #[derive(Drop)]

@@ -1,5 +1,5 @@
 //! A desk and its seats, by code that is generic in their name.
-use crate::given::{apps, key, registration, say};
+use crate::given::{apps, compact_apps, key, registration, say};
 use crate::hubs::tell_expired;
 use disco_instance::{Fault, Form};
 use disco_press::{Desk, Looked, Naming, Seat};
@@ -41,7 +41,9 @@ fn tell_step_back<J: Naming, R: Wait>(
 ) -> Result<(), Fault> {
     write(desk, registration(alloc, "1")?, 1)?;
     say(out, "load", desk.load(&apps())?.version)?;
+    say(out, "load", desk.load(&compact_apps())?.version)?;
     say(out, "round", desk.begin()? as u64)?;
+    say(out, "copied", desk.copy_one()?.is_some() as u64)?;
     say(out, "copied", desk.copy_one()?.is_some() as u64)?;
     write_as(desk, seat, registration(alloc, "2")?, 2)?;
     tell_look(seat, out)?;
@@ -69,6 +71,30 @@ fn tell_time<J: Naming>(desk: &mut Desk<J>, out: &mut String) -> Result<(), Faul
     say(out, "base", desk.clean(1_000_000))
 }
 
+/// An instance whose lease runs out.
+fn tell_overdue<J: Naming>(
+    alloc: Global,
+    desk: &mut Desk<J>,
+    out: &mut String,
+) -> Result<(), Fault> {
+    write(desk, registration(alloc, "3")?, 4)?;
+    say(out, "due", desk.due(1_000_000)?.len() as u64)?;
+    let mut keys = Vec::new(alloc);
+    keys.push(key(alloc, "2")?)?;
+    keys.push(key(alloc, "3")?)?;
+    tell_expired(desk.cancel_overdue(&mut keys, 1_000_000), out)?;
+    say(out, "overdue", keys.len() as u64)
+}
+
+/// A reserve that is given up twice.
+fn tell_reserve<J: Naming>(desk: &mut Desk<J>, out: &mut String) -> Result<(), Fault> {
+    desk.keep_reserve()?;
+    say(out, "given up", desk.give_up_reserve() as u64)?;
+    say(out, "nothing is left", desk.give_up_reserve() as u64)?;
+    desk.take_reserve_again();
+    say(out, "given up again", desk.give_up_reserve() as u64)
+}
+
 /// What a desk answers, and what its seat sees.
 pub(crate) fn tell<J: Naming, R: Wait>(
     rt: &R,
@@ -81,7 +107,9 @@ pub(crate) fn tell<J: Naming, R: Wait>(
     tell_step_back(rt, alloc, desk, seat, out)?;
     tell_instance(alloc, desk, out)?;
     write_as(desk, seat, Op::Cancel(key(alloc, "2")?), 3)?;
-    tell_time(desk, out)
+    tell_time(desk, out)?;
+    tell_overdue(alloc, desk, out)?;
+    tell_reserve(desk, out)
 }
 
 /// What a seat sees of a desk that is gone.

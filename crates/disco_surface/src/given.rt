@@ -46,6 +46,14 @@ pub(crate) fn apps() -> DocKey {
     }
 }
 
+/// The key of the compact document of all apps.
+pub(crate) fn compact_apps() -> DocKey {
+    DocKey {
+        query: Query::Apps,
+        form: Form::Compact,
+    }
+}
+
 /// The key of the document of app A.
 pub(crate) fn app(alloc: Global) -> Result<DocKey, Fault> {
     Ok(DocKey {

@@ -130,6 +130,7 @@ fn tell_put(alloc: Global, hub: &mut Hub, out: &mut String) -> Result<(), Fault>
     say(out, "tells a change", register(alloc, hub)?)?;
     let key = key(alloc, "1")?;
     tell_instance(hub, &key, out)?;
+    say(out, "overdue", hub.is_overdue(&key, 1_000_000) as u64)?;
     say(out, "renewed", write(hub, Op::Renew(key), 2)?)?;
     let app = app(alloc)?;
     tell_document(hub, &app, out)

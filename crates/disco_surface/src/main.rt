@@ -65,7 +65,8 @@ where
     R: Net<Listener = TcpListener, Stream = TcpStream> + Threads + Wait + Clock + Sync,
 {
     tell_locked(rt, alloc, desk, seat, out)?;
-    servers::tell_beside(rt, alloc, desk, seat, out)?;
+    servers::tell_beside(rt, alloc, desk, seat, servers::GET, out)?;
+    servers::tell_beside(rt, alloc, desk, seat, servers::GET_COMPACT, out)?;
     servers::tell_renewals(rt, alloc, desk, seat, out)?;
     servers::tell_running(rt, alloc, desk, seats, out)
 }

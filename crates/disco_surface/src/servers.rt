@@ -19,7 +19,10 @@ use std::sync::atomic::{AtomicBool, Ordering};
 use std::sync::{Mutex, MutexGuard, Wait};
 use std::thread::{Threads, join, yield_now};
 
-const GET: &[u8] = b"GET /eureka/v2/apps HTTP/1.1\r\nHost: a\r\n\r\n";
+pub(crate) const GET: &[u8] = b"GET /eureka/v2/apps HTTP/1.1\r\nHost: a\r\n\r\n";
+
+pub(crate) const GET_COMPACT: &[u8] =
+    b"GET /eureka/v2/apps HTTP/1.1\r\nHost: a\r\nX-Eureka-Accept: compact\r\n\r\n";
 
 /// Registers an instance whose lease lasts 90 seconds.
 const POST: &[u8] =
@@ -174,10 +177,11 @@ fn answer_beside<J: Naming, R: Wait>(
     alloc: Global,
     desk: &Mutex<Desk<J>>,
     seat: &mut Seat<J>,
+    bytes: &[u8],
     held: &AtomicBool,
     answered: &AtomicBool,
 ) -> Result<u16, Fault> {
-    let (routes, request) = (Routes::new(alloc)?, read(alloc, GET)?);
+    let (routes, request) = (Routes::new(alloc)?, read(alloc, bytes)?);
     let _ = has_come(held);
     let reply = answer(rt, alloc, &routes, desk, seat, &request, 2);
     answered.store(true, Ordering::SeqCst);
@@ -190,6 +194,7 @@ pub(crate) fn tell_beside<J: Naming + Send + Sync, R: Threads + Wait + Sync>(
     alloc: Global,
     desk: &Mutex<Desk<J>>,
     seat: &mut Seat<J>,
+    bytes: &[u8],
     out: &mut String,
 ) -> Result<(), Fault> {
     let (held, answered) = (AtomicBool::new(false), AtomicBool::new(false));
@@ -197,7 +202,7 @@ pub(crate) fn tell_beside<J: Naming + Send + Sync, R: Threads + Wait + Sync>(
     let (in_time, status) = join(
         rt,
         move || hold(rt, desk, held, answered),
-        move || answer_beside(rt, alloc, desk, seat, held, answered),
+        move || answer_beside(rt, alloc, desk, seat, bytes, held, answered),
     );
     say(out, "beside the lock", status? as u64)?;
     say(out, "in time", in_time as u64)

@@ -129,6 +129,7 @@ fn tell_leases_of(
     leases.touch(key, 20)?;
     say(out, "renewals", leases.close_minute(1))?;
     say(out, "due", leases.due(alloc, 1_000_000, 1)?.len() as u64)?;
+    say(out, "overdue", leases.is_overdue(key, 1_000_000) as u64)?;
     leases.cancel(key)?;
     say(
         out,
