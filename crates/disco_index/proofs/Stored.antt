@@ -1,6 +1,6 @@
--- The finite map that a tree's entries stand for.
+-- The keys of entries in order, and of those that are true.
 use Rattle.std.proofs.Common.{◌≡◌, Bool, true, false, ◌&&◌, cond, T, List, [], ◌∷◌, map, filter, Option, Some, None, refl, sym, ap, subst, ◌∙◌}
-use Rattle.std.specs.FinMap.{FinMap, entries, entries_sorted, from_entries, from_sorted, entries-from_sorted, get, get-entries, get-from_entries, get-from_sorted, same_map}
+use Rattle.std.specs.FinMap.{FinMap, entries, entries_sorted, get, get-entries}
 use Rattle.std.specs.FinMap.Entries.{below_all, find, is_sorted, same_entries}
 use Rattle.std.specs.List.{AllByRecursion}
 use Rattle.std.specs.Option.{unwrap_or, is_some}
@@ -10,13 +10,6 @@ use Rattle.disco_values.specs.Key.{key_cmp, same_key}
 use Rattle.disco_values.specs.declared.key.Key.{Key}
 use Rattle.disco_history.proofs.Keys.{keys_total, exact_keys, same_key-sym}
 use Rattle.disco_history.proofs.Sorted.{both_first, both_second, is_less}
-
--- ---- entries in order are those of their map
-
-pub entries_stored : {X : Type 0} (es : List (Key × X)) → T (is_sorted key_cmp es) → entries (from_entries {R = key_cmp} es) ≡ es
-entries_stored es h =
-    ap entries (same_map keys_total exact_keys (from_entries es) (from_sorted es) (λ q. get-from_entries keys_total es q ∙ sym (get-from_sorted key_cmp es q h)))
-    ∙ entries-from_sorted key_cmp es h
 
 -- ---- two lists in order with the same keys
 

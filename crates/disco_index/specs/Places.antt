@@ -1,11 +1,10 @@
--- What is stored of vips, and what becomes of places. Nothing here is to be believed: no public contract rests on it.
-use Rattle.std.specs.Prelude.{◌≡◌, ℕ, Bool, true, false, ◌&&◌, List, map, filter, if◌then◌else◌, Option, Some, None, IsSome, string_bytes}
-use Rattle.std.specs.FinMap.{FinMap, empty, from_entries, entries, get, keys}
+-- What is kept of vips, and what becomes of places. Nothing here is to be believed: no public contract rests on it.
+use Rattle.std.specs.Prelude.{◌≡◌, ℕ, Bool, true, false, ◌&&◌, List, filter, if◌then◌else◌, Option, Some, None, IsSome}
+use Rattle.std.specs.FinMap.{get, keys}
 use Rattle.std.specs.Option.{unwrap_or}
 use Rattle.std.specs.List.{list_any}
 use Rattle.std.specs.Str.{bytes_eq}
-use Rattle.std.specs.declared.string.String.{String}
-use Rattle.disco_values.specs.Key.{key_cmp, same_key}
+use Rattle.disco_values.specs.Key.{same_key}
 use Rattle.disco_values.specs.declared.key.Key.{Key}
 use Rattle.disco_history.specs.Slots as slots
 use Rattle.disco_instance.specs.Row.{Row}
@@ -22,22 +21,6 @@ has_in m q k = unwrap_or (place_in m q k) false
 -- the keys that have the piece, in their order
 abbrev pub under_in : KeysByVip → List ℕ → List Key
 under_in m q = filter (has_in m q) (keys (keys_at m q))
-
--- the places that entries stand for
-abbrev pub seen_vips : {A : Type 0} → List (String A × FinMap key_cmp Bool) → KeysByVip
-seen_vips es = from_entries (map (λ e. (string_bytes e.0, e.1)) es)
-
--- no vip stands without a place
-abbrev pub HasNoBareVip : KeysByVip → Type 0
-HasNoBareVip v = (q : List ℕ) → get v q ≡ Some empty → ⊥
-
--- at most this vip does, and then b says so
-abbrev pub IsBareOnly : List ℕ → Bool → KeysByVip → Type 0
-IsBareOnly vip b v = (q : List ℕ) → get v q ≡ Some empty → (b ≡ true) × (bytes_eq vip q ≡ true)
-
--- the keys of the places where an instance is
-abbrev pub keys_there : FinMap key_cmp Bool → List Key
-keys_there m = map (λ e. e.0) (filter (λ e. e.1) (entries m))
 
 -- a place that is there, empty where there was none
 abbrev pub opened_vip : Option Bool → Option Bool

@@ -4,9 +4,13 @@
 
 mod address;
 mod behind;
+mod chunk;
+mod chunks;
 mod counts;
+mod owner;
+mod piece;
 mod pieces;
-mod places;
+mod place;
 mod vip_places;
 mod vips;
 

@@ -1,41 +1,40 @@
 //! The places of keys under the vips of one kind of address.
-ghost use Rattle.std.specs.Prelude.{◌≡◌, ◌∷◌, [], IfOk, IsTrue, None, OnErr, OnOk, Some, map, string_bytes};
-ghost use Rattle.std.specs.BTreeMap.{UpdatesBy};
-ghost use Rattle.std.specs.Cmp.Lexicographic.{slice_cmp};
-ghost use Rattle.std.specs.FinMap.{empty, get};
-ghost use Rattle.std.specs.Ordering.{nat_cmp};
-ghost use Rattle.std.specs.String.{string_cmp};
+ghost use Rattle.std.specs.Prelude.{◌≡◌, ◌∷◌, ◌≤◌, [], IfOk, OnErr, OnOk, false, length, map};
+ghost use Rattle.std.specs.FinMap.{empty};
 ghost use Rattle.disco_history.specs.Query.{vips};
 ghost use Rattle.disco_history.specs.Slots.{written};
-ghost use Rattle.disco_index.specs.Places.{Alters, HasNoBareVip, IsBareOnly, IsSameIn, KeepsPlacesIn, OthersOf, opened_vip, seen_vips, swept, under_in};
+ghost use Rattle.disco_index.specs.Pieces.{as_vips, vip_at};
+ghost use Rattle.disco_index.specs.Places.{Alters, IsSameIn, KeepsPlacesIn, OthersOf, opened_vip, swept, under_in};
 
 use crate::address::next_vip;
-use crate::places::Places;
-use disco_values::Key;
+use crate::chunk::Chunk;
+use crate::chunks;
+use crate::owner::SharedOwner;
+use crate::place::Place;
+use disco_values::{Key, Text};
 use std::alloc::{AllocError, Global};
-use std::collections::BTreeMap;
 use std::marker::Model;
 
 /// For each vip of some addresses of one kind the places of keys.
 #[derive(Drop)]
 pub(crate) struct VipPlaces {
     alloc: Global,
-    vips: BTreeMap<String, Places>,
+    chunks: Vec<Chunk>,
 }
 
 impl Model for VipPlaces {
     ghost use Rattle.std.specs.Coded.{codes};
     ghost use Rattle.std.specs.FinMap.{code};
-    ghost use Rattle.disco_index.specs.Places.{HasNoBareVip, seen_vips};
+    ghost use Rattle.disco_index.specs.Chunks.{AreChunks, by_vip};
     ghost use Rattle.disco_index.specs.Vips.{KeysByVip};
 
     ghost Value = { KeysByVip };
 
     ghost coded = { Prim.hlevel (codes, code) };
 
-    ghost view = { λ v. seen_vips v.vips.entries };
+    ghost view = { λ v. by_vip v.chunks.items };
 
-    ghost invariant = { λ v. HasNoBareVip (seen_vips v.vips.entries) };
+    ghost invariant = { λ v. AreChunks v.chunks.items };
 }
 
 impl VipPlaces {
@@ -44,23 +43,23 @@ impl VipPlaces {
     {
         VipPlaces {
             alloc,
-            vips: BTreeMap::new(alloc),
+            chunks: Vec::new(alloc),
         }
     }
 
-    /// Makes an empty place for a key under each vip of an address, where there is none.
-    pub(crate) fn ready(&mut self, address: &str, key: &Key) -> Result<(), AllocError>
+    /// Makes an empty place for a key under each vip of an address, where there is none. Places that
+    /// are there take the address for their text.
+    pub(crate) fn ready(&mut self, address: &Text, key: &Key) -> Result<(), AllocError>
         ensures ok { OnOk result (Alters opened_vip (vips address.now) key.now self.old self.new) }
         ensures same { IsSameIn self.old self.new }
         ensures others { OthersOf (vips address.now) key.now self.old self.new }
         ensures places { KeepsPlacesIn self.old self.new }
     {
-        let mut rest = address;
-        while let Some((vip, after)) = next_vip(rest) {
-            self.open(vip, key)?;
-            rest = after;
+        if next_vip(address.as_str()).is_none() {
+            return Ok(());
         }
-        Ok(())
+        let owner = SharedOwner::new(self.alloc, address, key)?;
+        Ok(self.open_all(&owner)?)
     }
 
     /// Says under each vip of an address whether the key's instance is there, where it has a place.
@@ -89,65 +88,66 @@ impl VipPlaces {
     pub(crate) fn under(&self, alloc: Global, vip: &str) -> Result<Vec<&Key>, AllocError>
         ensures { IfOk result (λ found. map (λ k. k.now) found.items ≡ under_in self.now vip.now) }
     {
-        match self.vips.get(vip) {
-            Some(places) => Ok(places.there(alloc)?),
-            None => Ok(Vec::new(alloc)),
+        Ok(chunks::under(&self.chunks, alloc, vip.as_bytes())?)
+    }
+
+    /// Makes an empty place under each vip of an owner's address, where there is none.
+    fn open_all(&mut self, owner: &SharedOwner) -> Result<(), AllocError>
+        ensures ok { OnOk result (Alters opened_vip (vips owner.now.address) owner.now.key self.old self.new) }
+        ensures same { IsSameIn self.old self.new }
+        ensures others { OthersOf (vips owner.now.address) owner.now.key self.old self.new }
+        ensures places { KeepsPlacesIn self.old self.new }
+    {
+        let mut start = 0;
+        let mut rest = owner.address();
+        while let Some((piece, after)) = rest.split_once(',') {
+            self.open_piece(owner, start, piece)?;
+            start += piece.len() + 1;
+            rest = after;
         }
+        Ok(self.open_piece(owner, start, rest)?)
+    }
+
+    /// Makes an empty place under a piece of an owner's address, where the piece is a vip and there
+    /// is none.
+    fn open_piece(
+        &mut self,
+        owner: &SharedOwner,
+        start: usize,
+        piece: &str,
+    ) -> Result<(), AllocError>
+        requires start { start ≤ length owner.now.address }
+        requires piece { piece.now ≡ vip_at owner.now.address start }
+        ensures ok { OnOk result (Alters opened_vip (as_vips piece.now) owner.now.key self.old self.new) }
+        ensures err { OnErr result (self.new ≡ self.old) }
+    {
+        if piece.is_empty() {
+            return Ok(());
+        }
+        let place = Place::new(self.alloc, owner, start, piece)?;
+        Ok(self.open(place)?)
+    }
+
+    /// Puts an empty place where its key has none under its vip.
+    fn open(&mut self, place: Place) -> Result<(), AllocError>
+        requires { place.1 ≡ false }
+        ensures ok { OnOk result (Alters opened_vip (place.0.vip ∷ []) place.0.key self.old self.new) }
+        ensures err { OnErr result (self.new ≡ self.old) }
+    {
+        Ok(chunks::open(self.alloc, &mut self.chunks, place)?)
     }
 
     /// Says whether the instance is there, where its key has a place under the vip.
     fn write_one(&mut self, vip: &str, key: &Key, there: bool)
         ensures { Alters (written there) (vip.now ∷ []) key.now self.old self.new }
     {
-        if let Some(places) = self.vips.get_mut(vip) {
-            places.write(key, there);
-        }
+        chunks::write(&mut self.chunks, vip.as_bytes(), key, there);
     }
 
-    /// Makes an empty place for a key under a vip, where there is none.
-    fn open(&mut self, vip: &str, key: &Key) -> Result<(), AllocError>
-        ensures ok { OnOk result (Alters opened_vip (vip.now ∷ []) key.now self.old self.new) }
-        ensures err { OnErr result (self.new ≡ self.old) }
-    {
-        if let Some(places) = self.vips.get_mut(vip) {
-            return places.open(key);
-        }
-        let mut places = Places::new(self.alloc);
-        places.open(key)?;
-        self.vips
-            .insert(String::from_str(self.alloc, vip)?, places)?;
-        Ok(())
-    }
-
-    /// Takes the place of a key under a vip out, where it stands empty, and the vip with its last
-    /// place.
+    /// Takes the place of a key under a vip out, where it stands empty.
     fn close(&mut self, vip: &str, key: &Key)
         ensures { Alters swept (vip.now ∷ []) key.now self.old self.new }
     {
-        if close_under(&mut self.vips, vip, key) {
-            remove(&mut self.vips, vip);
-        }
-    }
-}
-
-fn remove(vips: &mut BTreeMap<String, Places>, vip: &str)
-    ensures { UpdatesBy string_cmp (λ k. slice_cmp nat_cmp vip.now (string_bytes k)) vips.old vips.new None }
-{
-    vips.remove(vip);
-}
-
-/// Takes the place of a key under a vip out, where it stands empty. Answers whether the vip has no
-/// place any more.
-fn close_under(vips: &mut BTreeMap<String, Places>, vip: &str, key: &Key) -> bool
-    ensures places { Alters swept (vip.now ∷ []) key.now (seen_vips vips.old.entries) (seen_vips vips.new.entries) }
-    ensures bare { IsTrue result → get (seen_vips vips.new.entries) vip.now ≡ Some empty }
-    ensures others { HasNoBareVip (seen_vips vips.old.entries) → IsBareOnly vip.now result (seen_vips vips.new.entries) }
-{
-    match vips.get_mut(vip) {
-        Some(places) => {
-            places.close(key);
-            places.is_empty()
-        }
-        None => false,
+        chunks::close(&mut self.chunks, vip.as_bytes(), key);
     }
 }

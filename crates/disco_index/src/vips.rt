@@ -164,10 +164,10 @@ impl VipIndex {
         ensures places { KeepsVipPlaces self.old self.new }
     {
         let details = &rec.details;
-        self.vips.ready(details.vip_address.as_str(), &rec.key)?;
+        self.vips.ready(&details.vip_address, &rec.key)?;
         Ok(
             self.secure_vips
-                .ready(details.secure_vip_address.as_str(), &rec.key)?,
+                .ready(&details.secure_vip_address, &rec.key)?,
         )
     }
 

@@ -1,9 +1,13 @@
-use Rattle.std.proofs.Common.{◌∙◌}
-use Rattle.disco_index.proofs.VipSteps.{under_none, under_some}
+use Rattle.std.proofs.Common.{ap, ◌∙◌}
+use Rattle.disco_index.specs.Chunks.{all_in, keys_under}
+use Rattle.disco_index.specs.Places.{under_in}
+use Rattle.disco_index.proofs.ChunkUnder.{under_named}
 use Rattle.disco_index.proofs.vip_places.VipPlaces.under.Goals as goal
 
-pub returns-in_ok-there-in-Some : goal.returns-in_ok-there-in-Some
-returns-in_ok-there-in-Some c = rw (← c.self.view_is) (c.in_ok-there-in-Some.ensures ∙ under_some c.self.inside.vips.entries c.args.vip.now c.in-Some.places.now c.in-Some.ensures.value)
-
-pub returns-in-None : goal.returns-in-None
-returns-in-None c = rw (← c.self.view_is, c.new.ensures.items) (under_none c.self.inside.vips.entries c.args.vip.now c.in-None.ensures.value)
+pub returns : goal.returns
+returns c =
+    let vip = c.args.vip.now in
+    c.in_ok-under.ensures
+    ∙ (λ i. keys_under (c.as_bytes.ensures.value i) (all_in (c.deref.ensures.value i)))
+    ∙ under_named c.self.inside.chunks.items vip c.self.invariant
+    ∙ ap (λ m. under_in m vip) c.self.view_is
