@@ -1,3 +1,5 @@
 pub mod Acceptors
+pub mod Accepts
+pub mod Awaited
 pub mod Ending
 pub mod Waits

@@ -1,6 +1,7 @@
 //! How a connection is accepted, and which failures of it pass.
-ghost use Rattle.std.specs.Prelude.{◌≡◌, ◌⊎◌, ◌+◌, ◌-◌, ◌^◌, ℕ, None, Some, min, pos};
+ghost use Rattle.std.specs.Prelude.{◌≡◌, ◌≢◌, ◌⊎◌, ◌+◌, ◌-◌, ◌^◌, ℕ, None, Some, min, pos};
 ghost use Rattle.disco_connections.specs.Acceptors.{IsOpen};
+ghost use Rattle.disco_connections.specs.Accepts.{WhereOneOf, came_of, gone_numbers, lacking_numbers};
 ghost use Rattle.disco_connections.specs.declared.acceptor.Refusal.TheVariants.{ByHost};
 ghost use Rattle.disco_connections.specs.declared.accepts.Accepted.TheVariants.{Taken, Nothing, Gone, Full, Later, Refused};
 
@@ -24,10 +25,11 @@ enum Failure {
 
 /// What a failure is, by Linux's number for it.
 fn failure_of(number: Option<i32>) -> Failure
-    // The connection was aborted, there is no descriptor, there is no memory, and what was given is no listener.
-    ensures gone { number ≡ Some (pos 103) → result ≡ Failure.Gone }
+    // It would wait, there is no descriptor for the program, and what was given is no listener.
+    ensures nothing { number ≡ Some (pos 11) → result ≡ Failure.Nothing }
+    ensures gone { WhereOneOf gone_numbers number (result ≡ Failure.Gone) }
     ensures full { number ≡ Some (pos 24) → result ≡ Failure.Full }
-    ensures lacking { number ≡ Some (pos 12) → result ≡ Failure.Lacking }
+    ensures lacking { WhereOneOf lacking_numbers number (result ≡ Failure.Lacking) }
     ensures lasting { number ≡ Some (pos 22) → result ≡ Failure.Lasting }
     ensures unnumbered { number ≡ None → result ≡ Failure.Lasting }
 {
@@ -59,6 +61,24 @@ pub enum Accepted<T> {
     Refused,
 }
 
+/// What an accept came to that failed so. Where the failure lasts the acceptor is shut.
+fn failed<T>(failure: Failure, acceptor: &mut Acceptor) -> Accepted<T>
+    ensures came { result ≡ came_of failure }
+    ensures shut { failure ≡ Failure.Lasting → acceptor.new ≡ record acceptor.old { refused = Some ByHost } }
+    ensures same { failure ≢ Failure.Lasting → acceptor.new ≡ acceptor.old }
+{
+    match failure {
+        Failure::Nothing => Accepted::Nothing,
+        Failure::Gone => Accepted::Gone,
+        Failure::Full => Accepted::Full,
+        Failure::Lacking => Accepted::Later,
+        Failure::Lasting => {
+            acceptor.refuse(Refusal::ByHost);
+            Accepted::Refused
+        }
+    }
+}
+
 /// Accepts the next connection by an acceptor, without waiting for one. One that is shut takes none,
 /// and where the host refuses a connection for good it is shut.
 pub fn accept<L: OpenListener>(listener: &L, acceptor: &mut Acceptor) -> Accepted<L::Stream>
@@ -74,14 +94,5 @@ pub fn accept<L: OpenListener>(listener: &L, acceptor: &mut Acceptor) -> Accepte
         Ok((stream, _)) => return Accepted::Taken(stream, acceptor.take()),
         Err(error) => error,
     };
-    match failure_of(error.raw_os_error()) {
-        Failure::Nothing => Accepted::Nothing,
-        Failure::Gone => Accepted::Gone,
-        Failure::Full => Accepted::Full,
-        Failure::Lacking => Accepted::Later,
-        Failure::Lasting => {
-            acceptor.refuse(Refusal::ByHost);
-            Accepted::Refused
-        }
-    }
+    failed(failure_of(error.raw_os_error()), acceptor)
 }

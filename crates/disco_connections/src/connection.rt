@@ -1,4 +1,7 @@
 //! One connection of a socket, which goes on as far as it can without waiting.
+ghost use Rattle.std.specs.Prelude.{◌≡◌, IsFalse};
+ghost use Rattle.disco_connections.specs.Awaited.{IsAwaited, awaited};
+
 use crate::close::has_last_reply;
 use crate::deadline::Deadline;
 use crate::held::{FEW, Held};
@@ -29,6 +32,24 @@ pub(crate) enum Turn {
     Over,
 }
 
+/// What a connection waits for, by whether it is ending, what it does next, and what came of its next
+/// request.
+fn phase_of(is_ending: bool, next: Next, stage: Stage) -> Phase
+    ensures { result ≡ awaited is_ending next stage }
+{
+    if is_ending {
+        return Phase::Ending;
+    }
+    match next {
+        Next::Write => Phase::Reply,
+        Next::Read | Next::Answer | Next::Over(_) => match stage {
+            Stage::Between => Phase::Between,
+            Stage::Head => Phase::Head,
+            Stage::Body => Phase::Body,
+        },
+    }
+}
+
 /// A connection between two turns.
 #[derive(Drop)]
 pub struct Connection<D> {
@@ -43,8 +64,8 @@ pub struct Connection<D> {
     pub(crate) is_late: bool,
     /// The sending side is ended, and what comes is dropped.
     is_ending: bool,
-    /// A request was answered since the last turn.
-    has_answered: bool,
+    /// A request was answered since it was set last until when it is waited for.
+    pub(crate) has_answered: bool,
     /// The bytes of what came that were counted.
     pub(crate) held: u64,
     /// It isn't read on, since all connections keep too much.
@@ -87,18 +108,10 @@ impl<D: Document + Drop> Connection<D> {
     }
 
     /// What it waits for.
-    pub(crate) fn phase(&self) -> Phase {
-        if self.is_ending {
-            return Phase::Ending;
-        }
-        match self.session.next() {
-            Next::Write => Phase::Reply,
-            Next::Read | Next::Answer | Next::Over(_) => match self.session.stage() {
-                Stage::Between => Phase::Between,
-                Stage::Head => Phase::Head,
-                Stage::Body => Phase::Body,
-            },
-        }
+    pub(crate) fn phase(&self) -> Phase
+        ensures { IsAwaited self.now result }
+    {
+        phase_of(self.is_ending, self.session.next(), self.session.stage())
     }
 
     /// Goes on until it would wait, but for so many steps at most.
@@ -264,7 +277,10 @@ impl<D: Document + Drop> Connection<D> {
     }
 
     /// Sets until when it is waited for, behind a turn.
-    pub(crate) fn expect(&mut self, waits: &Waits, now: u64) {
+    pub(crate) fn expect(&mut self, waits: &Waits, now: u64)
+        ensures awaited { IsAwaited self.old self.new.deadline.phase }
+        ensures answered { IsFalse self.new.has_answered }
+    {
         let bytes = self.session.unsent() as u64;
         let phase = self.phase();
         self.deadline

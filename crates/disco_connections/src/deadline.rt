@@ -28,6 +28,7 @@ impl Deadline {
     /// From now on it is waited for this. Where it was before, and no request was answered meanwhile
     /// (`anew`), the time goes on; a reply has so many bytes where it begins.
     pub fn expect(&mut self, waits: &Waits, phase: Phase, bytes: u64, anew: bool, now: u64)
+        ensures phase { self.new.phase ≡ phase }
         ensures kept { phase ≡ self.old.phase → IsFalse anew → self.new ≡ self.old }
         ensures begun { (phase ≢ self.old.phase) ⊎ IsTrue anew
             → self.new ≡ record { phase = phase; moment = moment_after now (longest waits.now phase bytes) } }

@@ -1,5 +1,5 @@
 //! All connections of a server, and how workers take turns with them.
-ghost use Rattle.std.specs.Prelude.{◌≡◌, ◌⊎◌, IfErr};
+ghost use Rattle.std.specs.Prelude.{◌≡◌, ◌⊎◌, IfErr, IsFalse};
 ghost use Rattle.disco_values.specs.declared.fault.Fault.TheVariants.{OutOfMemory, ReadFailed};
 
 use crate::acceptor::{Acceptor, Refusal};
@@ -390,13 +390,16 @@ impl<'a, D: Document + Drop> Hall<'a, D> {
         }
     }
 
-    /// Puts a connection back behind a turn. Gives it again where it could go on and nothing is ready.
+    /// Puts a connection back behind a turn, once it is set until when it is waited for. Gives it again
+    /// where it could go on and nothing is ready.
     fn put_back<R: Wait>(
         &self,
         rt: &R,
         connection: Box<Connection<D>>,
         turn: Turn,
-    ) -> Option<Box<Connection<D>>> {
+    ) -> Option<Box<Connection<D>>>
+        requires { IsFalse connection.value.has_answered }
+    {
         if connection.is_held_back {
             self.held.note_short(true);
         }

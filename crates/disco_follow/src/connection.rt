@@ -1,4 +1,8 @@
 //! Connections of clients.
+ghost use Rattle.std.specs.Prelude.{◌≡◌, IfOk};
+ghost use Rattle.disco_http.specs.Streams.{reader_limits};
+ghost use Rattle.disco_reconcile.specs.Connection.{reader_of};
+
 use disco_http::{Counted, Reader, Writer};
 use disco_message::Limits;
 use disco_reconcile::HttpFetch;
@@ -30,12 +34,15 @@ pub fn connect<N: Net<Stream = TcpStream>, A: ToSocketAddrs>(
     Ok((stream, other))
 }
 
-/// Fetches over a connection, of which one stream is read and the other written.
+/// Fetches over a connection, of which one stream is read and the other written. A body may have
+/// 256 MiB.
 ///
 /// # Errors
 ///
 /// `AllocError` where memory is refused.
-pub fn fetcher(alloc: Global, source: TcpStream, sink: TcpStream) -> Result<Connected, AllocError> {
+pub fn fetcher(alloc: Global, source: TcpStream, sink: TcpStream) -> Result<Connected, AllocError>
+    ensures { IfOk result (λ connected. (reader_limits (reader_of connected)).body ≡ 268435456) }
+{
     let reader = Reader::new(alloc, Counted::new(source), Limits::of_client())?;
     let writer = Writer::new(alloc, Counted::new(sink))?;
     Ok(HttpFetch::new(alloc, reader, writer))

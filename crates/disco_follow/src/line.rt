@@ -3,6 +3,8 @@ ghost use Rattle.std.specs.Prelude.{◌≡◌, ◌≢◌, ◌≤◌, ◌⊎◌, 
 ghost use Rattle.disco_values.specs.declared.fault.Fault.TheVariants.{OutOfMemory};
 ghost use Rattle.disco_values.specs.declared.query.Query.TheVariants.{Apps, Delta};
 ghost use Rattle.disco_http.specs.Causes.{Raises};
+ghost use Rattle.disco_http.specs.Streams.{reader_limits};
+ghost use Rattle.disco_reconcile.specs.Connection.{reader_of};
 
 use crate::connection::connect;
 use crate::pace::Pace;
@@ -25,13 +27,15 @@ struct Connected<'a, N> {
     fetches: HttpFetch<ReplySource<'a, N>, Counted<TcpStream>>,
 }
 
-/// Fetches over a connection of three streams.
+/// Fetches over a connection of three streams. A body may have 256 MiB.
 fn fetching<'a, N: Clock>(
     rt: &'a N,
     alloc: Global,
     pace: &'a Pace,
     streams: (TcpStream, TcpStream, TcpStream),
-) -> Result<Connected<'a, N>, AllocError> {
+) -> Result<Connected<'a, N>, AllocError>
+    ensures { IfOk result (λ connected. (reader_limits (reader_of connected.fetches)).body ≡ 268435456) }
+{
     let (stream, source, sink) = streams;
     let reader = Reader::new(
         alloc,

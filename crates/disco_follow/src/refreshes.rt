@@ -1,5 +1,6 @@
 //! Refreshes one after another.
-ghost use Rattle.std.specs.Prelude.{◌≡◌, ◌⊎◌, ℕ, List, IfErr, IfOk, OnOk};
+ghost use Rattle.std.specs.Prelude.{◌≡◌, ◌*◌, ◌⊎◌, ℕ, List, IfErr, IfOk, OnOk};
+ghost use Rattle.core.specs.Duration.{as_nanos};
 ghost use Rattle.std.specs.Io.KnownBytes.{Appends};
 ghost use Rattle.disco_values.specs.declared.fault.Fault.TheVariants.{OutOfMemory, WriteFailed};
 ghost use Rattle.disco_http.specs.Causes.{Cause};
@@ -21,6 +22,13 @@ fn turns_of(times: u64) -> u64
     ensures { result ≡ turns_of times }
 {
     if times == 0 { u64::MAX } else { times }
+}
+
+/// A pause of so many milliseconds.
+fn pause_of(millis: u64) -> Duration
+    ensures { as_nanos result ≡ millis * 1000000 }
+{
+    Duration::from_millis(millis)
 }
 
 /// Refreshes a client once, tells what came of it, and gives what is told last then.
@@ -64,7 +72,7 @@ pub fn follow_client<R: Clock, F: Fetch, W: Sink>(
     let mut told = Told::new(alloc);
     for done in 0..turns_of(times) {
         if done > 0 {
-            thread::sleep(rt, Duration::from_millis(pause));
+            thread::sleep(rt, pause_of(pause));
         }
         told = turn(alloc, client, wanted, told, out)?;
     }

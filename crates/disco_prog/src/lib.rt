@@ -16,4 +16,4 @@ pub use disco_press::Opening;
 pub use fleets::{fleet, lines_of};
 pub use program::run;
 pub use replay_command::replay;
-pub use serve_command::serve;
+pub use serve_command::{serve, serve_by};

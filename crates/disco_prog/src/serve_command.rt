@@ -23,7 +23,7 @@ use std::net::{Ipv4Addr, Net, SocketAddr, TcpListener, TcpStream};
 use std::sync::atomic::{AtomicBool, Ordering};
 use std::sync::{Mutex, Wait};
 use std::thread::{Scope, Threads};
-use std::{rt, thread};
+use std::{io, rt, thread};
 
 /// What the words of `serve` name; the run is `run` where they name none.
 fn service_from(matches: &ArgMatches<'_>, run: u64) -> Service
@@ -50,12 +50,12 @@ fn say<'o, W: Sink>(alloc: Global, port: u16, out: &'o mut W) -> Result<&'o mut 
 /// Serves connections beside the timed workers until so many have ended. It says that it does once all
 /// threads are there: where the host refuses one of them, nothing is said and none is served. Gives the
 /// output back.
-fn serve_in<'s, 'o, E, J: Naming + Send + Sync + 's, R, W: Sink>(
+fn serve_in<'s, 'o, E, J: Naming + Send + Sync + 's, R, C: Clock + Copy + Send + 's, W: Sink>(
     scope: &'s Scope<'s, E>,
     rt: &'s R,
     alloc: Global,
     service: &Service,
-    clock: SystemClock<&'s R>,
+    clock: C,
     listener: TcpListener,
     desk: &'s Mutex<Desk<J>>,
     seats: Vec<Seat<J>>,
@@ -86,11 +86,11 @@ where
 }
 
 /// Serves connections beside the timed workers until so many have ended, and says so at the start.
-fn run<J: Naming + Send + Sync, R, W: Sink>(
+fn run<J: Naming + Send + Sync, R, C: Clock + Copy + Send, W: Sink>(
     rt: &R,
     alloc: Global,
     service: &Service,
-    clock: SystemClock<&R>,
+    clock: C,
     listener: TcpListener,
     desk: &Mutex<Desk<J>>,
     seats: Vec<Seat<J>>,
@@ -118,11 +118,11 @@ where
 }
 
 /// Opens a desk that keeps a reserve of memory, and serves connections over it.
-fn open_and_serve<J: Naming + Send + Sync, R, W: Sink>(
+fn open_and_serve<J: Naming + Send + Sync, R, C: Clock + Copy + Send, W: Sink>(
     rt: &R,
     alloc: Global,
     service: &Service,
-    clock: SystemClock<&R>,
+    clock: C,
     listener: TcpListener,
     opening: Opening,
     out: &mut W,
@@ -167,11 +167,33 @@ where
     ensures listening { faults_of Subcommand.Serve (map string_bytes words.now) ≡ [] → result ≡ 0
         → SaysListening (map string_bytes words.now) (W.contents out.old) (W.contents out.new) }
 {
+    let clock = SystemClock::started(rt);
+    serve_by::<J, R, SystemClock<&R>, W, E>(rt, alloc, clock, opening, out, errors, words)
+}
+
+/// Runs the command `serve` as [`serve`] does, by a clock that is handed in, or ends with 1 where there
+/// is none. Where the words name no run, it is the moment that the clock says first.
+pub fn serve_by<J: Naming + Send + Sync, R, C: Clock + Copy + Send, W: Sink, E: Sink>(
+    rt: &R,
+    alloc: Global,
+    clock: io::Result<C>,
+    opening: Opening,
+    out: &mut W,
+    errors: &mut E,
+    words: &[String],
+) -> u8
+where
+    R: Net<Listener = TcpListener, Stream = TcpStream> + Threads + Wait + rt::Clock + Sync,
+    requires opening { Opens J.list J.name J.parts opening }
+    ensures ends { EndsBy E.contents E.failed (faults_of Subcommand.Serve (map string_bytes words.now)) result out.old out.new errors.old errors.new }
+    ensures listening { faults_of Subcommand.Serve (map string_bytes words.now) ≡ [] → result ≡ 0
+        → SaysListening (map string_bytes words.now) (W.contents out.old) (W.contents out.new) }
+{
     let matches = match read_words(alloc, Subcommand::Serve, words) {
         Ok(matches) => matches,
         Err(error) => return refused(alloc, &error, out, errors),
     };
-    let mut clock = match SystemClock::started(rt) {
+    let mut clock = match clock {
         Ok(clock) => clock,
         Err(error) => {
             return report_address(alloc, "no reading of", &"the host's clock", &error, errors);
@@ -185,7 +207,7 @@ where
             return report_address(alloc, "no listening on", &address, &error, errors);
         }
     };
-    match open_and_serve::<J, R, W>(rt, alloc, &service, clock, listener, opening, out) {
+    match open_and_serve::<J, R, C, W>(rt, alloc, &service, clock, listener, opening, out) {
         Ok(()) => 0,
         Err(fault) => report(&fault, errors),
     }

@@ -51,7 +51,7 @@ impl Crowd {
             Crowd::Beats | Crowd::Halves | Crowd::Many => {}
             Crowd::Drips => {
                 waits.head = 300;
-                waits.body = 300;
+                waits.body = 1_600;
             }
             Crowd::Silence => waits.between = 600,
         }

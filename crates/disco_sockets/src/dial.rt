@@ -4,6 +4,9 @@ use disco_server::Clock;
 use std::rt;
 use std::sync::atomic::{AtomicU64, Ordering};
 
+/// The moment at which a dial starts, in milliseconds.
+pub(crate) const START: u64 = 1_000_000;
+
 /// How many clocks there are, one for each timed worker.
 const CLOCKS: u64 = 4;
 
@@ -26,10 +29,10 @@ pub(crate) struct Dial {
 }
 
 impl Dial {
-    /// A dial at moment 0.
+    /// A dial at its start.
     pub(crate) fn new() -> Dial {
         Dial {
-            moment: AtomicU64::new(0),
+            moment: AtomicU64::new(START),
             clocks: AtomicU64::new(0),
             first: AtomicU64::new(0),
             second: AtomicU64::new(0),
@@ -60,10 +63,11 @@ impl Dial {
         first.min(second).min(third).min(fourth)
     }
 
-    /// Turns the dial to a moment, and waits until each worker has done what was due. Whether each
-    /// did.
-    pub(crate) fn turn<R: rt::Clock>(&self, rt: &R, moment: u64) -> bool {
-        self.moment.store(moment, Ordering::SeqCst);
+    /// Turns the dial to so many milliseconds behind its start, and waits until each worker has done
+    /// what was due. Whether each did.
+    pub(crate) fn turn<R: rt::Clock>(&self, rt: &R, passed: u64) -> bool {
+        self.moment
+            .store(START.saturating_add(passed), Ordering::SeqCst);
         self.reset();
         for _ in 0..LOOKS {
             if self.asked() >= TURNS {
@@ -72,6 +76,11 @@ impl Dial {
             nap(rt);
         }
         false
+    }
+
+    /// Turns the dial on by so many milliseconds.
+    pub(crate) fn turn_on(&self, millis: u64) {
+        self.moment.fetch_add(millis, Ordering::SeqCst);
     }
 
     /// Counts anew.

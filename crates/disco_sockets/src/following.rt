@@ -11,13 +11,13 @@ use std::rt::Clock;
 const REGISTRATION: &[u8] =
     b"POST /eureka/v2/apps/A HTTP/1.1\r\nHost: a\r\nContent-Type: application/json\r\nContent-Length: 177\r\nConnection: close\r\n\r\n{\"instance\":{\"instanceId\":\"1\",\"hostName\":\"h\",\"app\":\"A\",\"ipAddr\":\"10.0.0.1\",\"status\":\"UP\",\"port\":{\"$\":8080,\"@enabled\":\"true\"},\"vipAddress\":\"v\",\"dataCenterInfo\":{\"name\":\"MyOwn\"}}}";
 
-/// What is told of it in two refreshes as JSON objects, where the server's run is 5.
+/// What is told of it in all refreshes as JSON objects, where the server's run is 5.
 const TOLD: &[u8] =
     b"{\"changes\":[{\"app\":\"A\",\"change\":\"came\",\"id\":\"1\",\"status\":\"UP\"}],\"run\":5,\"version\":1}\n{\"up\":[{\"host\":\"h\",\"port\":8080}],\"vip\":\"v\"}\n";
 
-/// The words that have the program refresh twice, before a port.
+/// The words that have the program refresh twice more than a connection makes requests, before a port.
 const WORDS: &[&str] = &[
-    "follow", "--vip", "v", "--json", "--every", "1", "--times", "2", "--port",
+    "follow", "--vip", "v", "--json", "--every", "1", "--times", "1002", "--port",
 ];
 
 /// Words, and a port behind them.
@@ -50,15 +50,21 @@ fn is_followed<R: Net<Stream = TcpStream> + Clock>(
     Ok(status == 0 && out.inner.as_slice() == TOLD && errors.inner.is_empty())
 }
 
-/// Registers an instance, and follows the registry.
+/// Registers an instance over one connection, and follows the registry over two others. Where the
+/// program makes one alone, the server awaits another one.
 pub(crate) fn register_and_follow<R: Net<Stream = TcpStream> + Clock>(
     rt: &R,
     alloc: Global,
-    port: u16,
+    server: SocketAddr,
 ) -> io::Result<bool> {
-    let stream = visit(rt, SocketAddr::from((Ipv4Addr::LOCALHOST, port)))?;
+    let stream = visit(rt, server)?;
     send(&stream, REGISTRATION)?;
-    Ok(hears(alloc, &stream, 204) && is_followed(rt, alloc, port)?)
+    let registered = hears(alloc, &stream, 204);
+    let followed = is_followed(rt, alloc, server.port())?;
+    if !followed {
+        let _ = visit(rt, server);
+    }
+    Ok(registered && followed)
 }
 
 /// Where nobody listens the program says so and ends with 1.

@@ -1,5 +1,5 @@
 //! Tries a running server over sockets of this host, with two workers and the timed ones, the timed
-//! workers by a clock that is turned by hand, and what the program's commands say of it. Then the
+//! workers by a clock that is turned by hand, and what the program's commands do and say. Then the
 //! connections of a server: more clients than workers, clients that send slowly or nothing, and accepts
 //! that fail. Its four workers answer each request with 204, and wait for shorter times than those of
 //! `serve` do.
@@ -22,8 +22,10 @@ mod serving;
 mod slow;
 mod timed;
 mod trials;
+mod turning;
 
 use crowds::Crowd;
+use dial::Dial;
 use disco_press::Opening;
 use disco_trials::{compared, is_told};
 use program::Guest;
@@ -56,11 +58,14 @@ where
     let serves = is_told(rt, "the program serves a connection", serves);
     let followed = program::serves::<Brand, R>(rt, alloc, Opening::new(), Guest::Follows);
     let followed = is_told(rt, "the program follows a server", followed);
+    let dial = Dial::new();
+    let turned = program::serves::<Brand, R>(rt, alloc, Opening::new(), Guest::Turns(&dial));
+    let turned = is_told(rt, "the program serves by a clock", turned);
     let unreached = following::is_refused(rt, alloc);
     let unreached = is_told(rt, "the program follows where nobody listens", unreached);
     let refused = program::is_refused::<Brand, R>(rt, alloc, Opening::new());
     let refused = is_told(rt, "the program on a port that is taken", refused);
-    serves && followed && unreached && refused
+    serves && followed && turned && unreached && refused
 }
 
 /// What is said of copies that are not the registry.

@@ -2,11 +2,13 @@
 ghost use Rattle.disco_press.specs.Openings.{Opens};
 
 use crate::client::{LAST_APPS, hears, is_at_end, send, visit};
+use crate::dial::{Dial, Turned};
 use crate::following::{is_told_why, register_and_follow, words_on};
 use crate::naps::{LOOKS, nap};
+use crate::turning::sees_all;
 use disco_http::Counted;
 use disco_press::{Naming, Opening};
-use disco_prog::run;
+use disco_prog::{run, serve_by};
 use std::alloc::Global;
 use std::io;
 use std::io::Write;
@@ -42,35 +44,35 @@ fn address(port: u16) -> SocketAddr {
     SocketAddr::from((Ipv4Addr::LOCALHOST, port))
 }
 
+/// The words that have the program serve one connection, before a port.
+const ONCE: &[&str] = &["serve", "--connections", "1", "--port"];
+
+/// The same for three connections in the run 5.
+const THRICE: &[&str] = &["serve", "--run", "5", "--connections", "3", "--port"];
+
+/// The same for four connections.
+const FOUR_TIMES: &[&str] = &["serve", "--connections", "4", "--port"];
+
 /// Who visits the program while it serves.
 #[derive(Clone, Copy)]
-pub(crate) enum Guest {
+pub(crate) enum Guest<'a> {
     /// Asks once, over one connection.
     Asks,
-    /// Registers over one connection, and follows over another one.
+    /// Registers over one connection, and follows over two others.
     Follows,
+    /// Turns the clock by which the program serves, over four connections.
+    Turns(&'a Dial),
 }
 
-impl Guest {
-    fn connections(self) -> &'static str {
+impl Guest<'_> {
+    /// The words that have the program serve the guest, before a port.
+    fn words(self) -> &'static [&'static str] {
         match self {
-            Guest::Asks => "1",
-            Guest::Follows => "2",
+            Guest::Asks => ONCE,
+            Guest::Follows => THRICE,
+            Guest::Turns(_) => FOUR_TIMES,
         }
     }
-}
-
-/// The words that have the program serve so many connections on a port.
-fn words(alloc: Global, port: u16, connections: &str) -> io::Result<Vec<String>> {
-    let words = [
-        "serve",
-        "--run",
-        "5",
-        "--connections",
-        connections,
-        "--port",
-    ];
-    words_on(alloc, &words, port)
 }
 
 /// Makes one request. Whether it is answered, and the connection ends.
@@ -95,7 +97,7 @@ fn is_listening<R: Clock>(rt: &R, whole: &AtomicBool) -> bool {
 fn visit_program<R: Net<Stream = TcpStream> + Clock>(
     rt: &R,
     alloc: Global,
-    guest: Guest,
+    guest: Guest<'_>,
     port: u16,
     whole: &AtomicBool,
 ) -> io::Result<bool> {
@@ -104,7 +106,8 @@ fn visit_program<R: Net<Stream = TcpStream> + Clock>(
     }
     match guest {
         Guest::Asks => ask(rt, alloc, port),
-        Guest::Follows => register_and_follow(rt, alloc, port),
+        Guest::Follows => register_and_follow(rt, alloc, address(port)),
+        Guest::Turns(dial) => sees_all(rt, alloc, address(port), dial),
     }
 }
 
@@ -114,7 +117,7 @@ fn serve_guest<J: Naming + Send + Sync, R>(
     rt: &R,
     alloc: Global,
     opening: Opening,
-    guest: Guest,
+    guest: Guest<'_>,
     port: u16,
     words: &[String],
 ) -> io::Result<bool>
@@ -137,15 +140,26 @@ where
                 Counted::new(Heard { bytes, whole }),
             );
             let mut errors = Counted::new(Vec::new(alloc));
-            let status = run::<J, R, _, _, _>(
-                rt,
-                alloc,
-                opening,
-                &mut input,
-                &mut out,
-                &mut errors,
-                words,
-            );
+            let status = match guest {
+                Guest::Asks | Guest::Follows => run::<J, R, _, _, _>(
+                    rt,
+                    alloc,
+                    opening,
+                    &mut input,
+                    &mut out,
+                    &mut errors,
+                    words,
+                ),
+                Guest::Turns(dial) => serve_by::<J, R, _, _, _>(
+                    rt,
+                    alloc,
+                    Ok(Turned::new(dial)),
+                    opening,
+                    &mut out,
+                    &mut errors,
+                    words,
+                ),
+            };
             status == 0 && out.inner.bytes.as_slice() == said && errors.inner.is_empty()
         },
         move || visit_program(rt, alloc, guest, port, whole),
@@ -158,7 +172,7 @@ pub(crate) fn serves<J: Naming + Send + Sync, R>(
     rt: &R,
     alloc: Global,
     opening: Opening,
-    guest: Guest,
+    guest: Guest<'_>,
 ) -> io::Result<bool>
 where
     R: Net<Listener = TcpListener, Stream = TcpStream> + Threads + Wait + Clock + Sync,
@@ -167,7 +181,7 @@ where
     let listener = TcpListener::bind(rt, address(0))?;
     let port = listener.local_addr()?.port();
     drop(listener);
-    let words = words(alloc, port, guest.connections())?;
+    let words = words_on(alloc, guest.words(), port)?;
     serve_guest::<J, R>(rt, alloc, opening, guest, port, words.as_slice())
 }
 
@@ -183,7 +197,7 @@ where
 {
     let listener = TcpListener::bind(rt, address(0))?;
     let port = listener.local_addr()?.port();
-    let words = words(alloc, port, "1")?;
+    let words = words_on(alloc, ONCE, port)?;
     let (mut input, mut out) = (Counted::new(io::empty()), Counted::new(Vec::new(alloc)));
     let mut errors = Counted::new(Vec::new(alloc));
     let status = run::<J, R, _, _, _>(

@@ -26,6 +26,9 @@ const DRIP_MILLIS: u64 = 10;
 /// How often each sends a byte, at most.
 const DRIPS: u64 = 2_000;
 
+/// How many milliseconds a body has at least, which is longer than a head has.
+const BODY_MILLIS: u128 = 1_500;
+
 /// How many milliseconds a client waits beside them, at most.
 const MOST_MILLIS: u128 = 3_600;
 
@@ -116,15 +119,17 @@ fn is_answered_in_time<R: Net<Stream = TcpStream> + rt::Clock>(
 }
 
 /// Clients that send a head or a body byte by byte keep no other one out, and one whose head or body
-/// doesn't come to its end in time is closed.
+/// doesn't come to its end in time is closed. A body has more time than a head.
 pub(crate) fn are_kept_out<
     R: Net<Listener = TcpListener, Stream = TcpStream> + Threads + rt::Clock + Sync,
 >(rt: &R, alloc: Global, server: SocketAddr) -> io::Result<bool> {
     let mut well = true;
-    for bytes in [HALF, HEAD] {
+    for (bytes, least) in [(HALF, 0), (HEAD, BODY_MILLIS)] {
+        let start = Instant::now(rt)?;
         let begun = visit(rt, server)?;
         send(&begun, bytes)?;
         well = is_let_in(rt, alloc, server, bytes)? && is_at_end(&begun) && well;
+        well = start.elapsed(rt)?.as_millis() >= least && well;
     }
     Ok(well)
 }

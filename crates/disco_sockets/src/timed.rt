@@ -1,7 +1,7 @@
 //! The timed workers, each at its own period.
 ghost use Rattle.disco_press.specs.Openings.{Opens};
 
-use crate::dial::{Dial, Turned};
+use crate::dial::{Dial, START, Turned};
 use disco_press::{Desk, Looked, Naming, Opening, Seat, open};
 use disco_registry::Op;
 use disco_server::timers;
@@ -103,24 +103,34 @@ fn see<J: Naming, R: Wait>(
     })
 }
 
-/// What is seen of a desk once its instance was renewed twice, and the workers have done what is due at
-/// a moment.
+/// Makes a change at moment 0 and asks for all apps: there is something to forget, and to publish.
+fn prepare<J: Naming, R: Wait>(rt: &R, alloc: Global, desk: &Mutex<Desk<J>>) -> Result<(), Fault> {
+    register(rt, alloc, desk, 0)?;
+    let mut guard = desk.lock(rt);
+    let loaded = guard.load(&apps());
+    MutexGuard::unlock(guard);
+    loaded?;
+    Ok(())
+}
+
+/// What is seen of a desk once its instance was renewed twice, and the workers have done what is due so
+/// many milliseconds behind the dial's start.
 fn see_at<J: Naming, R: Wait + rt::Clock>(
     rt: &R,
     alloc: Global,
     desk: &Mutex<Desk<J>>,
     seat: &mut Seat<J>,
     dial: &Dial,
-    moment: u64,
+    passed: u64,
 ) -> Result<Seen, Fault> {
     renew(rt, alloc, desk)?;
-    if !dial.turn(rt, moment) {
+    if !dial.turn(rt, passed) {
         return Err(Fault::NotFetched);
     }
     see(rt, desk, seat)
 }
 
-/// What is seen while the dial is turned: at moment 0; a millisecond before the publisher and the cleaner
+/// What is seen while the dial is turned: at its start; a millisecond before the publisher and the cleaner
 /// are due, and when they are; and the same where all are due, again or for the first time. What a look
 /// finds in the end is not told, but whether that was published anew.
 #[derive(Clone, Copy, Debug, PartialEq, Eq)]
@@ -141,9 +151,9 @@ const AT_FIRST: Seen = Seen {
     renewals: 2,
 };
 
-/// What has to be: nothing is done a millisecond before it is due. At 30,000 milliseconds the lease has
-/// run out, and stays. At 60,000 it goes, so what was published is of no version before that of the
-/// second registration.
+/// What has to be: nothing is done at the start, nor a millisecond before it is due. The lease has run
+/// out, and stays. At 60,000 milliseconds it goes, so what was published is of no version before that of
+/// the second registration.
 pub(crate) const WANTED: Periods = Periods {
     begun: AT_FIRST,
     before_first: AT_FIRST,
@@ -176,11 +186,10 @@ fn turn_through<J: Naming, R: Wait + rt::Clock>(
     seat: &mut Seat<J>,
     dial: &Dial,
 ) -> Result<Periods, Fault> {
-    register(rt, alloc, desk, 0)?;
     let begun = see_at(rt, alloc, desk, seat, dial, 0)?;
     let before_first = see_at(rt, alloc, desk, seat, dial, 29_999)?;
     let first = see_at(rt, alloc, desk, seat, dial, 30_000)?;
-    register(rt, alloc, desk, 30_000)?;
+    register(rt, alloc, desk, START + 30_000)?;
     let before_second = see_at(rt, alloc, desk, seat, dial, 59_999)?;
     let second = see_at(rt, alloc, desk, seat, dial, 60_000)?;
     Ok(Periods {
@@ -198,7 +207,7 @@ fn turn_through<J: Naming, R: Wait + rt::Clock>(
     })
 }
 
-/// The workers beside what turns their clocks.
+/// The workers, which have something to do, beside what turns their clocks.
 fn turn_and_tend<J: Naming + Send + Sync, R>(
     rt: &R,
     alloc: Global,
@@ -208,6 +217,7 @@ fn turn_and_tend<J: Naming + Send + Sync, R>(
 where
     R: Threads + Wait + rt::Clock + Sync,
 {
+    prepare(rt, alloc, desk)?;
     let (dial, stop) = (Dial::new(), AtomicBool::new(false));
     let (dial, stop) = (&dial, &stop);
     let (timed, tried) = join(

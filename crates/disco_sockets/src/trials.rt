@@ -18,7 +18,7 @@ const NO_APP: &[u8] = b"GET /eureka/v2/apps/NONE HTTP/1.1\r\nHost: a\r\n\r\n";
 const HALF_HEAD: &[u8] = b"GET /eureka/v2/apps HTTP/1.1\r\nHo";
 
 /// Registers an instance.
-const REGISTRATION: &[u8] =
+pub(crate) const REGISTRATION: &[u8] =
     b"POST /eureka/v2/apps/A HTTP/1.1\r\nHost: a\r\nContent-Type: application/json\r\nContent-Length: 110\r\n\r\n{\"instance\":{\"instanceId\":\"1\",\"hostName\":\"h\",\"app\":\"A\",\"ipAddr\":\"10.0.0.1\",\"dataCenterInfo\":{\"name\":\"MyOwn\"}}}";
 
 /// How many requests a connection may make.

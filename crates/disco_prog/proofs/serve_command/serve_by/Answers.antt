@@ -2,7 +2,7 @@ use Rattle.std.proofs.Common.{subst}
 use Rattle.std.specs.Io.KnownBytes.{Appends}
 use Rattle.clap.specs.Words.{found_of, rows_of}
 use Rattle.disco_prog.specs.Serving.{SaysListening, listening_line}
-use Rattle.disco_prog.proofs.serve_command.serve.Goals as goal
+use Rattle.disco_prog.proofs.serve_command.serve_by.Goals as goal
 
 pub returns-in-Ok-open_and_serve-clause-listening :
     goal.returns-in-Ok-open_and_serve-clause-listening
