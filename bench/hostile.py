@@ -13,9 +13,9 @@ import time
 
 PORT = 18791
 BASE = "/eureka/v2"
-# Bytes of a body, and how many of one shape are registered.
+# Bytes of a body, and how many of one shape are registered: so many of them, or more of shorter ones.
 SIZE = 1 << 20
-MANY = 8
+MANY, MOST_MANY = 8, 128
 # Beyond so many bytes an instance keeps at most so many times its record.
 FREE_KEPT, MOST_KEPT = 4_096, 8
 # Beyond so many bytes a request takes at most so many times its body.
@@ -171,11 +171,12 @@ def measure_shape(program, name, members):
         taken = number_in(server.process, "VmHWM:") - before
         size = len(body_of(1, members))
         half = 0
-        for number in range(2, 2 * MANY + 2):
-            if number == MANY + 2:
+        many = min(MANY * SIZE // size, MOST_MANY)
+        for number in range(2, 2 * many + 2):
+            if number == many + 2:
                 half = number_in(server.process, "VmRSS:")
             server.register(body_of(number, members))
-        kept = (number_in(server.process, "VmRSS:") - half) / MANY
+        kept = (number_in(server.process, "VmRSS:") - half) / many
         begun = time.perf_counter()
         for number in range(2 * MANY):
             status, _ = server.ask("PUT", "/apps/A/%s/metadata?changed=%d" % (key_of(1, members), number))
