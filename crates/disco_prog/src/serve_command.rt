@@ -133,12 +133,10 @@ where
     ensures said { OnOk result (Appends (W.contents out.old) (W.contents out.new) (listening_line service.now.port)) }
 {
     let (mut desk, seats) = open::<J, R>(rt, alloc, &service.settings, service.workers, opening)?;
-    let kept = desk.keep_reserve();
+    // What is lacking of it is taken later.
+    let _kept = desk.keep_reserve();
     let desk = Mutex::new(desk);
-    let served = match kept {
-        Ok(()) => run(rt, alloc, service, clock, listener, &desk, seats, out),
-        Err(fault) => Err(fault),
-    };
+    let served = run(rt, alloc, service, clock, listener, &desk, seats, out);
     desk.into_inner().close(rt);
     served
 }
