@@ -17,7 +17,7 @@ import crates
 import definitions
 import figures
 
-GENERATED = ["docs/DEFINITIONS.md"] + ["docs/believe/%s.md" % name for name, _, _ in believe.THEOREMS]
+GENERATED = ["docs/DEFINITIONS.md"] + ["docs/believe/%s.md" % page.name for page in believe.PAGES + [believe.PARTS]]
 # Options of other programs than those of this repository: the kit's `rt`, and what stands in samples and examples.
 OTHERS = set("--allow-holes --anew --cases --data --init --jobs --only --start --seconds --help --check --path-as-is".split())
 ENDINGS = r"(?:rt|antt|md|sh|py|tsv|c|events|service|conf|cfg|txt|edit)"
@@ -209,17 +209,12 @@ def check_generated():
             findings.append(said)
     if certificates.text()[0] != read("samples/certificates.tsv"):
         findings.append("samples/certificates.tsv isn't as samples/certificates.py writes it")
-    made, marked, names_at = believe.definitions()
-    for name, title, functions in believe.THEOREMS:
-        roots = []
-        for file, function in functions:
-            names, words = believe.contract_words(file, function)
-            roots += believe.named_by(words, None, names, made)
-        order = believe.closure(roots, made, names_at)
-        for place in sorted({one.place for one in order} & marked):
-            findings.append("docs/believe/%s.md reaches %s/specs/%s.antt, which says that nothing there is to be believed" % (name, *place))
-        if believe.page(title, functions, order) != read("docs/believe/%s.md" % name):
-            findings.append("docs/believe/%s.md isn't as docs/believe/believe.py writes it" % name)
+    made, said = believe.pages()
+    findings.extend("docs/believe: " + one for one in said)
+    for one in made:
+        path = "docs/believe/%s.md" % one.page.name
+        if not os.path.exists(path) or read(path) != one.text:
+            findings.append("%s isn't as docs/believe/believe.py writes it" % path)
 
 
 def main():

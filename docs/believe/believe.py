@@ -1,194 +1,117 @@
-"""Writes beside itself, for each main theorem, its contract and the definitions that this reaches, in the order in which they can be read.
+"""Writes beside itself, for each main theorem, its contracts and the definitions that these reach, in the order in which they can be read.
 
-Run it at the top of the repository: `python3 docs/believe/believe.py`. It prints how many lines each theorem makes a reader believe, and ends
-with status 1 where one of the definitions stands in a file that is marked as not to be believed.
+Run it at the top of the repository: `python3 docs/believe/believe.py`. It prints how many lines each page makes a reader believe. It ends with
+status 1 where a page has a file that is marked as not to be believed, where a file that isn't marked is on no page, and where a sketch names what
+its page hasn't. The sketches stand in `sketches.md`, a section for each page.
 """
 
 import collections
+import functools
 import glob
 import os
 import re
 import sys
-import textwrap
+
+import specs
 
 HERE = os.path.dirname(os.path.abspath(__file__))
 
-# Of each theorem its page, what it says, and the functions whose contracts say it: source file, type where there is one, function.
-THEOREMS = [
-    ("run", "lists of events", [("disco_world/src/runs.rt", "run")]),
-    ("replay", "the command `replay`", [("disco_prog/src/replay_command.rt", "replay")]),
-    ("connection", "one connection over a desk", [
-        ("disco_http/src/session.rt", "serve"),
-        ("disco_server/src/desk_service.rt", None),
+# What `{TABLE}` is in a sketch: the definitions that say of each effect what is answered, what has happened after it, and what is kept.
+TABLE = ("performed", "Caches", "IsAnswer")
+
+# Of each page its name, of what it is, and its roots: a source file with a function or, for all public ones, without; or a file of lemmas with one.
+Page = collections.namedtuple("Page", "name of roots")
+PAGES = [
+    Page("run", "lists of events", ["disco_world/src/runs.rt run"]),
+    Page("replay", "the command `replay`", ["disco_prog/src/replay_command.rt replay"]),
+    Page("connection", "one connection over a desk", ["disco_http/src/session.rt serve", "disco_server/src/desk_service.rt"]),
+    Page("refresh", "a client's refresh, plain and certified", ["disco_reconcile/src/client.rt refresh"]),
+    Page("hub", "a hub", ["disco_hub/src/hub.rt", "disco_hub/src/cancel.rt", "disco_hub/src/copied.rt"]),
+    Page("desk", "a desk with its seats", [
+        "disco_press/src/seats.rt",
+        "disco_press/src/desk.rt",
+        "disco_press/src/writes.rt",
+        "disco_press/src/rounds.rt",
+        "disco_press/src/seat.rt",
+        "disco_server/src/publisher.rt publish_step",
     ]),
-    ("refresh", "a client's refresh, plain and certified", [("disco_reconcile/src/client.rt", "refresh")]),
+    Page("laws", "the laws", [
+        "disco_history/src/laws.rt",
+        "disco_reconcile/src/laws.rt",
+        "disco_wire/src/laws.rt",
+        "disco_message/src/laws.rt",
+        "disco_calls/src/laws.rt",
+        "disco_queue/src/laws.rt",
+        "disco_hub/proofs/InStep.antt begun_law",
+        "disco_hub/proofs/InStep.antt copied_law",
+        "disco_hub/proofs/InStep.antt publishable_law",
+        "disco_hub/proofs/InStep.antt shown_law",
+    ]),
 ]
+# The last page has what the contracts of all public functions reach and no page above it has.
+PARTS = Page("parts", "the other public functions", [])
 
-MARK = re.compile(r"nothing here (?:is to|need) be believed", re.I)
+# Files that no public contract reaches and that aren't marked so yet.
+NOT_YET = {
+    ("disco_client", "Steps"),
+    ("disco_connections", "Accepts"),
+    ("disco_connections", "Awaited"),
+    ("disco_connections", "Ending"),
+    ("disco_core", "Tied"),
+    ("disco_follow", "Seen"),
+    ("disco_press", "Rolls"),
+    ("disco_queue", "Seen"),
+    ("disco_server", "Tasks"),
+    ("disco_writer", "Empty"),
+}
+# Marked files that a contract hands on from call to call, so that no page shows them: what a session holds of a request that isn't whole.
+HANDED_ON = {("disco_http", "Coming")}
 
-READING = """## How to read it
-
-| Written | Read |
-|---|---|
-| `f : A → B`, and lines `f x = y` below it | a function; the first line that fits counts |
-| `f a b` | the function `f` of `a` and `b` |
-| `x ≡ y`, `x ≢ y`, `A × B`, `A ⊎ B`, `A → B`, `⊥` | equal, not equal, and, or, if then, never |
-| `(x : A) → B`, `(x : A) × B` | for each x, there is an x |
-| `record` with members | plain data; of a statement: all of its members hold |
-| `λ x. e`, `[]`, `x ∷ xs`, `xs ++ ys`, `p.0` | a function, the empty list, a list by its first element, two lists one behind the other, the first part of a pair |
-| `ℕ`, `List ℕ`, `codes "UP"` | a whole number without a bound; a list of these, as of the bytes of a text; the bytes of UP |
-| `FinMap key_cmp V` | a finite map from keys in the order `key_cmp` to values of `V` |
-| `IfOk r P`, `IfErr r P`, `IfSome o P` | `P` holds of the value, where there is one |
-| `x.now`, `x.old`, `x.new` | in a contract: what an argument refers to; before the call; after it |
-| `abbrev`, `unfoldable`, `pub`, `Type 0` | words for the checker; `Type 0` is the type of statements and of types |
-
-Types that stand in no file below, as `Key`, `Status`, `Query`, `Fault` or `Reply`, are those of the code, in `src/` of the crates. Lists, maps, texts and JSON trees (`Data`, `Members`) are the kit's. Other words are those of [the glossary](../GLOSSARY.md).
-"""
-IMPORT = re.compile(r"use Rattle\.(\w+)\.specs\.([\w.]+?)(?:\.\{(.*)\})?(?: as (\w+))?;?$")
-HEADER = re.compile(r"(?:(?:abbrev|unfoldable|opaque)\s+)*(?:pub\s+)?(?:(record|data)\s+)?([^\W\d][\w-]*)\b")
-WORD = re.compile(r"(?<![\w.-])[^\W\d][\w-]*(?:\.[^\W\d][\w-]*)?")
-
-Definition = collections.namedtuple("Definition", "place name lines words")
+# A page as it is written: its contracts, its definitions, and its text.
+Written = collections.namedtuple("Written", "page contracts order text")
 
 
-class Names:
-    """What the names of a file mean: those that it takes from others, and those of whole files."""
-
-    def __init__(self, text):
-        self.taken, self.files = {}, {}
-        for line in text.split("\n"):
-            found = IMPORT.match(line.strip().removeprefix("ghost ").strip())
-            if found:
-                self.take(*found.groups())
-
-    def take(self, crate, path, names, alias):
-        place = (crate, path)
-        if alias:
-            self.files[alias] = place
-        for name in (names or "").split(","):
-            old, _, new = name.strip().partition(" as ")
-            if old:
-                self.taken[new or old] = (place, old)
-
-    def meaning(self, word):
-        """The place and the name that a word stands for, if it is taken from elsewhere."""
-        first, _, rest = word.partition(".")
-        if rest and first in self.files:
-            return self.files[first], rest
-        return self.taken.get(first)
+def contracts_of(root):
+    """The contracts that a root of a page names."""
+    path, _, name = root.partition(" ")
+    if path.endswith(".antt"):
+        return [specs.lemma(path, name)]
+    return [one for one in specs.contracts(path) if name in ("", one.name)]
 
 
-def blocks(text):
-    """The definitions of a file, each with the comment in front of it and the equations behind it."""
-    found, comment = [], []
-    for line in text.split("\n"):
-        if line.startswith("use ") or not line.strip():
-            comment = []
-        elif line.startswith("--"):
-            comment.append(line)
-        elif line[0] in " \t})" and found:
-            found[-1][1].append(line)
-        else:
-            kind, name = HEADER.match(line).groups()
-            if found and found[-1][0] == name:
-                found[-1][1].append(line)
-            else:
-                found.append((name, comment + [line]))
-            comment = []
-    return found
+def all_contracts():
+    """The contracts of all public functions, lowest crate first."""
+    for crate in specs.crates():
+        for path in sorted(glob.glob("crates/%s/src/**/*.rt" % crate, recursive=True)):
+            yield from specs.contracts(path.removeprefix("crates/"))
 
 
-def is_code(line):
-    return not line.startswith("--")
+@functools.cache
+def names_of(path):
+    return specs.Names(specs.read("crates/" + path))
 
 
-def words_of(lines):
-    """The words of a definition, without the names of members that it declares or sets."""
-    text = "\n".join(line for line in lines if is_code(line))
-    text = re.sub(r"(?m)^\s+pub [\w-]+ :", " :", text)
-    text = re.sub(r"[{;]\s*[\w-]+ =", " =", text)
-    text = re.sub(r'"(?:[^"\\]|\\.)*"', " ", text)
-    return set(WORD.findall(text))
+def named_in(contract, found):
+    """The definitions that a contract names."""
+    return list(specs.named_by(contract.words, None, names_of(contract.path), found))
 
 
-def read(path):
-    with open(path, encoding="utf-8") as file:
-        return file.read()
-
-
-def definitions():
-    """All definitions by place and name, the constructors of data by theirs, and the places that are marked."""
-    found, marked, names_at = {}, set(), {}
-    for path in sorted(glob.glob("crates/*/specs/*.antt")):
-        place = (path.split("/")[1], os.path.basename(path)[:-5])
-        text = read(path)
-        if place[1] == "Lib":
-            continue
-        names_at[place] = Names(text)
-        if MARK.search(text.split("\n", 1)[0]):
-            marked.add(place)
-        for name, lines in blocks(text):
-            whole = Definition(place, name, lines, words_of(lines))
-            found[place, name] = whole
-            for made in constructors(lines):
-                found.setdefault((place, made), whole)
-    return found, marked, names_at
-
-
-def constructors(lines):
-    code = [line for line in lines if is_code(line)]
-    if "data" not in code[0].split("where")[0].split():
-        return []
-    return [found.group(1) for found in (re.match(r"\s+(?:pub )?([\w-]+) :", line) for line in code[1:]) if found]
-
-
-def named_by(words, place, names, found):
-    """The definitions that these words name, in a file."""
-    for word in sorted(words):
-        known = names.meaning(word) or (place, word.partition(".")[0])
-        if known in found:
-            yield found[known]
-
-
-def contract_words(path, function):
-    """The words of a function's contract, or of all contracts and ghosts of a file."""
-    text = read("crates/" + path)
-    if function is None:
-        return Names(text), set(WORD.findall(" ".join(re.findall(r"ghost [\w ]+[=:].*|(?:ensures|requires).*", text))))
-    start = re.search(r"pub fn %s\b" % function, text)
-    body = text[start.start():]
-    return Names(text), set(WORD.findall(body[: body.index("\n{\n") if "\n{\n" in body else body.index("\n    {\n")]))
-
-
-def contract_text(path, function):
-    """A function's contract as it stands, with the comment in front of it, or the contracts and ghosts of a file."""
-    text = read("crates/" + path)
-    if function is None:
-        return "\n".join(re.findall(r"ghost (?!use)[\w ]+[=:].*|(?:ensures|requires).*", text))
-    lines = text.split("\n")
-    at = next(i for i, line in enumerate(lines) if re.match(r"\s*pub fn %s\b" % function, line))
-    start = at
-    while lines[start - 1].strip().startswith("///"):
-        start -= 1
-    end = next(i for i in range(at, len(lines)) if lines[i].strip() == "{")
-    return textwrap.dedent("\n".join(lines[start:end]))
-
-
-def closure(roots, found, names_at):
-    """The definitions that are reached, each behind all that it names, where that can be."""
+def closure(contracts, found, names_at):
+    """The definitions that contracts reach, each behind all that it names, where that can be."""
     order, seen = [], set()
 
     def visit(definition):
         key = definition.place, definition.name
-        if key in seen:
+        if key in seen or definition.place in HANDED_ON:
             return
         seen.add(key)
-        for below in named_by(definition.words, definition.place, names_at[definition.place], found):
+        for below in specs.named_by(definition.words, definition.place, names_at[definition.place], found):
             visit(below)
         order.append(definition)
 
-    for root in roots:
-        visit(root)
+    for contract in contracts:
+        for root in named_in(contract, found):
+            visit(root)
     return order
 
 
@@ -197,47 +120,157 @@ def by_file(order):
     files = collections.defaultdict(list)
     for definition in order:
         files[definition.place].append(definition)
-    crates = [line.split(":")[0] for line in read("crates.txt").split("\n") if ":" in line and not line.startswith("#")]
+    crates = specs.crates()
     last = {place: order.index(made[-1]) for place, made in files.items()}
     return [(place, files[place]) for place in sorted(files, key=lambda it: (crates.index(it[0]), last[it]))]
 
 
 def count(made):
-    return sum(is_code(line) for definition in made for line in definition.lines)
+    return sum(specs.is_code(line) for definition in made for line in definition.lines)
 
 
-def page(title, functions, order):
-    lines = ["# What has to be believed of %s" % title, ""]
-    lines.append("The contract comes first, then %d definitions that it reaches, %d lines without comments, in %d files. Lowest crate first; each definition stands behind those that it names, but for files that name one another's." % (
-        len(order), count(order), len({it.place for it in order})))
-    lines += ["", READING.rstrip("\n"), "", "## The contract"]
-    for path, function in functions:
-        lines += ["", "`%s`%s:" % (path, ", `%s`" % function if function else ""), "", "```", contract_text(path, function), "```"]
+def taken_from(words, names):
+    """Of these words those that are taken from elsewhere: the place of each, and the word there."""
+    for word, (place, old) in names.taken.items():
+        if all(part in words for part in word.split("◌") if part):
+            yield place, word if word == old else "%s as %s" % (old, word)
+    for word in words:
+        first, _, rest = word.partition(".")
+        if rest and first in names.files:
+            yield names.files[first], rest
+
+
+def kit_words(contracts, order, names_at):
+    """The words of the kit's libraries, by file, that contracts and definitions use."""
+    files = collections.defaultdict(set)
+    for words, names in [(it.words, names_of(it.path)) for it in contracts] + [(it.words, names_at[it.place]) for it in order]:
+        for place, word in taken_from(words, names):
+            if not place[0].startswith("disco_"):
+                files["/".join(place).replace(".", "/")].add(word.replace("◌", " ").strip())
+    return files
+
+
+def table(first, files):
+    """A table of a row a file, or a page, with its words."""
+    rows = ["| %s | Words |" % first, "|---|---|"]
+    for file in sorted(files, key=lambda file: file.strip("`")):
+        rows.append("| %s | %s |" % (file, ", ".join("`%s`" % word.replace("|", "\\|") for word in sorted(files[file], key=lambda it: (it.lower(), it)))))
+    return rows
+
+
+@functools.cache
+def sketches():
+    """The sections of `sketches.md` by their names."""
+    sections = re.split(r"(?m)^## (.*)\n", specs.read(os.path.join(HERE, "sketches.md")))
+    named = ", ".join("`%s`" % name for name in TABLE[:-1]) + " and " * (len(TABLE) > 1) + "`%s`" % TABLE[-1]
+    found = {name: text.strip() for name, text in zip(sections[1::2], sections[2::2])}
+    return {name: text.replace("{documents}", found["documents"]).replace("{TABLE}", named) for name, text in found.items()}
+
+
+def contract_lines(contracts):
+    """The contracts, those of a file and a type in one block."""
+    lines, last = ["", "## The contract" + "s" * (len(contracts) > 1)], None
+    for contract in contracts:
+        owner = contract.label.split("::")[0]
+        if last == (contract.path, owner):
+            lines[-1:] = [""]
+        else:
+            lines += ["", "`%s`, `%s`:" % (contract.path, owner), "", "```"]
+        lines += [specs.shown(contract), "```"]
+        last = contract.path, owner
+    return lines
+
+
+def definition_lines(order, uses=None):
+    """The definitions, a block a file; behind its heading the contracts that name them, where these are given."""
+    lines = []
     for (crate, name), made in by_file(order):
-        lines += ["", "## `%s/specs/%s.antt`" % (crate, name), "", "```"]
+        lines += ["", "## `%s/specs/%s.antt`" % (crate, name), ""]
+        if uses and any(uses[it.place, it.name] for it in made):
+            labels = dict.fromkeys(label for it in made for label in uses[it.place, it.name])
+            lines += ["Named by %s." % ", ".join("`%s`" % label for label in labels), ""]
+        lines.append("```")
         for at, definition in enumerate(made):
             lines += ([""] if at else []) + definition.lines
         lines.append("```")
-    return "\n".join(lines) + "\n"
+    return lines
+
+
+def written(page, contracts, order, names_at, intro, middle, uses=None):
+    """A page: what it is, its sketch, how to read it, what comes between, and its definitions."""
+    size = "%d definitions, %d lines without comments, in %d files" % (len(order), count(order), len({it.place for it in order}))
+    files = {"`%s`" % file: words for file, words in kit_words(contracts, order, names_at).items()}
+    lines = ["# What has to be believed of %s" % page.of, "", intro % size, "", "## How it hangs together", "", sketches()[page.name]]
+    lines += ["", "## How to read it", "", sketches()["reading"], ""] + table("File of the kit", files)
+    return Written(page, contracts, order, "\n".join(lines + middle + definition_lines(order, uses)) + "\n")
+
+
+def theorem(page, found, names_at):
+    contracts = [one for root in page.roots for one in contracts_of(root)]
+    intro = "First comes a sketch, then %s, then %%s. Lowest crate first; each definition stands behind those that it names, but for files that name one another's." % (
+        "the contract" if len(contracts) == 1 else "the contracts")
+    return written(page, contracts, closure(contracts, found, names_at), names_at, intro, contract_lines(contracts))
+
+
+def parts(pages, found, names_at):
+    """The last page, behind the others."""
+    contracts, where = list(all_contracts()), {}
+    for one in pages:
+        for it in one.order:
+            where.setdefault((it.place, it.name), one.page.name)
+    order = [it for it in closure(contracts, found, names_at) if (it.place, it.name) not in where]
+    uses, elsewhere = collections.defaultdict(list), collections.defaultdict(set)
+    for contract in contracts:
+        for it in named_in(contract, found):
+            uses[it.place, it.name].append(contract.label)
+    for it in order:
+        for below in specs.named_by(it.words, it.place, names_at[it.place], found):
+            if (below.place, below.name) in where:
+                name = where[below.place, below.name]
+                elsewhere["[%s](%s.md)" % (name, name)].add(below.name)
+    intro = "First comes a sketch, then %s: those that the contracts of public functions reach and that no other page has. Lowest crate first."
+    middle = ["", "These stand on other pages:", ""] + table("Page", elsewhere)
+    return written(PARTS, [], order, names_at, intro, middle, uses)
+
+
+def pages():
+    """All pages, and what is wrong with them."""
+    found, marked, names_at = specs.definitions()
+    made = [theorem(page, found, names_at) for page in PAGES]
+    made.append(parts(made, found, names_at))
+    return made, faults(made, marked, names_at)
+
+
+def faults(made, marked, names_at):
+    said, on_pages = [], {it.place for one in made for it in one.order}
+    for one in made:
+        for place in sorted({it.place for it in one.order} & marked):
+            said.append("%s.md has a file that is marked as not to be believed: %s/specs/%s.antt" % (one.page.name, *place))
+        for name in sorted(set(re.findall(r"`([^`]+)`", sketches()[one.page.name])) - known_on(one)):
+            said.append("sketches.md: %s.md has no %s" % (one.page.name, name))
+    for place in sorted(set(names_at) - marked - on_pages - NOT_YET):
+        said.append("a file that isn't marked as not to be believed is on no page: %s/specs/%s.antt" % place)
+    return said
+
+
+def known_on(one):
+    """The names that the sketch of a page may cite: its definitions, and the functions and clauses of its contracts."""
+    names = {it.name for it in one.order} | {made for it in one.order for made in specs.constructors(it.lines)}
+    for it in one.contracts:
+        names |= {it.label} | specs.clauses(it)
+        names |= {name for name, _ in specs.blocks("\n".join(it.lines))} if it.path.endswith(".antt") else set()
+    return names
 
 
 def main():
-    found, marked, names_at = definitions()
-    status = 0
-    for name, title, functions in THEOREMS:
-        roots = []
-        for path, function in functions:
-            names, words = contract_words(path, function)
-            roots += named_by(words, None, names, found)
-        order = closure(roots, found, names_at)
-        print("%-10s %4d definitions, %5d lines" % (name, len(order), count(order)))
-        for definition in order:
-            if definition.place in marked:
-                print("  marked as not to be believed: %s of %s/specs/%s.antt" % (definition.name, *definition.place))
-                status = 1
-        with open(os.path.join(HERE, name + ".md"), "w", encoding="utf-8") as file:
-            file.write(page(title, functions, order))
-    return status
+    made, said = pages()
+    for one in made:
+        print("%-10s %4d definitions, %5d lines" % (one.page.name, len(one.order), count(one.order)))
+        with open(os.path.join(HERE, one.page.name + ".md"), "w", encoding="utf-8") as file:
+            file.write(one.text)
+    for line in said:
+        print("  " + line)
+    return 1 if said else 0
 
 
 if __name__ == "__main__":
