@@ -168,16 +168,17 @@ def sketches():
 
 
 def contract_lines(contracts):
-    """The contracts, those of a file and a type in one block."""
-    lines, last = ["", "## The contract" + "s" * (len(contracts) > 1)], None
+    """The contracts, a block for those of a type, and for those of functions, in a file."""
+    groups = collections.defaultdict(list)
     for contract in contracts:
-        owner = contract.label.split("::")[0]
-        if last == (contract.path, owner):
-            lines[-1:] = [""]
-        else:
-            lines += ["", "`%s`, `%s`:" % (contract.path, owner), "", "```"]
-        lines += [specs.shown(contract), "```"]
-        last = contract.path, owner
+        groups[contract.path, contract.owner].append(contract)
+    lines = ["", "## The contract" + "s" * (len(contracts) > 1)]
+    for (path, owner), made in groups.items():
+        label = made[0].label if len(made) == 1 else owner
+        lines += ["", "`%s`%s:" % (path, ", `%s`" % label if label else ""), "", "```"]
+        for contract in made:
+            lines += [specs.shown(contract), ""]
+        lines[-1] = "```"
     return lines
 
 
@@ -200,7 +201,9 @@ def written(page, contracts, order, names_at, intro, middle, uses=None):
     """A page: what it is, its sketch, how to read it, what comes between, and its definitions."""
     size = "%d definitions, %d lines without comments, in %d files" % (len(order), count(order), len({it.place for it in order}))
     files = {"`%s`" % file: words for file, words in kit_words(contracts, order, names_at).items()}
-    lines = ["# What has to be believed of %s" % page.of, "", intro % size, "", "## How it hangs together", "", sketches()[page.name]]
+    others = " · ".join("[%s](%s.md)" % (one.of, one.name) for one in PAGES + [PARTS] if one != page)
+    lines = ["# What has to be believed of %s" % page.of, "", intro % size, "", "Other pages: %s." % others]
+    lines += ["", "## How it hangs together", "", sketches()[page.name]]
     lines += ["", "## How to read it", "", sketches()["reading"], ""] + table("File of the kit", files)
     return Written(page, contracts, order, "\n".join(lines + middle + definition_lines(order, uses)) + "\n")
 

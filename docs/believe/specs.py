@@ -16,8 +16,9 @@ FUNCTION = re.compile(r"\s*(pub )?(?:const )?fn (\w+)")
 OWNER = re.compile(r"(?:impl|pub trait)\b(?:<[^{]*?>)?\s*(?:[\w:]+(?:<[^{]*>)?\s+for\s+)?(\w+)")
 
 Definition = collections.namedtuple("Definition", "place name lines words")
-# A function, or a ghost member of a type: the place in the sources, its label, its lines with the comment in front, and the words of its clauses.
-Contract = collections.namedtuple("Contract", "path name label lines words")
+# A function, a ghost member of a type, or a lemma: its file, its type if it has one, its name, how pages call it, its lines with the comment in front,
+# and the words of its clauses.
+Contract = collections.namedtuple("Contract", "path owner name label lines words")
 
 
 def read(path):
@@ -157,12 +158,11 @@ def contracts(path):
         if owner and line.startswith("    ") and owner not in public:
             continue
         if function and (function.group(1) or in_trait) and any(re.match(r"\s*(?:ensures|requires)\b", one) for one in taken):
-            name = function.group(2)
-            label = "%s::%s" % (owner, name) if owner and line.startswith("    ") else name
-            yield Contract(path, name, label, commented(lines, at) + taken, clause_words(taken))
+            name, its = function.group(2), owner if line.startswith("    ") else None
+            yield Contract(path, its, name, "%s::%s" % (its, name) if its else name, commented(lines, at) + taken, clause_words(taken))
         elif ghost and owner and (in_trait or " for " in header and ("Model for" not in header or ghost.group(1) == "Value")):
             above = [] if in_trait else [header.rstrip(" {")]
-            yield Contract(path, ghost.group(1), owner, above + commented(lines, at) + taken, clause_words(taken))
+            yield Contract(path, owner, ghost.group(1), owner, above + commented(lines, at) + taken, clause_words(taken))
 
 
 @functools.cache
@@ -189,8 +189,8 @@ def lemma(path, name):
     end = next(i for i in range(at + 1, len(lines)) if not lines[i].startswith(" "))
     stated = lines[:end]
     below = [made[word] for word in sorted(words_of(code_of(stated))) if word in made and word != name]
-    whole = [line for one in below for line in one] + stated
-    return Contract(path, name, name, whole, words_of(code_of(whole)))
+    whole = [line for one in below for line in one + [""]] + stated
+    return Contract(path, None, name, name, whole, words_of(code_of(whole)))
 
 
 def clause_words(lines):
