@@ -76,7 +76,8 @@ def contracts_of(root):
     path, _, name = root.partition(" ")
     if path.endswith(".antt"):
         return [specs.lemma(path, name)]
-    return [one for one in specs.contracts(path) if name in ("", one.name)]
+    found = [one for one in specs.contracts(path) if name in ("", one.name)]
+    return found or sys.exit("docs/believe/believe.py: there is no contract of %s" % root)
 
 
 def all_contracts():
@@ -94,6 +95,15 @@ def names_of(path):
 def named_in(contract, found):
     """The definitions that a contract names."""
     return list(specs.named_by(contract.words, None, names_of(contract.path), found))
+
+
+def uses_of(contracts, found):
+    """Of each definition the labels of the contracts that name it, in their order."""
+    uses = collections.defaultdict(dict)
+    for contract in contracts:
+        for it in named_in(contract, found):
+            uses[it.place, it.name][contract.label] = True
+    return uses
 
 
 def closure(contracts, found, names_at):
@@ -222,10 +232,7 @@ def parts(pages, found, names_at):
         for it in one.order:
             where.setdefault((it.place, it.name), one.page.name)
     order = [it for it in closure(contracts, found, names_at) if (it.place, it.name) not in where]
-    uses, elsewhere = collections.defaultdict(list), collections.defaultdict(set)
-    for contract in contracts:
-        for it in named_in(contract, found):
-            uses[it.place, it.name].append(contract.label)
+    elsewhere = collections.defaultdict(set)
     for it in order:
         for below in specs.named_by(it.words, it.place, names_at[it.place], found):
             if (below.place, below.name) in where:
@@ -233,7 +240,7 @@ def parts(pages, found, names_at):
                 elsewhere["[%s](%s.md)" % (name, name)].add(below.name)
     intro = "First comes a sketch, then %s: those that the contracts of public functions reach and that no other page has. Lowest crate first."
     middle = ["", "These stand on other pages:", ""] + table("Page", elsewhere)
-    return written(PARTS, [], order, names_at, intro, middle, uses)
+    return written(PARTS, [], order, names_at, intro, middle, uses_of(contracts, found))
 
 
 def pages():

@@ -4,7 +4,6 @@ its comment and the public functions whose contracts name it.
 Run it anywhere: `python3 docs/believe/definitions.py`. With `--check` it writes nothing, and ends with status 1 where the page isn't as it would be.
 """
 
-import collections
 import glob
 import os
 import sys
@@ -39,23 +38,13 @@ def opening(text):
     return comment_of(lines)
 
 
-def named_in_contracts(found):
-    """Of each definition the public functions whose contracts name it, in the order of crates and files."""
-    users = collections.defaultdict(list)
-    for contract in believe.all_contracts():
-        for named in believe.named_in(contract, found):
-            if contract.label not in users[named.place, named.name]:
-                users[named.place, named.name].append(contract.label)
-    return users
-
-
 def cell(text):
     return text.replace("|", "\\|")
 
 
 def page():
     found, _, _ = specs.definitions()
-    users = named_in_contracts(found)
+    users = believe.uses_of(believe.all_contracts(), found)
     pages = ["[%s](believe/%s.md)" % (page.of, page.name) for page in believe.PAGES + [believe.PARTS]]
     lines = (HEAD % (", ".join(pages[:-1]) + " and " + pages[-1])).rstrip("\n").split("\n")
     for crate in specs.crates():
@@ -72,7 +61,7 @@ def page():
             for label, made in merged(specs.blocks(text)):
                 if specs.MARK.search(comment_of(made)):
                     continue
-                by = ", ".join("`%s`" % user for user in users.get(((crate, name[:-5]), label), []))
+                by = ", ".join("`%s`" % user for user in users[(crate, name[:-5]), label])
                 lines.append("| `%s` | %s | %s |" % (label, cell(comment_of(made)), by))
     return "\n".join(lines) + "\n"
 
