@@ -43,8 +43,11 @@ module _ {X : Type 0} (m : FinMap key_cmp X) (k : Key) where
       not_some (Some x) e = cc
   out_step q false none is = refl
 
-  pub none_out : is_some (get m k) ≡ false → m ≡ remove m k
+  none_out : is_some (get m k) ≡ false → m ≡ remove m k
   none_out none = same_map keys_total exact_keys _ _ (λ q. sym (get-remove keys_total m k q ∙ out_step q (same_key q k) none refl))
+
+  pub len_same : (n : FinMap key_cmp X) → is_some (get m k) ≡ false → n ≡ remove m k → len n ≡ len m
+  len_same n none is = ap len (is ∙ sym (none_out none))
 
 module _ {V : Type 0} (m : FinMap key_cmp (Option V)) (k : Key) where
   same_place : (o : Option (Option V)) → is_some o ≡ true → Some (option_flatten o) ≡ o

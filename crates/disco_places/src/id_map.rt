@@ -73,10 +73,11 @@ fn update<V: Drop, F: FnOnce(&V) -> V + Drop>(
     }
 }
 
-fn unset<V: Drop>(ids: &mut BTreeMap<Text, V>, id: &Text)
-    ensures { tree.Updates text_cmp ids.old ids.new id.now None }
+fn unset<V: Drop>(ids: &mut BTreeMap<Text, V>, id: &Text) -> bool
+    ensures there { result ≡ is_some (tree.get text_cmp ids.old id.now) }
+    ensures out { tree.Updates text_cmp ids.old ids.new id.now None }
 {
-    ids.remove(id);
+    ids.remove(id).is_some()
 }
 
 impl<V: Drop> IdMap<V> {
@@ -143,11 +144,12 @@ impl<V: Drop> IdMap<V> {
         swap(&mut self.ids, id, value)
     }
 
-    /// Takes the value of an id out. Takes no memory.
-    pub(crate) fn remove(&mut self, id: &Text)
-        ensures { self.new ≡ finmap.remove self.old id.now }
+    /// Takes the value of an id out, and answers whether it had one. Takes no memory.
+    pub(crate) fn remove(&mut self, id: &Text) -> bool
+        ensures there { result ≡ is_some (finmap.get self.old id.now) }
+        ensures out { self.new ≡ finmap.remove self.old id.now }
     {
-        unset(&mut self.ids, id);
+        unset(&mut self.ids, id)
     }
 }
 

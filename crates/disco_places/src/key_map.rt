@@ -102,21 +102,22 @@ fn update_in<V: Drop, F: FnOnce(&V) -> V + Drop>(
     }
 }
 
-/// Takes the value of a key out, and answers whether its app is there and has no id left.
-fn close_in<V: Drop>(apps: &mut BTreeMap<Text, IdMap<V>>, key: &Key) -> bool
+/// Takes the value of a key out. Whether it had one, and whether its app is there and has no id left.
+fn close_in<V: Drop>(apps: &mut BTreeMap<Text, IdMap<V>>, key: &Key) -> (bool, bool)
     requires { IsOrdered text_cmp apps.old }
+    ensures there { result.0 ≡ is_some (finmap.get (by_key apps.old.entries) key.now) }
     ensures closed { by_key apps.new.entries ≡ finmap.remove (by_key apps.old.entries) key.now }
-    ensures bare { IsTrue result → tree.get text_cmp apps.new key.now.app ≡ Some finmap.empty }
-    ensures full { result ≡ false → HasNoBareApp apps.old.entries → HasNoBareApp apps.new.entries }
+    ensures bare { IsTrue result.1 → tree.get text_cmp apps.new key.now.app ≡ Some finmap.empty }
+    ensures full { result.1 ≡ false → HasNoBareApp apps.old.entries → HasNoBareApp apps.new.entries }
     ensures others { HasNoBareApp apps.old.entries → (a : List ℕ) → tree.get text_cmp apps.new a ≡ Some finmap.empty → a ≡ key.now.app }
     ensures ordered { IsOrdered text_cmp apps.new }
 {
     match apps.get_mut(&key.app) {
         Some(ids) => {
-            ids.remove(&key.id);
-            ids.is_empty()
+            let had = ids.remove(&key.id);
+            (had, ids.is_empty())
         }
-        None => false,
+        None => (false, false),
     }
 }
 
@@ -128,16 +129,19 @@ fn unset<V: Drop>(apps: &mut BTreeMap<Text, IdMap<V>>, app: &Text)
     apps.remove(app);
 }
 
-/// Takes the value of a key out, and its app with its last id.
-fn take_out<V: Drop>(apps: &mut BTreeMap<Text, IdMap<V>>, key: &Key)
+/// Takes the value of a key out, and its app with its last id. Whether it had one.
+fn take_out<V: Drop>(apps: &mut BTreeMap<Text, IdMap<V>>, key: &Key) -> bool
     requires { IsOrdered text_cmp apps.old }
+    ensures there { result ≡ is_some (finmap.get (by_key apps.old.entries) key.now) }
     ensures closed { by_key apps.new.entries ≡ finmap.remove (by_key apps.old.entries) key.now }
     ensures ordered { IsOrdered text_cmp apps.new }
     ensures full { HasNoBareApp apps.old.entries → HasNoBareApp apps.new.entries }
 {
-    if close_in(apps, key) {
+    let (had, bare) = close_in(apps, key);
+    if bare {
         unset(apps, &key.app);
     }
+    had
 }
 
 impl<V: Drop> KeyMap<V> {
@@ -237,11 +241,9 @@ impl<V: Drop> KeyMap<V> {
     pub fn remove(&mut self, key: &Key)
         ensures { self.new ≡ finmap.remove self.old key.now }
     {
-        if !self.has(key) {
-            return;
+        if take_out(&mut self.apps, key) {
+            self.len -= 1;
         }
-        take_out(&mut self.apps, key);
-        self.len -= 1;
     }
 }
 
