@@ -69,8 +69,9 @@ fn end(leases: &mut LeaseBook, key: &Key)
     ensures renewals { leases.new.renewals ≡ leases.old.renewals }
     ensures closed { leases.new.closed ≡ leases.old.closed }
 {
-    let _ = leases.cancel(key);
-    leases.sweep(key);
+    if leases.cancel(key).is_err() {
+        leases.sweep(key);
+    }
 }
 
 /// Moves the lease of the instance that a change is about.

@@ -4,8 +4,8 @@ use Rattle.disco_core.proofs.Marks.{ended, kept_by_sweep}
 use Rattle.disco_core.proofs.Ties.{missed}
 use Rattle.disco_core.proofs.leases.end.Goals as goal
 
-pub returns-clause-lease : goal.returns-clause-lease
-returns-clause-lease c =
+pub returns-then-is_err-clause-lease : goal.returns-then-is_err-clause-lease
+returns-then-is_err-clause-lease c =
     let k = c.args.key.now in
     let old = c.args.leases.now in
     kept_by_sweep k None old c.cancel.new.self c.sweep.new.self c.sweep.ensures.same
