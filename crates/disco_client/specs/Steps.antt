@@ -1,4 +1,4 @@
--- Entries that are put in and taken out one after another.
+-- Entries that are put in and taken out one after another. Nothing here is to be believed: no public contract rests on it.
 use Rattle.std.specs.Prelude.{List, [], ◌∷◌, Option, Some, None}
 use Rattle.std.specs.FinMap.{FinMap, insert, remove}
 use Rattle.disco_values.specs.Key.{key_cmp}

@@ -1,4 +1,4 @@
--- What ties the counts, the vips, the leases and the texts to the registry.
+-- What ties the counts, the vips, the leases and the texts to the registry. Nothing here is to be believed: it is the invariant of a type.
 use Rattle.std.specs.Prelude.{◌≡◌, ◌≤◌, option_map}
 use Rattle.std.specs.FinMap.{FinMap, len}
 use Rattle.disco_values.specs.Key.{key_cmp}

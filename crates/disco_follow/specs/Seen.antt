@@ -1,4 +1,4 @@
--- Changes as contracts see them.
+-- Changes as private contracts see them. Nothing here is to be believed: no public contract rests on it.
 use Rattle.disco_instance.specs.Row.{row}
 use Rattle.disco_follow.specs.Changes.{Change}
 use Rattle.disco_follow.specs.declared.change.Change.{Change as Noted}

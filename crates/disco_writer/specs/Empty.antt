@@ -1,4 +1,4 @@
--- Which places of kept texts may stand empty: the invariant of a type.
+-- Which places of kept texts may stand empty. Nothing here is to be believed: it is the invariant of a type.
 use Rattle.std.specs.Prelude.{◌≡◌, ℕ, false, List, Option, Some, None}
 use Rattle.std.specs.FinMap.{get}
 use Rattle.std.specs.Option.{option_flatten}
