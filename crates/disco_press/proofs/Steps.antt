@@ -15,26 +15,26 @@ use types.Growing.{latest_new, latest_grows, latest_shows, latest_bounds, at_lea
 use types.Kit.{‵, ◌⊛◌, some, given, ◌$◌, ◌∵◌, !, qed, keep, learn, check, use2, pick, done}
 use denote.Steps.{nothing}
 use Rattle.logbook.proofs.Roster.{prefix_out, prefix_in}
-use Rattle.disco_press.specs.Rolls.{lists, scroll_owns, leaf_owns}
+use Rattle.disco_press.specs.MonotoneLists.{lists, list_owns, witness_owns}
 
 module _ {M : Type 1} {𝓤 : Ura M} (𝓛 : Logic 𝓤) {E : Type 0} (cv : Coded E) where
   open 𝓛 use {H}
 
-  pub leaf_twice : (η : ℕ) (xs : List E) → ent 𝓤 (sem 𝓛 (leaf_owns cv.code η xs)) (sep 𝓤 (sem 𝓛 (leaf_owns cv.code η xs)) (sem 𝓛 (leaf_owns cv.code η xs)))
-  leaf_twice η xs = at_least_dup lists 𝓛 η (map cv.code xs)
+  pub witness_twice : (η : ℕ) (xs : List E) → ent 𝓤 (sem 𝓛 (witness_owns cv.code η xs)) (sep 𝓤 (sem 𝓛 (witness_owns cv.code η xs)) (sem 𝓛 (witness_owns cv.code η xs)))
+  witness_twice η xs = at_least_dup lists 𝓛 η (map cv.code xs)
 
-  pub begins : ent 𝓤 (emp 𝓤) (H.⇛ (ex 𝓤 (λ (η : ℕ). sem 𝓛 (scroll_owns cv.code η []))))
+  pub begins : ent 𝓤 (emp 𝓤) (H.⇛ (ex 𝓤 (λ (η : ℕ). sem 𝓛 (list_owns cv.code η []))))
   begins = via 𝓤 _ (latest_new lists 𝓛 []) (basic 𝓛 _)
 
-  pub grows : (η : ℕ) (xs more : List E) → ent 𝓤 (sem 𝓛 (scroll_owns cv.code η xs)) (H.⇛ (sem 𝓛 (scroll_owns cv.code η (xs ++ more))))
+  pub grows : (η : ℕ) (xs more : List E) → ent 𝓤 (sem 𝓛 (list_owns cv.code η xs)) (H.⇛ (sem 𝓛 (list_owns cv.code η (xs ++ more))))
   grows η xs more = via 𝓤 _ (latest_grows lists 𝓛 η (map cv.code xs) (map cv.code (xs ++ more)) (prefix_in cv xs more)) (basic 𝓛 _)
 
-  pub shows : (η : ℕ) (xs : List E) → ent 𝓤 (sem 𝓛 (scroll_owns cv.code η xs)) (sep 𝓤 (sem 𝓛 (scroll_owns cv.code η xs)) (sem 𝓛 (leaf_owns cv.code η xs)))
+  pub shows : (η : ℕ) (xs : List E) → ent 𝓤 (sem 𝓛 (list_owns cv.code η xs)) (sep 𝓤 (sem 𝓛 (list_owns cv.code η xs)) (sem 𝓛 (witness_owns cv.code η xs)))
   shows η xs = latest_shows lists 𝓛 full_share η (map cv.code xs) (map cv.code xs) (lists.same (map cv.code xs))
 
-  pub bounds : (η : ℕ) (xs ys : List E) → ent 𝓤 (sep 𝓤 (sem 𝓛 (scroll_owns cv.code η xs)) (sem 𝓛 (leaf_owns cv.code η ys))) (guard 𝓤 (IsPrefix ys xs) (sep 𝓤 (sem 𝓛 (scroll_owns cv.code η xs)) (sem 𝓛 (leaf_owns cv.code η ys))))
-  bounds η xs ys = qed 𝓛 (‵ (scroll_owns cv.code η xs) ∷ ‵ (leaf_owns cv.code η ys) ∷ []) ∵
-      use2 𝓛 (given (IsPrefix (map cv.code ys) (map cv.code xs)) (‵ (scroll_owns cv.code η xs) ⊛ ‵ (leaf_owns cv.code η ys))) (latest_bounds lists 𝓛 full_share η (map cv.code xs) (map cv.code ys)) $ learn ! (λ q. check ! (prefix_out cv ys xs q) $ done !)
+  pub bounds : (η : ℕ) (xs ys : List E) → ent 𝓤 (sep 𝓤 (sem 𝓛 (list_owns cv.code η xs)) (sem 𝓛 (witness_owns cv.code η ys))) (guard 𝓤 (IsPrefix ys xs) (sep 𝓤 (sem 𝓛 (list_owns cv.code η xs)) (sem 𝓛 (witness_owns cv.code η ys))))
+  bounds η xs ys = qed 𝓛 (‵ (list_owns cv.code η xs) ∷ ‵ (witness_owns cv.code η ys) ∷ []) ∵
+      use2 𝓛 (given (IsPrefix (map cv.code ys) (map cv.code xs)) (‵ (list_owns cv.code η xs) ⊛ ‵ (witness_owns cv.code η ys))) (latest_bounds lists 𝓛 full_share η (map cv.code xs) (map cv.code ys)) $ learn ! (λ q. check ! (prefix_out cv ys xs q) $ done !)
 
 -- of two beginnings of one list the shorter begins the longer
 shorter : {A : Type 0} (xs ys zs : List A) → IsPrefix xs zs → IsPrefix ys zs → length xs ≤ length ys → IsPrefix xs ys
@@ -47,17 +47,17 @@ shorter (x ∷ xs) (y ∷ ys) (z ∷ zs) p q le =
     (rest.0, cc (heads, rest.1))
 
 module _ {M : Type 1} {𝓤 : Ura M} (𝓛 : Logic 𝓤) {E : Type 0} (cv : Coded E) where
-  pub compares : (η : ℕ) (xs ys : List E) → length xs ≤ length ys → ent 𝓤 (sep 𝓤 (sem 𝓛 (leaf_owns cv.code η xs)) (sem 𝓛 (leaf_owns cv.code η ys))) (guard 𝓤 (IsPrefix xs ys) (sem 𝓛 ftrue))
+  pub compares : (η : ℕ) (xs ys : List E) → length xs ≤ length ys → ent 𝓤 (sep 𝓤 (sem 𝓛 (witness_owns cv.code η xs)) (sem 𝓛 (witness_owns cv.code η ys))) (guard 𝓤 (IsPrefix xs ys) (sem 𝓛 ftrue))
   compares η xs ys le = let us : List Gv = map cv.code xs in let vs : List Gv = map cv.code ys in
       let le' : length us ≤ length vs = omega (arith, length-map xs cv.code, length-map ys cv.code) in
-      qed 𝓛 (‵ (leaf_owns cv.code η xs) ∷ ‵ (leaf_owns cv.code η ys) ∷ []) ∵
+      qed 𝓛 (‵ (witness_owns cv.code η xs) ∷ ‵ (witness_owns cv.code η ys) ∷ []) ∵
       use2 𝓛 (some (λ (c : List Gv). given (Least lists.le us vs c) (‵ (at_least lists η c)))) (at_least_join lists 𝓛 η us vs) $ pick ! (λ c. learn ! (λ l. check ! (prefix_out cv xs ys (shorter us vs c l.0 l.1 le')) $ keep ! [] $ nothing ! $ done !))
 
 module _ {E : Type 0} (c : E → Gv) where
-  pub scroll_keyless : (η : ℕ) (xs : List E) → Keyless (scroll_owns c η xs)
+  pub list_keyless : (η : ℕ) (xs : List E) → Keyless (list_owns c η xs)
   unfolding latest
-  scroll_keyless η xs = tt
+  list_keyless η xs = tt
 
-  pub leaf_keyless : (η : ℕ) (xs : List E) → Keyless (leaf_owns c η xs)
+  pub witness_keyless : (η : ℕ) (xs : List E) → Keyless (witness_owns c η xs)
   unfolding at_least
-  leaf_keyless η xs = tt
+  witness_keyless η xs = tt

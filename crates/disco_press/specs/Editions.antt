@@ -13,4 +13,4 @@ pub record IsEditionOf (ps : List (List Note)) (docs : Edition) : Type 0 where
 
 -- they are those of publications of the desk of this name
 abbrev pub IsShown : ℕ → Snapshot → Type 0
-IsShown name x = (x.prefix.leaf.name ≡ name) × IsEditionOf (publications x.prefix.leaf.items) x.docs
+IsShown name x = (x.prefix.witness.name ≡ name) × IsEditionOf (publications x.prefix.witness.items) x.docs

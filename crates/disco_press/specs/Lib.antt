@@ -3,6 +3,6 @@ pub mod Editions
 pub mod Keeping
 pub mod Logs
 pub mod Looks
+pub mod MonotoneLists
 pub mod Openings
-pub mod Rolls
 pub mod Seats

@@ -11,6 +11,7 @@ use crate::log::PublicationLog;
 use crate::published_log::Naming;
 use crate::reserve::Reserve;
 use crate::seat::Seat;
+use crate::seen::Seen;
 use crate::snapshot_writer::SnapshotWriter;
 use disco_cache::{Edition, Payload};
 use disco_hub::Hub;
@@ -190,7 +191,10 @@ impl<J: Naming> Seat<J> {
         self.check(&mut desk.book);
         desk.log.meet(self.known());
         desk.log.meet_all(self.heard());
-        let heard = desk.log.heard();
-        self.tell(desk.log.published(), heard);
+        let seen = Seen {
+            known: desk.log.published(),
+            heard: desk.log.heard(),
+        };
+        self.tell(seen);
     }
 }

@@ -3,14 +3,14 @@ ghost use Rattle.std.specs.Prelude.{◌≡◌};
 ghost use Rattle.disco_press.specs.Logs.{all_noted, notes_in, publications, logged};
 
 use crate::entry::LogEntry;
+use crate::monotone_list::PrefixWitness;
 use crate::published_log::{LogPrefix, Naming};
-use crate::scroll::Leaf;
 use std::marker::{Model, PhantomData};
 
 /// What the desk of this name has noted up to some moment, published or not.
 #[derive(Drop)]
 pub struct Heard<J: Naming> {
-    leaf: Leaf<LogEntry>,
+    witness: PrefixWitness<LogEntry>,
     of: PhantomData<J>,
 }
 
@@ -21,34 +21,41 @@ impl<J: Naming> Model for Heard<J> {
 
     ghost Value = { List Note };
 
-    ghost view = { λ h. all_noted (logged h.leaf.items) };
+    ghost view = { λ h. all_noted (logged h.witness.items) };
 
-    ghost invariant = { λ h. h.leaf.name ≡ J.list };
+    ghost invariant = { λ h. h.witness.name ≡ J.list };
 }
 
 impl<J: Naming> Heard<J> {
-    pub(crate) fn of_leaf(leaf: Leaf<LogEntry>) -> Heard<J>
-        requires { leaf.name ≡ J.list }
-        ensures { result ≡ all_noted (logged leaf.items) }
+    pub(crate) fn of_witness(witness: PrefixWitness<LogEntry>) -> Heard<J>
+        requires { witness.name ≡ J.list }
+        ensures { result ≡ all_noted (logged witness.items) }
     {
         Heard {
-            leaf,
+            witness,
             of: PhantomData,
         }
     }
 
     /// What was noted up to a publish.
     pub fn of(prefix: LogPrefix) -> Heard<J>
-        requires { prefix.leaf.name ≡ J.list }
-        ensures { result ≡ notes_in (publications prefix.leaf.items) }
+        requires { prefix.witness.name ≡ J.list }
+        ensures { result ≡ notes_in (publications prefix.witness.items) }
     {
-        let LogPrefix { len: _, leaf } = prefix;
-        Heard::of_leaf(leaf)
+        let LogPrefix { len: _, witness } = prefix;
+        Heard::of_witness(witness)
     }
 
-    pub(crate) fn leaf(&self) -> &Leaf<LogEntry>
+    /// The same once more.
+    pub fn again(&self) -> Heard<J>
+        ensures { result ≡ self.now }
+    {
+        Heard::of_witness(self.witness.again())
+    }
+
+    pub(crate) fn witness(&self) -> &PrefixWitness<LogEntry>
         ensures { (result.now.name ≡ J.list) × (all_noted (logged result.now.items) ≡ self.now) }
     {
-        &self.leaf
+        &self.witness
     }
 }

@@ -8,8 +8,8 @@ ghost use Rattle.disco_press.specs.Logs.{all_noted};
 
 use crate::entry::LogEntry;
 use crate::heard::Heard;
+use crate::monotone_list::MonotoneList;
 use crate::published_log::{LogPrefix, Naming, PublishedLog};
-use crate::scroll::Scroll;
 use disco_history::Change;
 use disco_hub::Copied;
 use std::marker::{Model, PhantomData};
@@ -17,7 +17,7 @@ use std::marker::{Model, PhantomData};
 /// What was published, publication by publication, and what was noted since. No call takes memory.
 #[derive(Drop)]
 pub struct PublicationLog<J: Naming> {
-    entries: Scroll<LogEntry>,
+    entries: MonotoneList<LogEntry>,
     len: u64,
     /// The list as it was at the last publish.
     shown: LogPrefix,
@@ -32,19 +32,19 @@ impl<J: Naming> Model for PublicationLog<J> {
 
     ghost view = { λ r. logged r.entries.items };
 
-    ghost invariant = { λ r. (r.entries.name ≡ J.list) × (r.len < 2 ^ 64 - 1 → r.len ≡ length r.entries.items) × (r.shown.leaf.name ≡ J.list)
-        × (publications r.shown.leaf.items ≡ publications r.entries.items) };
+    ghost invariant = { λ r. (r.entries.name ≡ J.list) × (r.len < 2 ^ 64 - 1 → r.len ≡ length r.entries.items) × (r.shown.witness.name ≡ J.list)
+        × (publications r.shown.witness.items ≡ publications r.entries.items) };
 }
 
 impl<J: Naming> PublicationLog<J> {
     /// Nothing noted yet.
-    pub fn new(mut entries: Scroll<LogEntry>) -> PublicationLog<J>
+    pub fn new(mut entries: MonotoneList<LogEntry>) -> PublicationLog<J>
         requires { (entries.items ≡ []) × (entries.name ≡ J.list) }
         ensures { (result.published ≡ []) × (result.pending ≡ []) }
     {
         let shown = LogPrefix {
             len: 0,
-            leaf: entries.leaf(),
+            witness: entries.witness(),
         };
         PublicationLog {
             entries,
@@ -108,7 +108,7 @@ impl<J: Naming> PublicationLog<J> {
         self.len = self.len.saturating_add(1);
         self.shown = LogPrefix {
             len: self.len,
-            leaf: self.entries.leaf(),
+            witness: self.entries.witness(),
         };
     }
 
@@ -123,7 +123,7 @@ impl<J: Naming> PublicationLog<J> {
     pub fn heard(&mut self) -> Heard<J>
         ensures { (self.new ≡ self.old) × (result ≡ all_noted self.old) }
     {
-        Heard::of_leaf(self.entries.leaf())
+        Heard::of_witness(self.entries.witness())
     }
 
     /// What a reader heard was noted here, and is a beginning of what was noted.
@@ -131,7 +131,7 @@ impl<J: Naming> PublicationLog<J> {
     pub fn meet_all(&mut self, heard: &Heard<J>)
         ensures { (self.new ≡ self.old) × IsPrefix heard.now (all_noted self.old) }
     {
-        self.entries.holds(heard.leaf());
+        self.entries.holds(heard.witness());
     }
 
     /// What a reader knows was published here, and is a beginning of what was published.
@@ -139,6 +139,6 @@ impl<J: Naming> PublicationLog<J> {
     pub fn meet(&mut self, published: &PublishedLog<J>)
         ensures { (self.new ≡ self.old) × IsPrefix published.now self.old.published }
     {
-        self.entries.holds(&published.prefix().leaf);
+        self.entries.holds(&published.prefix().witness);
     }
 }

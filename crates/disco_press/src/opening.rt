@@ -2,7 +2,7 @@
 ghost use Rattle.std.specs.Prelude.{◌≡◌, []};
 
 use crate::entry::LogEntry;
-use crate::scroll::Scroll;
+use crate::monotone_list::MonotoneList;
 use std::sync::ledger::Blank;
 
 /// As many seats as a desk may have, and one part that is left.
@@ -11,7 +11,7 @@ const PARTS: u64 = 65;
 /// What a desk and its seats are named by, before a type stands for it.
 #[derive(Drop)]
 pub struct Opening {
-    pub marks: Scroll<LogEntry>,
+    pub marks: MonotoneList<LogEntry>,
     pub blank: Blank,
     pub ghost empty: { marks.items ≡ [] },
     pub ghost parts: { blank.parts ≡ 65 },
@@ -21,7 +21,7 @@ impl Opening {
     /// A name that nothing has yet.
     pub fn new() -> Opening {
         Opening {
-            marks: Scroll::open(),
+            marks: MonotoneList::open(),
             blank: Blank::new(PARTS),
         }
     }

@@ -5,7 +5,7 @@ ghost use mathlib.Core.List.{IsPrefix};
 ghost use Rattle.disco_press.specs.Logs.{logged};
 
 use crate::entry::LogEntry;
-use crate::scroll::Leaf;
+use crate::monotone_list::PrefixWitness;
 use std::marker::{Brand, Model, PhantomData};
 use std::sync::ledger::Ledger;
 
@@ -25,34 +25,34 @@ impl Naming for Brand {
 #[derive(Drop)]
 pub struct LogPrefix {
     pub len: u64,
-    pub leaf: Leaf<LogEntry>,
-    pub ghost counted: { len < 2 ^ 64 - 1 → len ≡ length leaf.items },
-    pub ghost ended: { (logged leaf.items).pending ≡ [] },
+    pub witness: PrefixWitness<LogEntry>,
+    pub ghost counted: { len < 2 ^ 64 - 1 → len ≡ length witness.items },
+    pub ghost ended: { (logged witness.items).pending ≡ [] },
 }
 
 impl LogPrefix {
     /// The same once more. Takes no memory.
     pub fn again(&self) -> LogPrefix
-        ensures { result.leaf ≡ self.now.leaf }
+        ensures { result.witness ≡ self.now.witness }
     {
         LogPrefix {
             len: self.len,
-            leaf: self.leaf.again(),
+            witness: self.witness.again(),
         }
     }
 
     /// Whether the other one goes on from this one: it does where it isn't shorter. Of one with
     /// 2^64 - 1 entries it isn't known.
     pub fn is_before(&self, other: &LogPrefix) -> bool
-        requires { other.now.leaf.name ≡ self.now.leaf.name }
-        ensures begins { result ≡ true → IsPrefix self.now.leaf.items other.now.leaf.items }
+        requires { other.now.witness.name ≡ self.now.witness.name }
+        ensures begins { result ≡ true → IsPrefix self.now.witness.items other.now.witness.items }
         ensures known { result ≡ false → (other.now.len < self.now.len) ⊎ (other.now.len ≡ 2 ^ 64 - 1) }
     {
         if self.len > other.len || other.len == u64::MAX {
             return false;
         }
-        // For the proof alone: the shorter of two leaves begins the longer one.
-        self.leaf.begins(&other.leaf);
+        // For the proof alone: the shorter of two witnesses begins the longer one.
+        self.witness.begins(&other.witness);
         true
     }
 }
@@ -71,17 +71,17 @@ impl<J: Naming> Model for PublishedLog<J> {
 
     ghost Value = { List (List Note) };
 
-    ghost view = { λ f. publications f.prefix.leaf.items };
+    ghost view = { λ f. publications f.prefix.witness.items };
 
-    ghost invariant = { λ f. f.prefix.leaf.name ≡ J.list };
+    ghost invariant = { λ f. f.prefix.witness.name ≡ J.list };
 }
 
 impl<J: Naming> PublishedLog<J> {
     ghost use Rattle.disco_press.specs.Logs.{publications};
 
     pub fn of(prefix: LogPrefix) -> PublishedLog<J>
-        requires { prefix.leaf.name ≡ J.list }
-        ensures { result ≡ publications prefix.leaf.items }
+        requires { prefix.witness.name ≡ J.list }
+        ensures { result ≡ publications prefix.witness.items }
     {
         PublishedLog {
             prefix,
@@ -97,14 +97,21 @@ impl<J: Naming> PublishedLog<J> {
         self.prefix.is_before(&other.prefix)
     }
 
+    /// The same once more. Takes no memory.
+    pub fn again(&self) -> PublishedLog<J>
+        ensures { result ≡ self.now }
+    {
+        PublishedLog::of(self.prefix.again())
+    }
+
     pub fn prefix(&self) -> &LogPrefix
-        ensures { (result.now.leaf.name ≡ J.list) × (publications result.now.leaf.items ≡ self.now) }
+        ensures { (result.now.witness.name ≡ J.list) × (publications result.now.witness.items ≡ self.now) }
     {
         &self.prefix
     }
 
     pub fn into_prefix(self) -> LogPrefix
-        ensures { (result.leaf.name ≡ J.list) × (publications result.leaf.items ≡ self) }
+        ensures { (result.witness.name ≡ J.list) × (publications result.witness.items ≡ self) }
     {
         let PublishedLog { prefix, of: _ } = self;
         prefix

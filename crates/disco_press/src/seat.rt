@@ -8,6 +8,7 @@ ghost use Rattle.disco_press.specs.Seats.{IsNew};
 use crate::heard::Heard;
 use crate::look::Looked;
 use crate::published_log::{Naming, PublishedLog};
+use crate::seen::Seen;
 use crate::snapshot_reader::SnapshotReader;
 use disco_values::DocKey;
 use std::marker::Model;
@@ -103,10 +104,21 @@ impl<J: Naming> Seat<J> {
         &self.heard
     }
 
-    /// From now on this seat knows these publications, and that this was noted.
-    pub(crate) fn tell(&mut self, known: PublishedLog<J>, heard: Heard<J>)
-        ensures { self.new ≡ record self.old { known = known; heard = heard } }
+    /// What this seat has seen and been told of. Takes no memory.
+    pub fn seen(&self) -> Seen<J>
+        ensures { (result.known ≡ self.now.known) × (result.heard ≡ self.now.heard) }
     {
+        Seen {
+            known: self.known().again(),
+            heard: self.heard.again(),
+        }
+    }
+
+    /// From now on this seat knows what was seen, whatever it knew. Takes no memory.
+    pub fn tell(&mut self, seen: Seen<J>)
+        ensures { self.new ≡ record self.old { known = seen.known; heard = seen.heard } }
+    {
+        let Seen { known, heard } = seen;
         self.reader.tell(known);
         self.heard = heard;
     }

@@ -30,7 +30,7 @@ impl<J: Naming> Model for SnapshotWriter<J> {
 
     ghost Value = { List (List Note) };
 
-    ghost view = { λ p. publications p.writer.desk.shown.value.prefix.leaf.items };
+    ghost view = { λ p. publications p.writer.desk.shown.value.prefix.witness.items };
 }
 
 impl<J: Naming> SnapshotWriter<J> {
@@ -44,7 +44,7 @@ impl<J: Naming> SnapshotWriter<J> {
         prefix: LogPrefix,
         readers: usize,
     ) -> Result<SnapshotWriter<J>, AllocError>
-        requires empty { (publications prefix.leaf.items ≡ []) × (prefix.leaf.name ≡ J.list) }
+        requires empty { (publications prefix.witness.items ≡ []) × (prefix.witness.name ≡ J.list) }
         requires readers { (0 < readers) × (readers < 2 ^ 32) }
         ensures { IfOk result (λ p. p ≡ []) }
     {
@@ -76,7 +76,7 @@ impl<J: Naming> SnapshotWriter<J> {
     /// inside its look.
     pub fn show<R: Wait>(&mut self, rt: &R, shown: Snapshot)
         requires { IsShown J.list shown }
-        ensures { self.new ≡ publications shown.prefix.leaf.items }
+        ensures { self.new ≡ publications shown.prefix.witness.items }
     {
         replace_with(
             &mut self.writer.desk,

@@ -12,7 +12,7 @@ show-requires g c =
     let i = c.self.inside in
     let ends = c.in_ok-documents.ensures.finished.finished in
     let prefix = c.into_prefix-prefix in
-    let qs = publications prefix.result.leaf.items in
+    let qs = publications prefix.result.witness.items in
     let is = prefix.ensures.1 ∙ c.published.ensures ∙ ap (λ (r : Logged). r.published) c.publish.ensures in
     (prefix.ensures.0, subst (λ (m : Edition). IsEditionOf qs m) (sym c.replace-docs.ensures.value) (edition_ended i.snapshots i.log i.hub c.finish.new.self i.next i.next _ c.self.invariant c.in_ok-documents.documents ends qs is))
 

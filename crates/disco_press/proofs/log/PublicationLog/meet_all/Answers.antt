@@ -1,6 +1,6 @@
 use Rattle.std.proofs.Common.{List, ◌∙◌, ap, subst}
 use mathlib.Core.List.{IsPrefix}
-use Rattle.disco_press.specs.declared.scroll.Scroll.{Scroll}
+use Rattle.disco_press.specs.declared.monotone_list.MonotoneList.{MonotoneList}
 use Rattle.disco_hub.specs.Press.{Note}
 use Rattle.disco_press.specs.Logs.{Logged, all_noted, logged}
 use Rattle.disco_press.specs.declared.entry.LogEntry.{LogEntry}
@@ -11,4 +11,4 @@ pub returns : goal.returns
 returns g c =
     let P : List Note × Logged → Type 0 = λ t. IsPrefix t.0 (all_noted t.1) in
     let same = c.holds.ensures.0 in
-    (ap (λ (s : Scroll LogEntry). logged s.items) same ∙ c.self.view_is, subst P (λ i. (c.leaf.ensures.1 i, c.self.view_is i)) (notes_begin_too c.leaf.result.now.items c.self.inside.entries.items c.holds.ensures.1))
+    (ap (λ (s : MonotoneList LogEntry). logged s.items) same ∙ c.self.view_is, subst P (λ i. (c.witness.ensures.1 i, c.self.view_is i)) (notes_begin_too c.witness.result.now.items c.self.inside.entries.items c.holds.ensures.1))

@@ -7,4 +7,4 @@ use Rattle.disco_press.proofs.published_log.PublishedLog.is_before.Goals as goal
 pub returns : goal.returns
 returns g c e =
     let P : List (List Note) × List (List Note) → Type 0 = λ t. IsPrefix t.0 t.1 in
-    subst P (λ i. (c.self.view_is i, c.other.view_is i)) (begins_too c.self.inside.prefix.leaf.items c.other.inside.prefix.leaf.items (c.is_before.ensures.begins e))
+    subst P (λ i. (c.self.view_is i, c.other.view_is i)) (begins_too c.self.inside.prefix.witness.items c.other.inside.prefix.witness.items (c.is_before.ensures.begins e))

@@ -1,4 +1,4 @@
--- leaf
+-- witness
 use Rattle.std.proofs.Common.{List, [], ◌∷◌, refl}
 use mir.Syntax.{a_type, named}
 use mir.Val.{Val, vptr}
@@ -19,29 +19,29 @@ use denote.Param.{param, layouts}
 use denote.Triple.Walked.{Stays, stay_ref, walk_of, Goes-ref}
 use Rattle.atomic_table.proofs.Walks.{proved}
 use Rattle.logbook.proofs.Fields.{token, Token, token_made, ends}
-use Rattle.disco_press.specs.Rolls.{scroll_owns, leaf_owns}
-use Rattle.disco_press.specs.contracts.scroll.Scroll as Scroll
+use Rattle.disco_press.specs.MonotoneLists.{list_owns, witness_owns}
+use Rattle.disco_press.specs.contracts.monotone_list.MonotoneList as MonotoneList
 use Rattle.disco_press.proofs.Steps as steps
-use Rattle.disco_press.specs.contracts.scroll.Scroll.leaf.{ended, clauses}
-use Rattle.disco_press.specs.contracts.scroll.Scroll.leaf.Key.{name as #self}
-use Rattle.disco_press.proofs.scroll.Scroll.leaf.Statement.{statement}
-use Rattle.disco_press.proofs.scroll.Scroll.leaf.Code as code
+use Rattle.disco_press.specs.contracts.monotone_list.MonotoneList.witness.{ended, clauses}
+use Rattle.disco_press.specs.contracts.monotone_list.MonotoneList.witness.Key.{name as #self}
+use Rattle.disco_press.proofs.monotone_list.MonotoneList.witness.Statement.{statement}
+use Rattle.disco_press.proofs.monotone_list.MonotoneList.witness.Code as code
 
-pub leaf_spec : {M : Type 1} → statement M
-leaf_spec 𝓤 𝓛 𝓜 𝓡 wired E _ =
+pub witness_spec : {M : Type 1} → statement M
+witness_spec 𝓤 𝓛 𝓜 𝓡 wired E _ =
     let H = 𝓛.H in let 𝓣 = tables 𝓤 H 𝓜 𝓡 𝓡.env in let E' : RattleType = param 0 E in let En = ended E in
     let inst = layouts (a_type ∷ []) (E, tt) in let fn = inst_fn inst code.function in let c = clauses E 𝓛 𝓜.mem 𝓡.returns in
     let cv = E'.coded in
-    let hs : Stays En.signature.params En.kept = (stay_ref (0 ∷ []) tt (plain (λ _. Scroll.the_row E')), tt) in
-    proved 𝓛 En hs c 𝓜 𝓡 (Goes-ref 𝓛 2 0 tt (plain (λ _. Scroll.the_row E')), tt) (#self inst) fn (code.unfolded 𝓤 H 𝓜 𝓡 wired (E, tt))
-    (λ κs. (mut_vals, tt)) (λ κs. (mut_Tells (named 0) κs.0 (Scroll.the_row E'), tt)) (λ κs qs bounds a gh are.
+    let hs : Stays En.signature.params En.kept = (stay_ref (0 ∷ []) tt (plain (λ _. MonotoneList.the_row E')), tt) in
+    proved 𝓛 En hs c 𝓜 𝓡 (Goes-ref 𝓛 2 0 tt (plain (λ _. MonotoneList.the_row E')), tt) (#self inst) fn (code.unfolded 𝓤 H 𝓜 𝓡 wired (E, tt))
+    (λ κs. (mut_vals, tt)) (λ κs. (mut_Tells (named 0) κs.0 (MonotoneList.the_row E'), tt)) (λ κs qs bounds a gh are.
     let me = a.0.now in
     let y : (walk_of 𝓛 En hs c).Ghost = ((κs, qs, bounds, a, (vptr a.0.ref_ptr.0 a.0.ref_ptr.1 ∷ [], tt)), gh) in let Post : Val → SProp 𝓤 = (walk_of 𝓛 En hs c).post y in let toks : Fml = fsep (flft κs.0 qs.0) (fsep (flft κs.1.0 qs.1.0) ftrue) in
     qed 𝓛 ((‵ toks ⊛ ‵ (owns (types_at En.signature.params κs) a y.0.4)) ∷ raw ((c κs a).requires gh) ∷ []) ∵ keep ! (0 ∷ []) $ split ! $
     fsplit ! $ move ! (2 ∷ []) $ fsplit ! $ fsplit3 ! $ keep ! (1 ∷ 2 ∷ 4 ∷ 5 ∷ []) $
     enter ! 𝓣.C 𝓣.Λ fn (vptr a.0.ref_ptr.0 a.0.ref_ptr.1 ∷ []) Post $ alloc_all ! (λ l. pass_all ! refl ((tt, tt), tt) $ let Ev = env fn.locals l in
-    opens ! tt (Scroll.the_row E') a.0.ref_ptr.0 a.0.ref_ptr.1 (λ vs0. move ! (1 ∷ []) $ fsplit ! $
-    move ! (1 ∷ []) $ use1 𝓛 (‵ (scroll_owns cv.code me.name me.items) ⊛ ‵ (leaf_owns cv.code me.name me.items)) (steps.shows 𝓛 cv me.name me.items) $ split ! $ move ! (2 ∷ 0 ∷ []) $ fjoin ! $ move ! (2 ∷ 0 ∷ 3 ∷ 4 ∷ 5 ∷ []) $ closes ! tt (Scroll.the_row E') me vs0 a.0.ref_ptr.0 a.0.ref_ptr.1 $
+    opens ! tt (MonotoneList.the_row E') a.0.ref_ptr.0 a.0.ref_ptr.1 (λ vs0. move ! (1 ∷ []) $ fsplit ! $
+    move ! (1 ∷ []) $ use1 𝓛 (‵ (list_owns cv.code me.name me.items) ⊛ ‵ (witness_owns cv.code me.name me.items)) (steps.shows 𝓛 cv me.name me.items) $ split ! $ move ! (2 ∷ 0 ∷ []) $ fjoin ! $ move ! (2 ∷ 0 ∷ 3 ∷ 4 ∷ 5 ∷ []) $ closes ! tt (MonotoneList.the_row E') me vs0 a.0.ref_ptr.0 a.0.ref_ptr.1 $
     use0 𝓛 (‵ ((Token E').own_val (record {}, tt) (token ∷ []))) (token_made E' 𝓛) $ move ! (0 ∷ 4 ∷ []) $ fjoin ! $ sets ! (agg ! (no_more !)) refl (tt, tt) $ sets ! (agg ! (and_then ! (get ! refl) (no_more !))) refl (tt, (tt, tt)) $
     move ! (3 ∷ 4 ∷ []) $ fjoin ! $ nothing ! $ feq_i ! (List Val) (vptr a.0.ref_ptr.0 a.0.ref_ptr.1 ∷ []) (vptr a.0.ref_ptr.0 a.0.ref_ptr.1 ∷ []) refl $ move ! (0 ∷ 4 ∷ 5 ∷ []) $ fjoin3 ! $ fjoin ! $
     returns ! (look_at ! 0 refl) $ free_all ! refl $ keep ! (1 ∷ 0 ∷ 2 ∷ []) $ by ! (ends 𝓛 En hs c y (token) (record { marker = record {}; name = me.name; items = me.items }) (me, tt) (tt, tt) (fact_i 𝓤 _ (emp 𝓤) ((refl, refl, refl)))))))

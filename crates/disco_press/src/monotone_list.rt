@@ -5,40 +5,40 @@ ghost use mathlib.Core.List.{IsPrefix};
 ghost use base.Stored.{coded_list};
 ghost use denote.Sharing.{said};
 ghost use Rattle.std.specs.Prelude.{List};
-ghost use Rattle.disco_press.specs.Rolls.{scroll_owns, leaf_owns};
+ghost use Rattle.disco_press.specs.MonotoneLists.{list_owns, witness_owns};
 
 use std::marker::{Model, PhantomData};
 
-/// The whole list. There is one scroll of each name.
-pub struct Scroll<E> {
+/// The whole list. There is one of each name.
+pub struct MonotoneList<E> {
     marker: PhantomData<E>,
     pub ghost name: { ℕ },
     pub ghost items: { List E } by { coded_list E.code },
 }
 
-impl<E> Model for Scroll<E> {
-    ghost also_owns = { λ s. scroll_owns E.row.coded.code s.name s.items };
+impl<E> Model for MonotoneList<E> {
+    ghost also_owns = { λ s. list_owns E.row.coded.code s.name s.items };
 }
 
-/// A beginning of the list.
-pub struct Leaf<E> {
+/// A witness that the list began so.
+pub struct PrefixWitness<E> {
     marker: PhantomData<E>,
     pub ghost name: { ℕ },
     pub ghost items: { List E } by { coded_list E.code },
 }
 
-impl<E> Model for Leaf<E> {
-    ghost also_owns = { λ s. leaf_owns E.row.coded.code s.name s.items };
+impl<E> Model for PrefixWitness<E> {
+    ghost also_owns = { λ s. witness_owns E.row.coded.code s.name s.items };
 
-    ghost also_shares = { λ s _ κ. said (leaf_owns E.row.coded.code s.name s.items) κ };
+    ghost also_shares = { λ s _ κ. said (witness_owns E.row.coded.code s.name s.items) κ };
 }
 
-impl<E> Scroll<E> {
+impl<E> MonotoneList<E> {
     /// An empty list.
-    pub fn open() -> Scroll<E>
+    pub fn open() -> MonotoneList<E>
         ensures { result.items ≡ [] }
     {
-        Scroll {
+        MonotoneList {
             marker: PhantomData,
         }
     }
@@ -52,38 +52,38 @@ impl<E> Scroll<E> {
     }
 
     /// The list as it is.
-    pub fn leaf(&mut self) -> Leaf<E>
+    pub fn witness(&mut self) -> PrefixWitness<E>
         ensures { (self.new ≡ self.old) × (result.name ≡ self.old.name) × (result.items ≡ self.old.items) }
     {
-        Leaf {
+        PrefixWitness {
             marker: PhantomData,
         }
     }
 
-    /// The leaf is a beginning of the list.
-    pub fn holds(&mut self, leaf: &Leaf<E>)
-        requires { leaf.now.name ≡ self.old.name }
-        ensures { (self.new ≡ self.old) × IsPrefix leaf.now.items self.old.items }
+    /// The witness is a beginning of the list.
+    pub fn holds(&mut self, witness: &PrefixWitness<E>)
+        requires { witness.now.name ≡ self.old.name }
+        ensures { (self.new ≡ self.old) × IsPrefix witness.now.items self.old.items }
     {
         // For the proof alone: only the clauses name it.
-        let _ = leaf;
+        let _ = witness;
     }
 }
 
-impl<E> Leaf<E> {
+impl<E> PrefixWitness<E> {
     /// A copy.
-    pub fn again(&self) -> Leaf<E>
+    pub fn again(&self) -> PrefixWitness<E>
         ensures { result ≡ self.now }
     {
-        Leaf {
+        PrefixWitness {
             marker: PhantomData,
         }
     }
 }
 
-impl<E> Leaf<E> {
-    /// The shorter of two leaves begins the longer one.
-    pub fn begins(&self, other: &Leaf<E>)
+impl<E> PrefixWitness<E> {
+    /// The shorter of two witnesses begins the longer one.
+    pub fn begins(&self, other: &PrefixWitness<E>)
         requires { (other.now.name ≡ self.now.name) × (length self.now.items ≤ length other.now.items) }
         ensures { IsPrefix self.now.items other.now.items }
     {
@@ -92,20 +92,20 @@ impl<E> Leaf<E> {
     }
 }
 
-impl<E> Drop for Scroll<E> {
+impl<E> Drop for MonotoneList<E> {
     fn drop(self) {
         let Self { marker: _ } = self;
     }
 }
 
-impl<E> Drop for Leaf<E> {
+impl<E> Drop for PrefixWitness<E> {
     fn drop(self) {
         let Self { marker: _ } = self;
     }
 }
 
-unsafe impl<E> Send for Scroll<E> {}
+unsafe impl<E> Send for MonotoneList<E> {}
 
-unsafe impl<E> Send for Leaf<E> {}
+unsafe impl<E> Send for PrefixWitness<E> {}
 
-unsafe impl<E> Sync for Leaf<E> {}
+unsafe impl<E> Sync for PrefixWitness<E> {}

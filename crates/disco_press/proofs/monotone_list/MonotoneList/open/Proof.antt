@@ -18,12 +18,12 @@ use denote.Param.{param, layouts}
 use denote.Triple.Walked.{Stays, walk_of}
 use Rattle.atomic_table.proofs.Walks.{proved}
 use Rattle.logbook.proofs.Fields.{token, Token, token_made, ends}
-use Rattle.disco_press.specs.Rolls.{scroll_owns}
+use Rattle.disco_press.specs.MonotoneLists.{list_owns}
 use Rattle.disco_press.proofs.Steps as steps
-use Rattle.disco_press.specs.contracts.scroll.Scroll.«open».{ended, clauses}
-use Rattle.disco_press.specs.contracts.scroll.Scroll.«open».Key.{name as #self}
-use Rattle.disco_press.proofs.scroll.Scroll.«open».Statement.{statement}
-use Rattle.disco_press.proofs.scroll.Scroll.«open».Code as code
+use Rattle.disco_press.specs.contracts.monotone_list.MonotoneList.«open».{ended, clauses}
+use Rattle.disco_press.specs.contracts.monotone_list.MonotoneList.«open».Key.{name as #self}
+use Rattle.disco_press.proofs.monotone_list.MonotoneList.«open».Statement.{statement}
+use Rattle.disco_press.proofs.monotone_list.MonotoneList.«open».Code as code
 
 pub open_spec : {M : Type 1} → statement M
 open_spec 𝓤 𝓛 𝓜 𝓡 wired E _ =
@@ -36,7 +36,7 @@ open_spec 𝓤 𝓛 𝓜 𝓡 wired E _ =
     let y : (walk_of 𝓛 En hs c).Ghost = ((κs, qs, bounds, a, tt), gh) in let Post : Val → SProp 𝓤 = (walk_of 𝓛 En hs c).post y in let toks : Fml = fsep (flft κs.0 qs.0) ftrue in
     qed 𝓛 ((‵ toks ⊛ ‵ (owns (types_at En.signature.params κs) a y.0.4)) ∷ raw ((c κs a).requires gh) ∷ []) ∵ keep ! (0 ∷ []) $ split ! $ keep ! (0 ∷ []) $
     enter ! 𝓣.C 𝓣.Λ fn [] Post $ alloc_all ! (λ l. pass_all ! refl tt $ let Ev = env fn.locals l in
-    use0 𝓛 (later (some (λ (η : ℕ). ‵ (scroll_owns cv.code η [])))) (steps.begins 𝓛 cv) $ await ! tt $ pick ! (λ η.
+    use0 𝓛 (later (some (λ (η : ℕ). ‵ (list_owns cv.code η [])))) (steps.begins 𝓛 cv) $ await ! tt $ pick ! (λ η.
     use0 𝓛 (‵ ((Token E').own_val (record {}, tt) (token ∷ []))) (token_made E' 𝓛) $ fjoin ! $ sets ! (agg ! (no_more !)) refl (tt, tt) $ sets ! (agg ! (and_then ! (get ! refl) (no_more !))) refl (tt, (tt, tt)) $
     nothing ! $
     returns ! (look_at ! 0 refl) $ free_all ! refl $ keep ! (2 ∷ 0 ∷ 1 ∷ []) $ by ! (ends 𝓛 En hs c y (token) (record { marker = record {}; name = η; items = [] }) tt tt (fact_i 𝓤 _ (emp 𝓤) (refl))))))

@@ -24,27 +24,27 @@ use denote.Struct.Lending.{lent_out}
 use denote.Triple.Walked.{Stays, stay_dropped, walk_of, Goes-dropped}
 use Rattle.atomic_table.proofs.Walks.{proved}
 use Rattle.logbook.proofs.Fields.{token, Token, token_made, ends}
-use Rattle.disco_press.specs.Rolls.{leaf_owns}
-use Rattle.disco_press.specs.contracts.scroll.Leaf as Leaf
+use Rattle.disco_press.specs.MonotoneLists.{witness_owns}
+use Rattle.disco_press.specs.contracts.monotone_list.PrefixWitness as PrefixWitness
 use Rattle.std.specs.contracts.marker.PhantomData as marker
-use Rattle.disco_press.specs.contracts.scroll.Leaf.again.{ended, clauses}
-use Rattle.disco_press.specs.contracts.scroll.Leaf.again.Key.{name as #self}
-use Rattle.disco_press.proofs.scroll.Leaf.again.Statement.{statement}
-use Rattle.disco_press.proofs.scroll.Leaf.again.Code as code
+use Rattle.disco_press.specs.contracts.monotone_list.PrefixWitness.again.{ended, clauses}
+use Rattle.disco_press.specs.contracts.monotone_list.PrefixWitness.again.Key.{name as #self}
+use Rattle.disco_press.proofs.monotone_list.PrefixWitness.again.Statement.{statement}
+use Rattle.disco_press.proofs.monotone_list.PrefixWitness.again.Code as code
 
 pub again_spec : {M : Type 1} → statement M
 again_spec 𝓤 𝓛 𝓜 𝓡 wired E _ =
     let H = 𝓛.H in let 𝓣 = tables 𝓤 H 𝓜 𝓡 𝓡.env in let E' : RattleType = param 0 E in let En = ended E in
     let inst = layouts (a_type ∷ []) (E, tt) in let fn = inst_fn inst code.function in let c = clauses E 𝓛 𝓜.mem 𝓡.returns in
     let cv = E'.coded in
-    let hs : Stays En.signature.params En.kept = (stay_dropped (RefOf (0 ∷ []) tt (plain (λ _. Leaf.the_row E')) (λ _. tt)) yes, tt) in
-    proved 𝓛 En hs c 𝓜 𝓡 (Goes-dropped 𝓛 2 (RefOf (0 ∷ []) tt (plain (λ _. Leaf.the_row E')) (λ _. tt)) yes (λ κs x f. refl), tt) (#self inst) fn (code.unfolded 𝓤 H 𝓜 𝓡 wired (E, tt))
-    (λ κs. (shr_vals, tt)) (λ κs. (shr_Tells (named 0) κs.0 (Leaf.the_row E'), tt)) (λ κs qs bounds a gh are.
+    let hs : Stays En.signature.params En.kept = (stay_dropped (RefOf (0 ∷ []) tt (plain (λ _. PrefixWitness.the_row E')) (λ _. tt)) yes, tt) in
+    proved 𝓛 En hs c 𝓜 𝓡 (Goes-dropped 𝓛 2 (RefOf (0 ∷ []) tt (plain (λ _. PrefixWitness.the_row E')) (λ _. tt)) yes (λ κs x f. refl), tt) (#self inst) fn (code.unfolded 𝓤 H 𝓜 𝓡 wired (E, tt))
+    (λ κs. (shr_vals, tt)) (λ κs. (shr_Tells (named 0) κs.0 (PrefixWitness.the_row E'), tt)) (λ κs qs bounds a gh are.
     let me = a.0.now in
     let y : (walk_of 𝓛 En hs c).Ghost = ((κs, qs, bounds, a, (vptr a.0.ref_ptr.0 a.0.ref_ptr.1 ∷ [], tt)), gh) in let Post : Val → SProp 𝓤 = (walk_of 𝓛 En hs c).post y in let toks : Fml = fsep (flft κs.0 qs.0) (fsep (flft κs.1.0 qs.1.0) ftrue) in
     qed 𝓛 ((‵ toks ⊛ ‵ (owns (types_at En.signature.params κs) a y.0.4)) ∷ raw ((c κs a).requires gh) ∷ []) ∵ keep ! (0 ∷ []) $ split ! $
     fsplit ! $ move ! (2 ∷ []) $ fsplit ! $ fsplit ! $ keep ! (1 ∷ 3 ∷ 4 ∷ []) $
     enter ! 𝓣.C 𝓣.Λ fn (vptr a.0.ref_ptr.0 a.0.ref_ptr.1 ∷ []) Post $ alloc_all ! (λ l. pass_all ! refl ((tt, tt), tt) $ let Ev = env fn.locals l in
-    use1 𝓛 (‵ (hidden_shr (Token E') κs.0 (record {}, tt) a.0.ref_ptr.0 a.0.ref_ptr.1) ⊛ ‵ (fhide (leaf_owns cv.code me.name me.items))) (lent_out 𝓛 (Leaf.struct E') (Leaf.the_codes E.Denot E'.coded (marker.the_row E').coded) (Leaf.the_heap E') (Leaf.the_lent E') κs.0 me a.0.ref_ptr.0 a.0.ref_ptr.1) $ split ! $ drop ! $ unhide ! $ use0 𝓛 (‵ ((Token E').own_val (record {}, tt) (token ∷ []))) (token_made E' 𝓛) $ fjoin ! $ sets ! (agg ! (no_more !)) refl (tt, tt) $ sets ! (agg ! (and_then ! (get ! refl) (no_more !))) refl (tt, (tt, tt)) $
+    use1 𝓛 (‵ (hidden_shr (Token E') κs.0 (record {}, tt) a.0.ref_ptr.0 a.0.ref_ptr.1) ⊛ ‵ (fhide (witness_owns cv.code me.name me.items))) (lent_out 𝓛 (PrefixWitness.struct E') (PrefixWitness.the_codes E.Denot E'.coded (marker.the_row E').coded) (PrefixWitness.the_heap E') (PrefixWitness.the_lent E') κs.0 me a.0.ref_ptr.0 a.0.ref_ptr.1) $ split ! $ drop ! $ unhide ! $ use0 𝓛 (‵ ((Token E').own_val (record {}, tt) (token ∷ []))) (token_made E' 𝓛) $ fjoin ! $ sets ! (agg ! (no_more !)) refl (tt, tt) $ sets ! (agg ! (and_then ! (get ! refl) (no_more !))) refl (tt, (tt, tt)) $
     move ! (1 ∷ 2 ∷ []) $ fjoin ! $ nothing ! $ nothing ! $ fjoin ! $
     returns ! (look_at ! 0 refl) $ free_all ! refl $ keep ! (1 ∷ 0 ∷ 2 ∷ []) $ by ! (ends 𝓛 En hs c y (token) (me) (tt, tt) (tt, tt) (fact_i 𝓤 _ (emp 𝓤) (refl)))))

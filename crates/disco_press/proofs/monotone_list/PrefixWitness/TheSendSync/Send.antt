@@ -1,0 +1,7 @@
+use denote.RattleType.{RattleType}
+use denote.Param.Send.{IsSend}
+use Rattle.disco_press.specs.contracts.monotone_list.PrefixWitness.{the_row}
+use Rattle.disco_press.proofs.Steps.{witness_keyless}
+
+pub send : (E : RattleType) → IsSend (the_row E)
+send E = record { owned = λ d vs. ((λ vss. (tt, ((λ uss. (tt, tt)), tt))), witness_keyless E.coded.code d.name d.items); leaving = λ k f vs. tt }
