@@ -8,10 +8,10 @@ pub mod Heads
 pub mod Known
 pub mod Messages
 pub mod MoreBytes
+pub mod OneExchange
 pub mod ReadOn
 pub mod Refusals
 pub mod SessionSteps
 pub mod Slices
-pub mod StoppedBetween
 pub mod Taken
 pub mod Written

@@ -1,5 +1,5 @@
 -- The steps of a session.
-use Rattle.std.proofs.Common.{◌≡◌, ◌⊎◌, ℕ, ◌+◌, ◌-◌, ◌≤◌, ◌++◌, List, [], ◌∷◌, ap, ◌∙◌, sym, refl, subst, append_assoc, append-nil, arith, Bool, true, false, IsTrue, IsFalse, Option, None, is_some, drop, inl, inr, length, length-append, length-drop, take}
+use Rattle.std.proofs.Common.{◌≡◌, ◌⊎◌, ℕ, ◌+◌, ◌-◌, ◌≤◌, ◌++◌, List, [], ◌∷◌, ap, ◌∙◌, sym, refl, subst, append_assoc, append-nil, arith, Bool, true, false, IsTrue, IsFalse, Option, is_some, drop, inl, inr, length, length-append, length-drop, take}
 use Rattle.std.specs.List.{concat}
 use Rattle.std.proofs.lemmas.List.{drop-drop, take-append-drop, take_all}
 use Rattle.std.proofs.lemmas.List.Folds.{concat-append}
@@ -11,8 +11,11 @@ use Rattle.disco_message.specs.ReplyText.{ReplyView, reply_text}
 use Rattle.disco_http.specs.declared.session.End.{End}
 use Rattle.disco_http.specs.declared.incoming.Incoming.{Incoming}
 use Rattle.disco_http.specs.declared.steps.State.{State}
-use Rattle.disco_http.specs.Coming.{StandsFor}
-use Rattle.disco_http.specs.Sessions.{Fronts, Holds, IsGoing, text_of, unsent}
+use Rattle.disco_http.specs.declared.incoming.Phase.TheVariants as phase
+use Rattle.disco_http.specs.Coming.{PhaseAt}
+use Rattle.disco_http.specs.Served.{end_behind}
+use Rattle.disco_http.specs.Sessions.{Fronts, Holds, IsGoing, Leaves, text_of, unsent}
+use Rattle.disco_http.specs.Unread.{bytes_of}
 use Rattle.disco_http.proofs.MoreBytes.{body_more, head_more}
 
 pub takes_more : (limits : Limits) (given rest more : List ℕ) (a : message.RequestView) → TakesRequest limits given a rest → TakesRequest limits (given ++ more) a (rest ++ more)
@@ -80,9 +83,15 @@ going_put content state r end texts out g put =
     let zero : length text - g.0.left ≡ 0 = omega (arith, g.4) in
     ap (λ s. out ++ unsent content s) g.1 ∙ ap (λ n. out ++ drop n text) zero ∙ ap (λ (xs : List ℕ). out ++ xs) same ∙ one_text texts out (reply_text r (is_some end)) put
 
-pub going_holds : {D : Type 0} (content : D → List ℕ) (limits : Limits) (incoming : Incoming) (state : State D) (r : ReplyView) (end : Option End) (rest : List ℕ) → IsGoing content r end state → (end ≡ None → StandsFor limits incoming rest) → Holds content limits incoming state rest
-going_holds content limits incoming state r end rest g stands =
-    subst (λ s. Holds content limits incoming s rest) (sym g.1) ((λ none. stands (sym g.3 ∙ none)), omega (arith, g.4))
+pub going_holds : {D : Type 0} (content : D → List ℕ) (limits : Limits) (incoming : Incoming) (state : State D) (r : ReplyView) (end : Option End) (rest : List ℕ) → IsGoing content r end state → Leaves limits incoming rest end → Holds content limits incoming state rest
+going_holds content limits incoming state r end rest g left =
+    subst (λ s. Holds content limits incoming s rest) (sym g.1) (subst (Leaves limits incoming rest) (sym g.3) left, omega (arith, g.4))
+
+-- behind a request that was taken
+pub taken_leaves : (limits : Limits) (incoming : Incoming) (closes last : Bool) → incoming.phase ≡ phase.Head → Leaves limits incoming (bytes_of incoming.unread) (end_behind closes last)
+taken_leaves limits incoming closes true head = refl
+taken_leaves limits incoming true false head = refl
+taken_leaves limits incoming false false head = subst (λ at. PhaseAt limits (bytes_of incoming.unread) at (bytes_of incoming.unread)) (sym head) refl
 
 pub true_or_false : (b : Bool) → IsTrue b ⊎ IsFalse b
 true_or_false true = inl refl

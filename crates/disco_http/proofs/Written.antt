@@ -1,5 +1,5 @@
 -- What writes do to known bytes, one after another.
-use Rattle.std.proofs.Common.{◌≡◌, ◌≢◌, ℕ, ◌+◌, ◌-◌, ◌<◌, List, [], ◌∷◌, length, length-drop, arith, refl, subst, ◌++◌, take, drop, Option, Result, Ok, Err, append_assoc, sym, ◌∙◌, ap}
+use Rattle.std.proofs.Common.{◌≡◌, ◌≢◌, ◌⊎◌, ℕ, ◌+◌, ◌-◌, ◌<◌, List, [], ◌∷◌, length, length-drop, arith, refl, subst, ◌++◌, take, drop, Option, Result, Ok, Err, append_assoc, sym, ◌∙◌, ap, inl, inr}
 use Rattle.std.proofs.Math.Seq.{take-add}
 use Rattle.std.proofs.lemmas.List.{take_rest}
 use Rattle.std.proofs.KnownBytes.{Appends-trans}
@@ -35,3 +35,8 @@ then_written (Err e) a b c i j k xs ys h w = (front_then a b c xs ys h.0 w.0, su
 -- what is to follow a text that isn't whole isn't begun
 pub not_written : {A E : Type 0} (r : Result A E) (e : E) (a b : Option (List ℕ)) (i j : ℕ) (xs ys : List ℕ) → r ≡ Err e → AppendsProperFront a b xs × Raises i j → WritesBytes a b i j r (xs ++ ys)
 not_written r e a b i j xs ys is h = rw is (front_more a b xs ys h.0, h.1)
+
+-- what is left of a text is its body, if it is some
+pub some_rest : (rest body : List ℕ) → (rest ≡ []) ⊎ (rest ≡ body) → 0 < length rest → rest ≡ body
+some_rest rest body (inl none) some = absurd (omega (arith, some, ap length none))
+some_rest rest body (inr all) some = all

@@ -1,5 +1,5 @@
 -- What a session has done with the bytes that it was given, however they were cut.
-use Rattle.std.specs.Prelude.{◌≡◌, ◌⊎◌, ℕ, ◌-◌, ◌≤◌, Bool, List, [], ◌∷◌, ◌++◌, IsTrue, Option, drop, length, None, is_some, nat_le, true, ⊤}
+use Rattle.std.specs.Prelude.{◌≡◌, ◌⊎◌, ℕ, ◌-◌, ◌≤◌, Bool, List, [], ◌∷◌, ◌++◌, IsTrue, Option, drop, length, None, Some, is_some, nat_le, true, ⊤}
 use Rattle.std.specs.List.{concat}
 use Rattle.disco_values.specs.declared.fault.Fault.TheVariants.{OutOfMemory}
 use Rattle.disco_values.specs.declared.fault.Fault as fault
@@ -10,10 +10,12 @@ use Rattle.disco_http.specs.Coming.{StandsFor}
 use Rattle.disco_http.specs.Requests.{HasNone, Refused, TakesRequest}
 use Rattle.disco_http.specs.Served.{end_behind, refused}
 use Rattle.disco_http.specs.declared.incoming.Incoming.{Incoming}
+use Rattle.disco_http.specs.Unread.{bytes_of}
 use Rattle.disco_http.specs.declared.session.End.{End}
+use Rattle.disco_http.specs.declared.session.End.TheVariants.{Closed, Fault}
 use Rattle.disco_http.specs.declared.steps.Next.{Next}
 use Rattle.disco_http.specs.declared.steps.Next.TheVariants as next
-use Rattle.disco_http.specs.declared.steps.Outgoing.{Outgoing}
+use Rattle.disco_http.specs.declared.outgoing.Outgoing.{Outgoing}
 use Rattle.disco_http.specs.declared.steps.Session.{Session}
 use Rattle.disco_http.specs.declared.steps.State.{State}
 use Rattle.disco_http.specs.declared.steps.State.TheVariants.{Waits, Looks, Writes, Over}
@@ -43,12 +45,20 @@ next_of Looks = next.Answer
 next_of (Writes o) = next.Write
 next_of (Over end) = next.Over end
 
+-- what it holds of the bytes behind the requests that it answered where the connection ends by this, if it does: behind a last reply
+-- they are unread, and a connection is closed only where there are none
+abbrev pub Leaves : Limits → Incoming → List ℕ → Option End → Type 0
+Leaves limits incoming rest None = StandsFor limits incoming rest
+Leaves limits incoming rest (Some Closed) = rest ≡ []
+Leaves limits incoming rest (Some (Fault f)) = ⊤
+Leaves limits incoming rest (Some end) = rest ≡ bytes_of incoming.unread
+
 -- what it holds of the bytes behind the requests that it answered: where it waits for more, no whole request
 abbrev pub Holds : {D : Type 0} → (D → List ℕ) → Limits → Incoming → State D → List ℕ → Type 0
 Holds content limits incoming Waits rest = StandsFor limits incoming rest × HasNone limits rest
 Holds content limits incoming Looks rest = StandsFor limits incoming rest
-Holds content limits incoming (Writes o) rest = (o.end ≡ None → StandsFor limits incoming rest) × (o.left ≤ length (text_of content o))
-Holds content limits incoming (Over end) rest = ⊤
+Holds content limits incoming (Writes o) rest = Leaves limits incoming rest o.end × (o.left ≤ length (text_of content o))
+Holds content limits incoming (Over end) rest = Leaves limits incoming rest (Some end)
 
 -- it was given these bytes, has answered these requests of them by these texts, and this is what it put out
 pub record HasDone {D : Type 0} (content : D → List ℕ) (session : Session D) (given : List ℕ) (asks : List message.RequestView) (texts : List (List ℕ))

@@ -4,6 +4,7 @@
 
 mod body;
 mod incoming;
+mod outgoing;
 mod parts;
 mod reader;
 mod received;

@@ -1,16 +1,17 @@
 //! Replies that are written, without memory.
-ghost use Rattle.std.specs.Prelude.{◌≡◌, is_err, IfErr, IsFalse, OnOk, OnErr, length, option_map};
+ghost use Rattle.std.specs.Prelude.{◌≡◌, ◌≤◌, is_err, IfErr, IsFalse, OnOk, OnErr, length, option_map};
 ghost use Rattle.std.specs.Io.KnownBytes.{Appends};
+ghost use Rattle.std.specs.Vec.{vec_capacity};
 ghost use Rattle.disco_values.specs.declared.fault.Fault.TheVariants.{WriteFailed};
 ghost use Rattle.disco_message.specs.ReplyText.{reply_view, reply_text, reply_body};
 ghost use Rattle.disco_http.specs.Causes.{Raises};
-ghost use Rattle.disco_http.specs.Writes.{AppendsProperFront, WritesBytes};
+ghost use Rattle.disco_http.specs.Exchanges.{HasText};
+ghost use Rattle.disco_http.specs.Writes.{AppendsProperFront};
 ghost use Rattle.disco_http.specs.Sinks.{is_writer_spent, sink_of};
 
 use crate::source::Sink;
-use crate::whole::write_all;
 use crate::writer::{SMALL_BODY, Writer};
-use disco_message::{Document, Reply};
+use disco_message::{Document, Reply, push_bytes, push_head};
 use disco_values::Fault;
 
 /// The bytes of the document, but for a reply without content.
@@ -36,27 +37,30 @@ pub(crate) fn size_of<D: Document>(reply: &Reply<D>) -> Option<u64>
     }
 }
 
-/// Writes a reply in one write where its body is small, else in two, the body from the document
-/// itself.
-fn send_reply<W: Sink, D: Document>(
-    writer: &mut Writer<W>,
-    reply: &Reply<D>,
-    last: bool,
-) -> Result<(), Fault>
-    ensures written { WritesBytes (W.contents (sink_of writer.old)) (W.contents (sink_of writer.new)) (W.failed (sink_of writer.old))
-        (W.failed (sink_of writer.new)) result (reply_text (reply_view D.content reply.now) last) }
-    ensures fault { IfErr result (λ fault. fault ≡ WriteFailed) }
-    ensures spent { is_writer_spent writer.new ≡ is_writer_spent writer.old }
+/// Puts the head of a reply into the room, and its body behind it where that is small. Answers how
+/// long both are.
+pub(crate) fn put<D: Document>(text: &mut Vec<u8>, reply: &Reply<D>, last: bool) -> usize
+    requires { 4352 ≤ vec_capacity text.old }
+    ensures size { result ≡ length (reply_text (reply_view D.content reply.now) last) }
+    ensures text { HasText (reply_text (reply_view D.content reply.now) last) text.new.items
+        (reply_body reply.now.status (option_map D.content reply.now.document)) }
+    ensures capacity { vec_capacity text.old ≤ vec_capacity text.new }
 {
     let body = body_of(reply);
-    writer.put_head(reply.status, reply.allow, size_of(reply), reply.cert, last);
+    text.clear();
+    push_head(
+        text,
+        reply.status,
+        reply.allow,
+        size_of(reply),
+        reply.cert,
+        last,
+    );
+    let head = text.len();
     if body.len() <= SMALL_BODY {
-        writer.put_body(body);
-        writer.send()?;
-        return Ok(());
+        push_bytes(text, body);
     }
-    writer.send()?;
-    write_all(&mut writer.sink, body)
+    head + body.len()
 }
 
 /// Writes a reply; `last` says that the connection ends behind it. Takes no memory.
@@ -79,7 +83,8 @@ pub fn write_reply<W: Sink, D: Document>(
     ensures none_failed { OnOk result (W.failed (sink_of writer.new) ≡ W.failed (sink_of writer.old)) }
     ensures spent { is_writer_spent writer.new ≡ is_err result }
 {
-    let result = send_reply(writer, reply, last);
+    let size = put(&mut writer.room, reply, last);
+    let result = writer.send(size, body_of(reply));
     writer.spent = result.is_err();
     result
 }

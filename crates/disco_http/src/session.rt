@@ -1,19 +1,20 @@
 //! One connection, from its first request to its end.
-ghost use Rattle.std.specs.Prelude.{◌≡◌, ◌≢◌, IfSome, IsFalse, IsTrue};
+ghost use Rattle.std.specs.Prelude.{◌≡◌, ◌≢◌, ◌+◌, ◌≤◌, ◌<◌, IfErr, IfOk, IfSome, IsFalse, IsTrue, None, Some};
+ghost use Rattle.std.specs.Vec.{vec_capacity};
 ghost use Rattle.disco_values.specs.declared.fault.Fault.TheVariants.{ReadFailed, WriteFailed};
 ghost use Rattle.disco_http.specs.Causes.{Raises};
 ghost use Rattle.disco_http.specs.Streams.{ahead, is_spent, reader_limits, source_of};
-ghost use Rattle.disco_http.specs.Exchanges.{AnswersOne, RefusesRequest, Exchanged, EndsByFault};
+ghost use Rattle.disco_http.specs.Exchanges.{Comes, Exchanged, IsPut};
 ghost use Rattle.disco_http.specs.Served.{end_behind, left_by, AnswersAll};
 ghost use Rattle.disco_http.specs.Sinks.{sink_of};
 ghost use Rattle.disco_http.specs.Sinks as sinks;
 
+use crate::outgoing::{Outgoing, answer, refuse};
 use crate::reader::Reader;
-use crate::replies::write_reply;
+use crate::replies::body_of;
 use crate::service::Service;
 use crate::source::{Sink, Source};
 use crate::writer::Writer;
-use disco_message::{Document, Reply, Request, refusal};
 use disco_values::Fault;
 use std::alloc::Global;
 
@@ -38,17 +39,6 @@ pub struct Served {
     pub end: End,
 }
 
-/// What one exchange came to.
-#[derive(Clone, Copy, Debug)]
-pub(crate) enum Step {
-    /// A request was answered, and the next may come.
-    Goes,
-    /// A request was given to the service, and it was the last.
-    Last(End),
-    /// No request was given to the service.
-    Stops(End),
-}
-
 /// How a connection ends behind a request, if it does.
 pub(crate) fn end_behind(closes: bool, last: bool) -> Option<End>
     ensures { result ≡ end_behind closes last }
@@ -62,86 +52,71 @@ pub(crate) fn end_behind(closes: bool, last: bool) -> Option<End>
     }
 }
 
-/// Gives a request to the service, and writes its reply.
-fn answer<W: Sink, S: Service>(
-    writer: &mut Writer<W>,
+/// Reads the next request and answers or refuses it. The end of the connection, where nothing goes out.
+fn next_reply<R: Source, S: Service>(
+    alloc: Global,
+    reader: &mut Reader<R>,
+    text: &mut Vec<u8>,
     service: &mut S,
-    request: &Request,
-    last: bool,
-) -> Step
-    requires { IsFalse (sinks.is_writer_spent writer.old) }
-    ensures step { AnswersOne S.answers service.old service.new (W.contents (sink_of writer.old)) (W.contents (sink_of writer.new)) request.now last result }
-    ensures cause { EndsByFault WriteFailed result → Raises (W.failed (sink_of writer.old)) (W.failed (sink_of writer.new)) }
-    ensures none_failed { result ≡ Step.Goes → W.failed (sink_of writer.new) ≡ W.failed (sink_of writer.old) }
-    ensures goes { result ≡ Step.Goes → IsFalse last }
-    ensures fresh { result ≡ Step.Goes → IsFalse (sinks.is_writer_spent writer.new) }
-    ensures no_read { EndsByFault ReadFailed result → ⊥ }
+    requests: &mut u64,
+) -> Result<Outgoing<S::Body>, End>
+    requires fresh { IsFalse (is_spent reader.old) }
+    requires capacity { 4352 ≤ vec_capacity text.old }
+    requires few { requests.old < (reader_limits reader.old).requests }
+    ensures comes { IfSome (ahead R.remaining reader.old) (λ stream. Comes S.Body.content S.answers (reader_limits reader.old) stream
+        (left_by R.remaining reader.new) service.old service.new requests.old requests.new result) }
+    ensures limits { reader_limits reader.new ≡ reader_limits reader.old }
+    ensures goes { IfOk result (λ o. o.end ≡ None → (requests.new ≡ requests.old + 1) × (requests.new < (reader_limits reader.old).requests)) }
+    ensures fresh { IfOk result (λ o. o.end ≡ None → IsFalse (is_spent reader.new)) }
+    ensures none_failed { IfOk result (λ o. o.end ≡ None → R.failed (source_of reader.new) ≡ R.failed (source_of reader.old)) }
+    ensures host { IfOk result (λ o. (o.end ≢ Some (End.Fault ReadFailed)) × (o.end ≢ Some (End.Fault WriteFailed))) }
+    ensures cause { IfErr result (λ end. end ≡ End.Fault ReadFailed → Raises (R.failed (source_of reader.old)) (R.failed (source_of reader.new))) }
+    ensures not_written { IfErr result (λ end. end ≢ End.Fault WriteFailed) }
+    ensures put { IfOk result (IsPut S.Body.content text.new.items) }
+    ensures capacity { vec_capacity text.old ≤ vec_capacity text.new }
 {
-    let end = end_behind(request.closes(), last);
-    let reply = service.call(request);
-    match end {
-        Some(end) => match write_reply(writer, &reply, true) {
-            Ok(()) => Step::Last(end),
-            Err(_) => Step::Last(End::Fault(Fault::WriteFailed)),
-        },
-        None => match write_reply(writer, &reply, false) {
-            Ok(()) => Step::Goes,
-            Err(_) => Step::Last(End::Fault(Fault::WriteFailed)),
-        },
+    match reader.read_request(alloc) {
+        Ok(Some(request)) => Ok(answer(
+            &reader.limits,
+            requests,
+            &mut reader.room,
+            text,
+            service,
+            request,
+        )),
+        Ok(None) => Err(End::Closed),
+        Err(Fault::ReadFailed) => Err(End::Fault(Fault::ReadFailed)),
+        Err(fault) => Ok(refuse(text, fault)),
     }
 }
 
-/// Writes the reply to a request that was refused.
-fn refuse<W: Sink, D: Document + Drop>(writer: &mut Writer<W>, fault: Fault) -> Step
-    requires not_read { fault ≢ ReadFailed }
-    requires not_written { fault ≢ WriteFailed }
-    requires fresh { IsFalse (sinks.is_writer_spent writer.old) }
-    ensures step { RefusesRequest (W.contents (sink_of writer.old)) (W.contents (sink_of writer.new)) fault result }
-    ensures cause { EndsByFault WriteFailed result → Raises (W.failed (sink_of writer.old)) (W.failed (sink_of writer.new)) }
-    ensures no_read { EndsByFault ReadFailed result → ⊥ }
-    ensures stops { result ≢ Step.Goes }
-{
-    let refused: Reply<D> = Reply {
-        status: refusal(fault),
-        allow: None,
-        document: None,
-        cert: None,
-    };
-    match write_reply(writer, &refused, true) {
-        Ok(()) => Step::Stops(End::Fault(fault)),
-        Err(_) => Step::Stops(End::Fault(Fault::WriteFailed)),
-    }
-}
-
-/// Reads a request and answers it.
+/// Reads a request and writes its reply. How the connection ends behind it, if it does.
 fn exchange<R: Source, W: Sink, S: Service>(
     alloc: Global,
     reader: &mut Reader<R>,
     writer: &mut Writer<W>,
     service: &mut S,
-    last: bool,
-) -> Step
-    requires { IsFalse (is_spent reader.old) × IsFalse (sinks.is_writer_spent writer.old) }
+    requests: &mut u64,
+) -> Option<End>
+    requires fresh { IsFalse (is_spent reader.old) }
+    requires few { requests.old < (reader_limits reader.old).requests }
     ensures step { IfSome (ahead R.remaining reader.old) (λ stream.
         Exchanged S.answers (reader_limits reader.old) stream (left_by R.remaining reader.new) service.old service.new
-        (W.contents (sink_of writer.old)) (W.contents (sink_of writer.new)) last result) }
+        (W.contents (sink_of writer.old)) (W.contents (sink_of writer.new)) requests.old requests.new result) }
     ensures limits { reader_limits reader.new ≡ reader_limits reader.old }
-    ensures goes { result ≡ Step.Goes → IsFalse last }
-    ensures fresh { result ≡ Step.Goes → IsFalse (is_spent reader.new) × IsFalse (sinks.is_writer_spent writer.new) }
-    ensures read_cause { EndsByFault ReadFailed result → Raises (R.failed (source_of reader.old)) (R.failed (source_of reader.new)) }
-    ensures write_cause { EndsByFault WriteFailed result → Raises (W.failed (sink_of writer.old)) (W.failed (sink_of writer.new)) }
-    ensures none_failed { result ≡ Step.Goes → (R.failed (source_of reader.new) ≡ R.failed (source_of reader.old))
+    ensures goes { result ≡ None → (requests.new ≡ requests.old + 1) × (requests.new < (reader_limits reader.old).requests) }
+    ensures fresh { result ≡ None → IsFalse (is_spent reader.new) }
+    ensures read_cause { result ≡ Some (End.Fault ReadFailed) → Raises (R.failed (source_of reader.old)) (R.failed (source_of reader.new)) }
+    ensures write_cause { result ≡ Some (End.Fault WriteFailed) → Raises (W.failed (sink_of writer.old)) (W.failed (sink_of writer.new)) }
+    ensures none_failed { result ≡ None → (R.failed (source_of reader.new) ≡ R.failed (source_of reader.old))
         × (W.failed (sink_of writer.new) ≡ W.failed (sink_of writer.old)) }
 {
-    match reader.read_request(alloc) {
-        Ok(Some(request)) => {
-            let step = answer(writer, service, &request, last);
-            reader.keep(request);
-            step
-        }
-        Ok(None) => Step::Stops(End::Closed),
-        Err(Fault::ReadFailed) => Step::Stops(End::Fault(Fault::ReadFailed)),
-        Err(fault) => refuse::<W, S::Body>(writer, fault),
+    match next_reply(alloc, reader, &mut writer.room, service, requests) {
+        Ok(outgoing) => match writer.send(outgoing.left, body_of(&outgoing.reply)) {
+            Ok(()) => outgoing.end,
+            Err(_) => Some(End::Fault(Fault::WriteFailed)),
+        },
+        Err(end) => Some(end),
     }
 }
 
@@ -152,25 +127,17 @@ fn answer_all<R: Source, W: Sink, S: Service>(
     writer: &mut Writer<W>,
     service: &mut S,
 ) -> Served
-    requires { IsFalse (is_spent reader.old) × IsFalse (sinks.is_writer_spent writer.old) }
+    requires { IsFalse (is_spent reader.old) }
     ensures answers { IfSome (ahead R.remaining reader.old) (λ stream.
         AnswersAll S.answers (reader_limits reader.old) stream (left_by R.remaining reader.new) service.old service.new
         (W.contents (sink_of writer.old)) (W.contents (sink_of writer.new)) result) }
     ensures read_cause { result.end ≡ End.Fault ReadFailed → Raises (R.failed (source_of reader.old)) (R.failed (source_of reader.new)) }
     ensures write_cause { result.end ≡ End.Fault WriteFailed → Raises (W.failed (sink_of writer.old)) (W.failed (sink_of writer.new)) }
 {
-    let most = reader.limits.requests;
     let mut requests = 0;
     loop {
-        match exchange(alloc, reader, writer, service, requests + 1 == most) {
-            Step::Goes => requests += 1,
-            Step::Last(end) => {
-                return Served {
-                    requests: requests + 1,
-                    end,
-                };
-            }
-            Step::Stops(end) => return Served { requests, end },
+        if let Some(end) = exchange(alloc, reader, writer, service, &mut requests) {
+            return Served { requests, end };
         }
     }
 }

@@ -3,13 +3,14 @@ ghost use Rattle.std.specs.Prelude.{◌≤◌, vec_len};
 ghost use Rattle.std.specs.Vec.{vec_capacity};
 
 use crate::incoming::{Incoming, Phase, Room};
-use crate::replies::{body_of, size_of};
+use crate::outgoing::{Outgoing, answer, refuse};
+use crate::replies::{body_of, put};
 use crate::service::Service;
-use crate::session::{End, end_behind};
+use crate::session::End;
 use crate::source::Stage;
 use crate::unread::Unread;
 use crate::writer::SMALL_BODY;
-use disco_message::{Document, HEAD_ROOM, Limits, Reply, Request, push_bytes, push_head, refusal};
+use disco_message::{Document, HEAD_ROOM, Limits, Reply, Request};
 use disco_values::Fault;
 use std::alloc::{AllocError, Global};
 
@@ -24,16 +25,6 @@ pub enum Next {
     Write,
     /// It is over.
     Over(End),
-}
-
-/// A reply that is going out.
-#[derive(Drop)]
-pub(crate) struct Outgoing<D> {
-    pub(crate) reply: Reply<D>,
-    /// How the connection ends behind it, if it does.
-    pub(crate) end: Option<End>,
-    /// How many bytes of it are still to be written.
-    pub(crate) left: usize,
 }
 
 /// How far a session is.
@@ -57,8 +48,9 @@ pub struct Buffers {
 }
 
 impl Buffers {
-    ghost use Rattle.std.specs.Prelude.{◌≡◌, ◌⊎◌, ◌++◌, [], ℕ, List, length, option_map};
+    ghost use Rattle.std.specs.Prelude.{◌≡◌, length, option_map};
     ghost use Rattle.disco_message.specs.ReplyText.{reply_body, reply_text, reply_view};
+    ghost use Rattle.disco_http.specs.Exchanges.{HasText};
 
     /// Buffers for sessions within these limits.
     ///
@@ -72,28 +64,13 @@ impl Buffers {
         })
     }
 
-    /// Puts the head of a reply into the room, and its body behind it where that is small.
+    /// Puts a reply into the room.
     fn put<D: Document>(&mut self, reply: &Reply<D>, last: bool) -> usize
         ensures size { result ≡ length (reply_text (reply_view D.content reply.now) last) }
-        ensures text { (rest : List ℕ) × (reply_text (reply_view D.content reply.now) last ≡ self.new.text.items ++ rest)
-            × ((rest ≡ []) ⊎ (rest ≡ reply_body reply.now.status (option_map D.content reply.now.document))) }
-        ensures room { vec_len self.new.room.spans ≡ vec_len self.old.room.spans }
+        ensures text { HasText (reply_text (reply_view D.content reply.now) last) self.new.text.items
+            (reply_body reply.now.status (option_map D.content reply.now.document)) }
     {
-        let body = body_of(reply);
-        self.text.clear();
-        push_head(
-            &mut self.text,
-            reply.status,
-            reply.allow,
-            size_of(reply),
-            reply.cert,
-            last,
-        );
-        let head = self.text.len();
-        if body.len() <= SMALL_BODY {
-            push_bytes(&mut self.text, body);
-        }
-        head + body.len()
+        put(&mut self.text, reply, last)
     }
 }
 
@@ -114,11 +91,10 @@ impl<D: Document + Drop> Session<D> {
     ghost use Rattle.std.specs.Prelude.{◌≡◌, ◌⊎◌, ◌+◌, ◌-◌, ◌^◌, ◌≤◌, ◌<◌, ◌++◌, [], ℕ, List, IfErr, IfNone, IfOk, IfSome, IsFalse, IsSome, IsTrue, OnErr, Some, length, min, take};
     ghost use Rattle.disco_message.specs.RequestView as message;
     ghost use Rattle.disco_values.specs.declared.fault.Fault.TheVariants.{BadRequest, OutOfMemory};
-    ghost use Rattle.disco_message.specs.ReplyText.{ReplyView, reply_view};
     ghost use Rattle.disco_http.specs.Coming.{IsBetween, StandsFor, WaitsOn};
     ghost use Rattle.disco_http.specs.Requests.{Refused, TakesRequest};
-    ghost use Rattle.disco_http.specs.Served.{end_behind, refused};
-    ghost use Rattle.disco_http.specs.Sessions.{Answered, HasDone, IsGoing, is_limit, next_of, unsent};
+    ghost use Rattle.disco_http.specs.Served.{refused};
+    ghost use Rattle.disco_http.specs.Sessions.{Answered, HasDone, IsGoing, next_of, unsent};
     ghost use Rattle.disco_http.specs.declared.incoming.Phase.TheVariants as phase;
     ghost use Rattle.disco_http.specs.Unread.{bytes_of};
     ghost use Rattle.disco_http.specs.declared.steps.State.TheVariants as state;
@@ -222,55 +198,6 @@ impl<D: Document + Drop> Session<D> {
         self.state = State::Over(End::Fault(fault));
     }
 
-    /// Has a reply go out.
-    fn put(&mut self, buffers: &mut Buffers, reply: Reply<D>, end: Option<End>)
-        ensures goes { IsGoing D.content (reply_view D.content reply) end self.new.state }
-        ensures limits { self.new.limits ≡ self.old.limits }
-        ensures incoming { self.new.incoming ≡ self.old.incoming }
-        ensures ended { self.new.has_ended ≡ self.old.has_ended }
-        ensures requests { self.new.requests ≡ self.old.requests }
-    {
-        let left = buffers.put(&reply, end.is_some());
-        self.state = State::Writes(Outgoing { reply, end, left });
-    }
-
-    /// Refuses what came.
-    fn refuse(&mut self, buffers: &mut Buffers, fault: Fault)
-        ensures goes { IsGoing D.content (refused fault) (Some (End.Fault fault)) self.new.state }
-        ensures limits { self.new.limits ≡ self.old.limits }
-        ensures incoming { self.new.incoming ≡ self.old.incoming }
-        ensures ended { self.new.has_ended ≡ self.old.has_ended }
-        ensures requests { self.new.requests ≡ self.old.requests }
-    {
-        let reply = Reply {
-            status: refusal(fault),
-            allow: None,
-            document: None,
-            cert: None,
-        };
-        self.put(buffers, reply, Some(End::Fault(fault)));
-    }
-
-    /// Has the answer to a request go out.
-    fn reply_to<S: Service<Body = D>>(
-        &mut self,
-        buffers: &mut Buffers,
-        service: &mut S,
-        request: Request,
-    )
-        ensures goes { (r : ReplyView) × S.answers service.old request r service.new × IsGoing D.content r (end_behind request.closes (is_limit self.new)) self.new.state }
-        ensures counted { self.new.requests ≡ min (self.old.requests + 1) (2 ^ 64 - 1) }
-        ensures limits { self.new.limits ≡ self.old.limits }
-        ensures incoming { self.new.incoming ≡ self.old.incoming }
-    {
-        self.requests = self.requests.saturating_add(1);
-        let last = self.requests >= self.limits.requests;
-        let reply = service.call(&request);
-        let end = end_behind(request.closes(), last);
-        buffers.room.keep(request);
-        self.put(buffers, reply, end);
-    }
-
     /// Waits for bytes. At the end of the input it is over, or refuses what came of a request.
     fn wait(&mut self, alloc: Global, buffers: &mut Buffers)
         ensures waits { IsFalse self.old.has_ended → (self.new.state ≡ state.Waits) × (bytes_of self.new.incoming.unread ≡ bytes_of self.old.incoming.unread)
@@ -287,7 +214,7 @@ impl<D: Document + Drop> Session<D> {
         } else if self.incoming.is_between() {
             self.state = State::Over(End::Closed);
         } else {
-            self.refuse(buffers, Fault::BadRequest);
+            self.state = State::Writes(refuse(&mut buffers.text, Fault::BadRequest));
         }
     }
 
@@ -324,9 +251,18 @@ impl<D: Document + Drop> Session<D> {
             return;
         }
         match self.advance(alloc, buffers) {
-            Ok(Some(request)) => self.reply_to(buffers, service, request),
+            Ok(Some(request)) => {
+                self.state = State::Writes(answer(
+                    &self.limits,
+                    &mut self.requests,
+                    &mut buffers.room,
+                    &mut buffers.text,
+                    service,
+                    request,
+                ));
+            }
             Ok(None) => self.wait(alloc, buffers),
-            Err(fault) => self.refuse(buffers, fault),
+            Err(fault) => self.state = State::Writes(refuse(&mut buffers.text, fault)),
         }
     }
 

@@ -1,12 +1,12 @@
 //! A sink with room for a reply in front of it.
-ghost use Rattle.std.specs.Prelude.{◌≤◌, ◌+◌, vec_len};
+ghost use Rattle.std.specs.Prelude.{◌≤◌};
 ghost use Rattle.std.specs.Vec.{vec_capacity};
 ghost use Rattle.disco_values.specs.declared.fault.Fault.TheVariants.{WriteFailed};
 
 use crate::source::Sink;
 use crate::whole::write_all;
-use disco_message::{Allow, HEAD_ROOM, StatusCode, push_bytes, push_head};
-use disco_values::{Cert, Fault};
+use disco_message::HEAD_ROOM;
+use disco_values::Fault;
 use std::alloc::{AllocError, Global};
 
 /// Bodies up to this size are written together with their head, in bytes.
@@ -62,10 +62,10 @@ impl<W: Drop> Writer<W> {
 }
 
 impl<W: Sink> Writer<W> {
-    ghost use Rattle.std.specs.Prelude.{◌≡◌, ◌++◌, length, is_err, IfErr, IsFalse, IsTrue, OnOk, OnErr};
+    ghost use Rattle.std.specs.Prelude.{◌≡◌, ℕ, List, length, is_err, IfErr, IsFalse, IsTrue, OnOk, OnErr};
     ghost use Rattle.std.specs.Io.KnownBytes.{Appends};
-    ghost use Rattle.disco_message.specs.ReplyText.{reply_head};
     ghost use Rattle.disco_http.specs.Causes.{Raises};
+    ghost use Rattle.disco_http.specs.Exchanges.{HasText};
     ghost use Rattle.disco_http.specs.Writes.{AppendsProperFront, WritesBytes};
     ghost use Rattle.disco_http.specs.Sinks.{is_writer_spent, sink_of};
 
@@ -84,43 +84,19 @@ impl<W: Sink> Writer<W> {
         self.spent = true;
     }
 
-    /// Puts the head of a reply into the room.
-    pub(crate) fn put_head(
-        &mut self,
-        status: StatusCode,
-        allow: Option<Allow>,
-        size: Option<u64>,
-        cert: Option<Cert>,
-        last: bool,
-    )
-        ensures room { self.new.room.items ≡ reply_head status allow size cert last }
-        ensures len { vec_len self.new.room ≤ HEAD_ROOM }
-        ensures sink { self.new.sink ≡ self.old.sink }
-        ensures spent { self.new.spent ≡ self.old.spent }
-    {
-        self.room.clear();
-        push_head(&mut self.room, status, allow, size, cert, last);
-    }
-
-    /// Puts a small body behind the head.
-    pub(crate) fn put_body(&mut self, body: &[u8])
-        requires head { vec_len self.old.room ≤ HEAD_ROOM }
-        requires small { length body.now ≤ SMALL_BODY }
-        ensures room { self.new.room.items ≡ self.old.room.items ++ body.now }
-        ensures sink { self.new.sink ≡ self.old.sink }
-        ensures spent { self.new.spent ≡ self.old.spent }
-    {
-        push_bytes(&mut self.room, body);
-    }
-
-    /// Writes what is in the room.
-    pub(crate) fn send(&mut self) -> Result<(), Fault>
-        ensures written { WritesBytes (W.contents self.old.sink) (W.contents self.new.sink) (W.failed self.old.sink) (W.failed self.new.sink) result
-            self.old.room.items }
+    /// Writes a text of so many bytes. It begins with what is in the room, and this body follows where
+    /// that isn't all of it.
+    pub(crate) fn send(&mut self, size: usize, body: &[u8]) -> Result<(), Fault>
+        ensures written { (text : List ℕ) → HasText text self.old.room.items body.now → size ≡ length text
+            → WritesBytes (W.contents self.old.sink) (W.contents self.new.sink) (W.failed self.old.sink) (W.failed self.new.sink) result text }
         ensures fault { IfErr result (λ fault. fault ≡ WriteFailed) }
         ensures spent { self.new.spent ≡ self.old.spent }
     {
-        write_all(&mut self.sink, &self.room)
+        write_all(&mut self.sink, &self.room)?;
+        if self.room.len() < size {
+            write_all(&mut self.sink, body)?;
+        }
+        Ok(())
     }
 
     /// Writes these bytes as they are, as the head of a request. Takes no memory.

@@ -1,19 +1,23 @@
-use Rattle.std.proofs.Common.{◌≡◌, ◌⊎◌, ◌++◌, [], List, ℕ, append-nil, inl, inr, refl, rules, subst, sym, ◌∙◌}
+use Rattle.std.proofs.Common.{◌≡◌, ◌⊎◌, ◌++◌, [], List, Some, ℕ, append-nil, inl, inr, nat_le, refl, rules, subst, ◌∙◌}
 use Rattle.std.specs.List.{concat}
 use Rattle.disco_values.specs.declared.fault.Fault.TheVariants.{BadRequest, OutOfMemory}
 use Rattle.disco_http.specs.Coming.{PhaseAt}
 use Rattle.disco_http.specs.Requests.{Refused, TakesRequest}
-use Rattle.disco_http.specs.Served.{end_behind}
-use Rattle.disco_http.specs.Sessions.{Fronts, Holds, is_limit, unsent}
+use Rattle.disco_message.specs.ReplyText.{reply_view}
+use Rattle.disco_http.specs.Served.{end_behind, refused}
+use Rattle.disco_http.specs.declared.session.End.TheVariants as End
+use Rattle.disco_http.specs.declared.steps.State.TheVariants.{Writes}
+use Rattle.disco_http.specs.Sessions.{Fronts, Holds, IsGoing, unsent}
 use Rattle.disco_http.specs.Unread.{bytes_of}
-use Rattle.disco_http.proofs.SessionSteps.{fronts_next, going_holds, going_put, true_or_false}
+use Rattle.disco_http.proofs.SessionSteps.{fronts_next, going_holds, going_put, taken_leaves, true_or_false}
 use Rattle.disco_http.proofs.steps.Session.answer.Goals as goal
 
 pub returns-in-Ok-Some-clause-answered : goal.returns-in-Ok-Some-clause-answered
 returns-in-Ok-Some-clause-answered g c looks given asks texts out h =
     let content = g.D.Document.content in
     let self = c.args.self.now in
-    let new = c.reply_to.new.self in
+    let mid = c.advance.new.self in
+    let o = c.answer.result in
     let u = bytes_of c.advance.new.self.incoming.unread in
     let request = c.in-Ok-Some.request in
     let stands = subst (λ s. Holds content self.limits self.incoming s h.rest) looks h.holds in
@@ -21,17 +25,19 @@ returns-in-Ok-Some-clause-answered g c looks given asks texts out h =
     let whole = rw c.in-Ok-Some.field-0-is at c.in-Ok-Some.ensures.whole in
     let head = (rw c.in-Ok-Some.field-0-is at c.in-Ok-Some.ensures.phase) (search rules) in
     let takes = subst (λ v. TakesRequest self.limits h.rest request v) (append-nil u) (subst (λ v. TakesRequest self.limits v request (u ++ [])) (append-nil h.rest) (whole h.rest [] stands)) in
-    let goes = c.reply_to.ensures.goes in
-    let limits : new.limits ≡ self.limits = c.reply_to.ensures.limits ∙ c.advance.ensures.limits in
+    let limits : mid.limits ≡ self.limits = c.advance.ensures.limits in
+    let r = reply_view content o.reply in
+    let end = end_behind request.closes (nat_le mid.limits.requests c.answer.new.requests) in
+    let goes : IsGoing content r end (Writes o) = (o, refl, refl, c.answer.ensures.end, c.answer.ensures.put.0) in
     inl (
       request,
-      goes.0,
-      goes.1,
+      r,
+      c.answer.ensures.answers,
       record {
         rest = u;
         fronts = rw limits (fronts_next self.limits given h.rest u asks request h.fronts takes);
-        holds = rw c.reply_to.ensures.incoming (going_holds content new.limits c.advance.new.self.incoming new.state goes.0 (end_behind request.closes (is_limit new)) u goes.2 (λ none. subst (λ at. PhaseAt new.limits u at u) (sym head) refl));
-        put = going_put content new.state goes.0 (end_behind request.closes (is_limit new)) texts out goes.2 put;
+        holds = going_holds content mid.limits mid.incoming (Writes o) r end u goes (taken_leaves mid.limits mid.incoming request.closes (nat_le mid.limits.requests c.answer.new.requests) head);
+        put = going_put content (Writes o) r end texts out goes put;
       },
     )
 
@@ -61,7 +67,9 @@ returns-in-Ok-None-clause-answered g c looks given asks texts out h =
           )
       | inl ended ↦
           elim (c.wait.ensures.over ended) [
-            | inl over ↦ inr (refl, inr (record { rest = h.rest; fronts = fronts; holds = rw over.1 tt; put = rw over.1 put }))
+            | inl over ↦
+                let none : h.rest ≡ [] = subst (λ at. PhaseAt self.limits h.rest at (bytes_of mid.incoming.unread)) over.0.0 w.0 ∙ over.0.1 in
+                inr (refl, inr (record { rest = h.rest; fronts = fronts; holds = rw over.1 none; put = rw over.1 put }))
             | inr bad ↦
                 let refused : Refused new.limits BadRequest h.rest = elim w.2 [
                   | inl between ↦ absurd (bad.0 between)
@@ -77,7 +85,7 @@ returns-in-Ok-None-clause-answered g c looks given asks texts out h =
                     record {
                       rest = h.rest;
                       fronts = fronts;
-                      holds = going_holds content new.limits new.incoming new.state _ _ h.rest bad.1 (λ none. absurd (cc none));
+                      holds = going_holds content new.limits new.incoming new.state _ _ h.rest bad.1 tt;
                       put = going_put content new.state _ _ texts out bad.1 put;
                     },
                   ),
@@ -89,11 +97,13 @@ pub returns-in-Err-clause-answered : goal.returns-in-Err-clause-answered
 returns-in-Err-clause-answered g c looks given asks texts out h =
     let content = g.D.Document.content in
     let self = c.args.self.now in
-    let new = c.refuse.new.self in
+    let new = c.advance.new.self in
+    let o = c.refuse.result in
     let fault = c.in-Err.fault in
     let stands = subst (λ s. Holds content self.limits self.incoming s h.rest) looks h.holds in
     let put = subst (λ s. out ++ unsent content s ≡ concat texts) looks h.put in
-    let limits : new.limits ≡ self.limits = c.refuse.ensures.limits ∙ c.advance.ensures.limits in
+    let limits : new.limits ≡ self.limits = c.advance.ensures.limits in
+    let goes : IsGoing content (refused fault) (Some (End.Fault fault)) (Writes o) = (o, refl, c.refuse.ensures.reply, c.refuse.ensures.end, c.refuse.ensures.put.0) in
     let fronts : Fronts new.limits given asks h.rest = rw limits h.fronts in
     let why : (fault ≡ OutOfMemory) ⊎ ((more : List ℕ) → Refused new.limits fault (h.rest ++ more)) = elim c.in-Err.ensures.refused [
       | inl none ↦ inl none
@@ -109,8 +119,8 @@ returns-in-Err-clause-answered g c looks given asks texts out h =
         record {
           rest = h.rest;
           fronts = fronts;
-          holds = going_holds content new.limits new.incoming new.state _ _ h.rest c.refuse.ensures.goes (λ none. absurd (cc none));
-          put = going_put content new.state _ _ texts out c.refuse.ensures.goes put;
+          holds = going_holds content new.limits new.incoming (Writes o) _ _ h.rest goes tt;
+          put = going_put content (Writes o) _ _ texts out goes put;
         },
       ),
     )

@@ -1,6 +1,6 @@
 use Rattle.std.proofs.Common.{◌≡◌, ◌≤◌, ◌-◌, ◌++◌, [], arith, drop, length, subst, sym, take}
 use Rattle.std.specs.List.{concat}
-use Rattle.disco_http.specs.Sessions.{Holds, text_of, unsent}
+use Rattle.disco_http.specs.Sessions.{Holds, Leaves, text_of, unsent}
 use Rattle.disco_http.proofs.SessionSteps.{all_sent, left_size, part_sent}
 use Rattle.disco_http.proofs.steps.Session.sent.Goals as goal
 use Rattle.disco_http.proofs.steps.Session.sent.Goals.{in-Some, in-None}
@@ -38,7 +38,7 @@ returns-after-outgoing g c = record {
       let many : o.left ≤ c.args.count = omega (arith, c.if-outgoing-gt0.false, c.saturating_sub-outgoing.ensures) in
       let all = subst (λ s. (out ++ take c.args.count (unsent content s)) ++ [] ≡ concat texts) (sym c.in-Writes.is) (all_sent text out (concat texts) o.left c.args.count holds.1 count many put) in
       elim c.match-outgoing.branch [
-        | in-Some w ↦ rw w.t-10-is (record { rest = h.rest; fronts = h.fronts; holds = tt; put = all })
-        | in-None w ↦ rw w.t-10-is (record { rest = h.rest; fronts = h.fronts; holds = holds.0 w.in-None.is; put = all })
+        | in-Some w ↦ rw w.t-10-is (record { rest = h.rest; fronts = h.fronts; holds = subst (Leaves self.limits self.incoming h.rest) w.in-Some.is holds.0; put = all })
+        | in-None w ↦ rw w.t-10-is (record { rest = h.rest; fronts = h.fronts; holds = subst (Leaves self.limits self.incoming h.rest) w.in-None.is holds.0; put = all })
       ];
 }

@@ -1,7 +1,7 @@
 use Rattle.std.proofs.Common.{◌≡◌, ◌++◌, [], append-nil, inl, inr, length, option_map, refl, rules, sym}
 use Rattle.disco_message.specs.ReplyText.{reply_body, reply_head}
-use Rattle.disco_http.proofs.steps.Buffers.put.Goals as goal
-use Rattle.disco_http.proofs.steps.Buffers.put.Goals.{then-body-le-SMALL_BODY, else-body-le-SMALL_BODY}
+use Rattle.disco_http.proofs.replies.put.Goals as goal
+use Rattle.disco_http.proofs.replies.put.Goals.{then-body-le-SMALL_BODY, else-body-le-SMALL_BODY}
 
 pub returns-clause-text : goal.returns-clause-text
 returns-clause-text g c =
@@ -13,6 +13,6 @@ returns-clause-text g c =
     elim c.if-body-le-SMALL_BODY.branch [
       | then-body-le-SMALL_BODY w ↦
           let all : w.push_bytes.new.out.items ≡ head ++ body = search rules in
-          rw (w.self-is, all) ([], sym (append-nil (head ++ body)), inl refl)
-      | else-body-le-SMALL_BODY w ↦ rw (w.self-is, put) (body, refl, inr refl)
+          rw (w.text-is, all) ([], sym (append-nil (head ++ body)), inl refl)
+      | else-body-le-SMALL_BODY w ↦ rw (w.text-is, put) (body, refl, inr refl)
     ]
