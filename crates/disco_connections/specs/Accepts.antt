@@ -1,4 +1,4 @@
--- Failures of an accept, by Linux's numbers for them.
+-- Failures of an accept, by Linux's numbers. Nothing here is to be believed: no public contract rests on it.
 use Rattle.std.specs.Prelude.{◌≡◌, ℕ, ℤ, pos, List, [], ◌∷◌, Option, Some, ⊤}
 use Rattle.disco_connections.specs.declared.accepts.Accepted.{Accepted}
 use Rattle.disco_connections.specs.declared.accepts.Accepted.TheVariants as came

@@ -1,4 +1,4 @@
--- What a connection waits for.
+-- What a connection waits for. Nothing here is to be believed: no public contract rests on it.
 use Rattle.std.specs.Prelude.{◌≡◌, Bool, true, false}
 use Rattle.disco_http.specs.Sessions.{next_of}
 use Rattle.disco_http.specs.declared.source.Stage.{Stage}
@@ -6,8 +6,8 @@ use Rattle.disco_http.specs.declared.source.Stage.TheVariants as stages
 use Rattle.disco_http.specs.declared.steps.Next.{Next}
 use Rattle.disco_http.specs.declared.steps.Next.TheVariants as next
 use Rattle.disco_connections.specs.declared.connection.Connection.{Connection}
-use Rattle.disco_connections.specs.declared.waits.Phase.{Phase}
-use Rattle.disco_connections.specs.declared.waits.Phase.TheVariants.{Between, Head, Body, Reply, Ending}
+use Rattle.disco_connections.specs.declared.timeouts.Phase.{Phase}
+use Rattle.disco_connections.specs.declared.timeouts.Phase.TheVariants.{Between, Head, Body, Reply, Ending}
 
 -- what is waited for of a next request of which this came
 abbrev pub phase_at : Stage → Phase
@@ -22,5 +22,5 @@ awaited false next.Write came = Reply
 awaited false does came = phase_at came
 
 -- a connection waits for this, by what it does next and by what came of its next request
-abbrev pub IsAwaited : {D : Type 0} → Connection D → Phase → Type 0
+abbrev pub IsAwaited : {D K : Type 0} → Connection D K → Phase → Type 0
 IsAwaited connection phase = (came : Stage) × (phase ≡ awaited connection.is_ending (next_of connection.session.state) came)

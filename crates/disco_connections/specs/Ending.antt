@@ -1,4 +1,4 @@
--- How a connection ends.
+-- How a connection ends. Nothing here is to be believed: no public contract rests on it.
 use Rattle.std.specs.Prelude.{Bool, true, false}
 use Rattle.disco_http.specs.declared.session.End.{End}
 use Rattle.disco_http.specs.declared.session.End.TheVariants.{Closed, Fault}

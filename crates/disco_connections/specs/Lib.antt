@@ -2,4 +2,4 @@ pub mod Acceptors
 pub mod Accepts
 pub mod Awaited
 pub mod Ending
-pub mod Waits
+pub mod Timeouts

@@ -1,4 +1,4 @@
-//! One connection of a socket, which goes on as far as it can without waiting.
+//! One connection of a socket. A worker steps it until it would wait.
 ghost use Rattle.std.specs.Prelude.{◌≡◌, IsFalse};
 ghost use Rattle.disco_connections.specs.Awaited.{IsAwaited, awaited};
 
@@ -6,7 +6,7 @@ use crate::close::has_last_reply;
 use crate::deadline::Deadline;
 use crate::held::{FEW, Held};
 use crate::room::Room;
-use crate::waits::{Phase, Waits};
+use crate::timeouts::{Phase, Timeouts};
 use disco_http::{End, Next, Service, Session, Stage};
 use disco_message::Document;
 use disco_values::Fault;
@@ -23,7 +23,7 @@ const WRITE: usize = 65_536;
 
 /// How far a connection has gone.
 #[derive(Clone, Copy, Debug, PartialEq, Eq)]
-pub(crate) enum Turn {
+pub enum Turn {
     /// It waits for the host.
     Rests,
     /// It could go on.
@@ -50,37 +50,39 @@ fn phase_of(is_ending: bool, next: Next, stage: Stage) -> Phase
     }
 }
 
-/// A connection between two turns.
+/// A connection between two turns. Workers keep a `K` with it for whoever serves its next turn.
 #[derive(Drop)]
-pub struct Connection<D> {
+pub struct Connection<D, K> {
     pub(crate) stream: TcpStream,
     pub(crate) session: Session<D>,
     /// Its number, from 1.
     pub number: u64,
-    /// Its place.
+    /// What is kept for its next turn, behind the first.
+    pub kept: Option<K>,
+    /// Its slot.
     pub(crate) key: usize,
     pub(crate) deadline: Deadline,
-    /// It is waited for no longer.
+    /// It is past its deadline.
     pub(crate) is_late: bool,
-    /// The sending side is ended, and what comes is dropped.
+    /// Its sending side is shut down, and what comes is dropped.
     is_ending: bool,
-    /// A request was answered since it was set last until when it is waited for.
+    /// A request was answered since the deadline was set.
     pub(crate) has_answered: bool,
-    /// The bytes of what came that were counted.
+    /// How many of its bytes count in [`Held`].
     pub(crate) held: u64,
-    /// It isn't read on, since all connections keep too much.
-    pub(crate) is_held_back: bool,
-    /// It keeps less than before the turn.
-    pub(crate) has_freed: bool,
-    /// It may read on all the same.
+    /// Reads are paused, since all connections keep too many bytes.
+    pub(crate) is_paused: bool,
+    /// It keeps fewer bytes than before the turn.
+    pub(crate) has_released: bool,
+    /// It may read on though reads are paused.
     pub(crate) may_pass: bool,
-    /// The poll tells when something comes.
-    pub(crate) tells_input: bool,
-    /// The poll tells when there is room to write.
-    pub(crate) tells_room: bool,
+    /// The poll reports it.
+    pub(crate) is_armed: bool,
+    /// The poll reports room to write, too.
+    pub(crate) awaits_room: bool,
 }
 
-impl<D: Document + Drop> Connection<D> {
+impl<D: Document + Drop, K> Connection<D, K> {
     /// A connection of which nothing came.
     pub(crate) fn new(
         stream: TcpStream,
@@ -88,22 +90,23 @@ impl<D: Document + Drop> Connection<D> {
         number: u64,
         key: usize,
         deadline: Deadline,
-    ) -> Connection<D> {
+    ) -> Connection<D, K> {
         Connection {
             stream,
             session,
             number,
+            kept: None,
             key,
             deadline,
             is_late: false,
             is_ending: false,
             has_answered: false,
             held: 0,
-            is_held_back: false,
-            has_freed: false,
+            is_paused: false,
+            has_released: false,
             may_pass: false,
-            tells_input: false,
-            tells_room: false,
+            is_armed: false,
+            awaits_room: false,
         }
     }
 
@@ -114,7 +117,7 @@ impl<D: Document + Drop> Connection<D> {
         phase_of(self.is_ending, self.session.next(), self.session.stage())
     }
 
-    /// Goes on until it would wait, but for so many steps at most.
+    /// Goes on until it would wait, for [`STEPS`] steps at most.
     pub(crate) fn go_on<S: Service<Body = D>>(
         &mut self,
         alloc: Global,
@@ -130,8 +133,7 @@ impl<D: Document + Drop> Connection<D> {
                 return turn;
             }
         }
-        // The host tells of what is to be read or written, and of nothing else: an answer, and then the
-        // begin of an end, come first.
+        // The poll reports reads and writes alone: an answer, and then the begin of an end, come first.
         for _ in 0..2 {
             if self.is_up_to_host() {
                 break;
@@ -143,7 +145,7 @@ impl<D: Document + Drop> Connection<D> {
         Turn::Goes
     }
 
-    /// Whether it goes on by a read or a write.
+    /// Whether its next step is a read or a write.
     fn is_up_to_host(&self) -> bool {
         self.is_ending || matches!(self.session.next(), Next::Read | Next::Write)
     }
@@ -171,11 +173,11 @@ impl<D: Document + Drop> Connection<D> {
         }
     }
 
-    /// Counts the bytes that it keeps among those of all.
+    /// Counts the bytes that it keeps.
     fn count(&mut self, held: &Held) {
         let now = self.session.held() as u64;
         held.change(self.held, now);
-        self.has_freed = self.has_freed || now < self.held;
+        self.has_released = self.has_released || now < self.held;
         self.held = now;
         if self.may_pass && now <= FEW {
             self.may_pass = false;
@@ -183,8 +185,8 @@ impl<D: Document + Drop> Connection<D> {
         }
     }
 
-    /// No longer keeps what came, since it ends.
-    pub(crate) fn forget(&mut self, held: &Held) {
+    /// Its bytes no longer count, since it ends.
+    pub(crate) fn release(&mut self, held: &Held) {
         held.change(self.held, 0);
         if self.may_pass {
             held.end_pass();
@@ -193,8 +195,8 @@ impl<D: Document + Drop> Connection<D> {
 
     /// Reads once.
     fn read(&mut self, held: &Held, room: &mut Room) -> Option<Turn> {
-        self.is_held_back = self.held > FEW && !self.may_pass && held.is_full();
-        if self.is_held_back {
+        self.is_paused = self.held > FEW && !self.may_pass && held.is_full();
+        if self.is_paused {
             return Some(Turn::Rests);
         }
         let mut stream = &self.stream;
@@ -276,15 +278,15 @@ impl<D: Document + Drop> Connection<D> {
         }
     }
 
-    /// Sets until when it is waited for, behind a turn.
-    pub(crate) fn expect(&mut self, waits: &Waits, now: u64)
+    /// Sets its deadline behind a turn.
+    pub(crate) fn expect(&mut self, timeouts: &Timeouts, now: u64)
         ensures awaited { IsAwaited self.old self.new.deadline.phase }
         ensures answered { IsFalse self.new.has_answered }
     {
         let bytes = self.session.unsent() as u64;
         let phase = self.phase();
         self.deadline
-            .expect(waits, phase, bytes, self.has_answered, now);
+            .expect(timeouts, phase, bytes, self.has_answered, now);
         self.has_answered = false;
     }
 }

@@ -1,11 +1,11 @@
-//! When a connection is waited for no longer.
+//! The deadline of a connection.
 ghost use Rattle.std.specs.Prelude.{◌≡◌, ◌≢◌, ◌≤◌, ◌⊎◌, ◌↔◌, IsFalse, IsTrue};
-ghost use Rattle.disco_connections.specs.Waits.{longest, moment_after};
-ghost use Rattle.disco_connections.specs.declared.waits.Phase.TheVariants.{Between};
+ghost use Rattle.disco_connections.specs.Timeouts.{longest, moment_after};
+ghost use Rattle.disco_connections.specs.declared.timeouts.Phase.TheVariants.{Between};
 
-use crate::waits::{Phase, Waits};
+use crate::timeouts::{Phase, Timeouts};
 
-/// What a connection is waited for, and until when.
+/// What a connection waits for, and until when.
 #[derive(Clone, Copy, Debug)]
 pub struct Deadline {
     pub(crate) phase: Phase,
@@ -15,26 +15,26 @@ pub struct Deadline {
 
 impl Deadline {
     /// That of a connection of which nothing came.
-    pub fn new(waits: &Waits, now: u64) -> Deadline
+    pub fn new(timeouts: &Timeouts, now: u64) -> Deadline
         ensures phase { result.phase ≡ Between }
-        ensures moment { result.moment ≡ moment_after now waits.now.between }
+        ensures moment { result.moment ≡ moment_after now timeouts.now.between }
     {
         Deadline {
             phase: Phase::Between,
-            moment: now.saturating_add(waits.between),
+            moment: now.saturating_add(timeouts.between),
         }
     }
 
-    /// From now on it is waited for this. Where it was before, and no request was answered meanwhile
-    /// (`anew`), the time goes on; a reply has so many bytes where it begins.
-    pub fn expect(&mut self, waits: &Waits, phase: Phase, bytes: u64, anew: bool, now: u64)
+    /// Enters a phase. The deadline stays where the connection was in that phase already and answered no
+    /// request meanwhile (`anew`). A reply has so many bytes when it begins.
+    pub fn expect(&mut self, timeouts: &Timeouts, phase: Phase, bytes: u64, anew: bool, now: u64)
         ensures phase { self.new.phase ≡ phase }
         ensures kept { phase ≡ self.old.phase → IsFalse anew → self.new ≡ self.old }
         ensures begun { (phase ≢ self.old.phase) ⊎ IsTrue anew
-            → self.new ≡ record { phase = phase; moment = moment_after now (longest waits.now phase bytes) } }
+            → self.new ≡ record { phase = phase; moment = moment_after now (longest timeouts.now phase bytes) } }
     {
         if anew || phase != self.phase {
-            let time = waits.longest(phase, bytes);
+            let time = timeouts.longest(phase, bytes);
             *self = Deadline {
                 phase,
                 moment: now.saturating_add(time),
@@ -42,7 +42,7 @@ impl Deadline {
         }
     }
 
-    /// Whether it is waited for no longer.
+    /// Whether it is past.
     pub fn is_over(&self, now: u64) -> bool
         ensures { IsTrue result ↔ (self.now.moment ≤ now) }
     {

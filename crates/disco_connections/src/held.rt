@@ -1,19 +1,19 @@
-//! The bytes that connections keep of what came, and which of them wait until it is less.
+//! How many bytes all connections keep of what came.
 use std::sync::atomic::{AtomicBool, AtomicU64, Ordering};
 
-/// So many bytes are kept in all, and no more is read of bodies that aren't small.
+/// With so many bytes in all, reads of bodies that aren't small are paused.
 const MOST: u64 = 64 << 20;
 
-/// A connection that keeps no more than this reads on all the same.
+/// A connection that keeps no more than this reads on.
 pub(crate) const FEW: u64 = 16_384;
 
-/// What all connections keep.
+/// The bytes that all connections keep.
 #[derive(Drop)]
 pub(crate) struct Held {
     bytes: AtomicU64,
-    /// Some connection isn't read on.
+    /// Reads of some connection are paused.
     is_short: AtomicBool,
-    /// One is read on to the end of its body all the same, so that bodies come to an end.
+    /// One reads on to the end of its body all the same, so that bodies come to an end.
     passes: AtomicBool,
 }
 
@@ -36,22 +36,22 @@ impl Held {
         }
     }
 
-    /// Whether so much is kept that bodies wait.
+    /// Whether so much is kept that reads are paused.
     pub(crate) fn is_full(&self) -> bool {
         self.bytes.load(Ordering::SeqCst) >= MOST
     }
 
-    /// Whether there is room again for all that wait.
+    /// Whether all may read on again.
     pub(crate) fn has_room(&self) -> bool {
         self.bytes.load(Ordering::SeqCst) < MOST / 2
     }
 
-    /// Notes whether a connection isn't read on.
+    /// Notes whether reads of some connection are paused.
     pub(crate) fn note_short(&self, short: bool) {
         self.is_short.store(short, Ordering::SeqCst);
     }
 
-    /// Whether a connection isn't read on.
+    /// Whether reads of some connection are paused.
     pub(crate) fn is_short(&self) -> bool {
         self.is_short.load(Ordering::SeqCst)
     }

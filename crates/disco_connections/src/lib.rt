@@ -1,6 +1,6 @@
-//! Connections of sockets, and how workers serve them: [`listen`] opens a listener, and the [`Hall`] has
-//! all its connections. A worker takes the next one that is ready, serves it until it would wait, and
-//! puts it back, so a connection that is silent or slow keeps no worker.
+//! Connections over sockets: [`listen`] opens a listener, and an [`EventLoop`] has all its connections. A
+//! worker takes the next one that is ready, serves it until it would wait, and puts it back. So a silent
+//! or slow connection keeps no worker.
 #![tactic(auto)]
 
 mod acceptor;
@@ -8,22 +8,22 @@ mod accepts;
 mod close;
 mod connection;
 mod deadline;
-mod entrance;
-mod hall;
+mod event_loop;
 mod held;
 mod listener;
-mod place;
-mod places;
+mod poller;
 mod room;
-mod waits;
+mod slot;
+mod slots;
+mod timeouts;
 
 pub use acceptor::{Acceptor, Refusal};
 pub use accepts::{Accepted, accept};
-pub use connection::Connection;
+pub use connection::{Connection, Turn};
 pub use deadline::Deadline;
-pub use entrance::Entrance;
-pub use hall::Hall;
+pub use event_loop::EventLoop;
 pub use listener::listen;
-pub use place::Place;
+pub use poller::Poller;
 pub use room::Room;
-pub use waits::{Phase, Waits};
+pub use slot::Slot;
+pub use timeouts::{Phase, Timeouts};

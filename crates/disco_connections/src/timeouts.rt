@@ -1,8 +1,8 @@
-//! How long a connection is waited for.
+//! The timeouts of connections.
 ghost use Rattle.std.specs.Prelude.{◌≡◌};
-ghost use Rattle.disco_connections.specs.Waits.{longest};
+ghost use Rattle.disco_connections.specs.Timeouts.{longest};
 
-/// What a connection is waited for.
+/// What a timeout is for.
 #[derive(Clone, Copy, Debug, PartialEq, Eq)]
 pub enum Phase {
     /// The first byte of a next request.
@@ -13,13 +13,13 @@ pub enum Phase {
     Body,
     /// Room for the rest of a reply.
     Reply,
-    /// Its end, behind a last reply.
+    /// Its end behind a last reply.
     Ending,
 }
 
-/// How long a connection is waited for, in milliseconds.
+/// The timeouts of a connection, in milliseconds.
 #[derive(Clone, Copy, Debug)]
-pub struct Waits {
+pub struct Timeouts {
     /// The longest silence between requests.
     pub between: u64,
     /// The longest time from a head's first bytes to its end.
@@ -32,17 +32,17 @@ pub struct Waits {
     pub piece: u64,
     /// How long what comes behind a last reply is read and dropped.
     pub ending: u64,
-    /// How often it is looked which connections are waited for no longer.
+    /// How often deadlines are checked.
     pub look: u64,
 }
 
-impl Waits {
+impl Timeouts {
     /// Those of a server: 75 seconds between requests, 30 for a head, 60 for a body, 30 for a reply and
-    /// one more for each 65,536 bytes of it, and 2 behind the last. It is looked each second.
-    pub fn of_server() -> Waits
+    /// one more for each 65,536 bytes of it, and 2 behind the last. Deadlines are checked each second.
+    pub fn of_server() -> Timeouts
         ensures { result ≡ record { between = 75000; head = 30000; body = 60000; reply = 30000; piece = 1000; ending = 2000; look = 1000 } }
     {
-        Waits {
+        Timeouts {
             between: 75_000,
             head: 30_000,
             body: 60_000,
@@ -53,8 +53,7 @@ impl Waits {
         }
     }
 
-    /// How many milliseconds a connection is waited for, up to 2^64 - 1, from when what it is waited for
-    /// began; a reply has so many bytes then.
+    /// The timeout of a phase in milliseconds, up to 2^64 - 1. A reply has so many bytes when it begins.
     pub fn longest(&self, phase: Phase, bytes: u64) -> u64
         ensures { result ≡ longest self.now phase bytes }
     {
