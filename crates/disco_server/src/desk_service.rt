@@ -8,7 +8,7 @@ use crate::shared::Shared;
 use disco_calls::Routes;
 use disco_http::Service;
 use disco_message::{Reply, Request};
-use disco_press::{Desk, Naming, Seat};
+use disco_press::{Desk, Naming, Seat, Seen};
 use std::alloc::Global;
 use std::sync::{Mutex, Wait};
 
@@ -57,6 +57,8 @@ pub struct DeskService<'a, J: Naming, R, C, G> {
 }
 
 impl<'a, J: Naming, R, C, G> DeskService<'a, J, R, C, G> {
+    ghost use Rattle.disco_press.specs.Seats.{seat_told};
+
     /// A service for the connections of one worker, of which there was none yet.
     pub fn new(
         context: &'a ServerContext<'a, J, R, G>,
@@ -76,11 +78,15 @@ impl<'a, J: Naming, R, C, G> DeskService<'a, J, R, C, G> {
         }
     }
 
-    /// From now on the connection of this number is served.
-    pub(crate) fn begin(&mut self, number: u64)
-        ensures { self.new ≡ record self.old { connection = number } }
+    /// From now on the connection of this number is served. The seat knows what was seen on it: another
+    /// worker may have served it before. Of a new connection nothing was seen.
+    pub fn begin(&mut self, number: u64, seen: Option<Seen<J>>)
+        ensures { self.new ≡ record self.old { connection = number; seat = seat_told self.old.seat seen } }
     {
         self.connection = number;
+        if let Some(seen) = seen {
+            self.seat.tell(seen);
+        }
     }
 }
 

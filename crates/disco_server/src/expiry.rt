@@ -1,4 +1,4 @@
-//! Runs that let leases run out, some instances under each hold of the desk.
+//! Expiry: instances whose leases have run out are cancelled, some in each step.
 ghost use Rattle.std.specs.Prelude.{◌≡◌, ◌++◌, ◌∷◌, ◌≤◌, [], IfErr, IfOk, MatchOption, None, Some, drop, take, vec_len};
 ghost use Rattle.std.specs.Vec.{vec_capacity};
 ghost use Rattle.disco_values.specs.declared.fault.Fault.TheVariants.{OutOfMemory};
@@ -12,13 +12,13 @@ use std::alloc::AllocError;
 use std::collections::VecDeque;
 use std::marker::Model;
 
-/// How many instances a run looks at under one hold of the desk, at most.
+/// How many instances one step looks at, at most.
 const HELD: usize = 100;
 
-/// The keys that are left of those that a run took when it began, in their order.
+/// The keys that are left of those that were due when an expiry began, in their order.
 #[derive(Drop)]
 pub(crate) struct Expiry {
-    /// Those of the next hold, or of the last one where it was stopped.
+    /// Those of the next step, or of the last one where it was stopped.
     next: Vec<Key>,
     /// Those behind them.
     behind: VecDeque<Key>,
@@ -43,7 +43,7 @@ fn first_of(behind: &mut VecDeque<Key>) -> Option<Key>
     behind.pop_front()
 }
 
-/// As many keys as one hold looks at are next, where there are as many.
+/// Moves keys up to the number that one step looks at.
 fn fill(next: &mut Vec<Key>, behind: &mut VecDeque<Key>)
     requires few { vec_len next.old ≤ 100 }
     requires room { 100 ≤ vec_capacity next.old }
@@ -60,7 +60,7 @@ fn fill(next: &mut Vec<Key>, behind: &mut VecDeque<Key>)
     }
 }
 
-/// Cancels those of the first keys whose leases have run out by a moment. Why that stopped, if it did.
+/// Cancels those of the first keys whose leases have run out by a moment. Why it stopped, if it did.
 fn cancel_first<J: Naming>(
     desk: &mut Desk<J>,
     next: &mut Vec<Key>,
@@ -83,14 +83,14 @@ fn cancel_first<J: Naming>(
     }
 }
 
-/// As [`cancel_first`], of a run.
+/// As [`cancel_first`], of an expiry.
 fn cancel_next<J: Naming>(desk: &mut Desk<J>, run: &mut Expiry, now: u64) -> Option<Fault>
     ensures { LetsRunOut now desk.old desk.new run.old run.new result }
 {
     cancel_first(desk, &mut run.next, &mut run.behind, now)
 }
 
-/// A run of these keys.
+/// An expiry of these keys.
 fn run_of(keys: Vec<Key>) -> Result<Expiry, AllocError>
     ensures { IfOk result (λ run. run ≡ keys.items) }
 {
@@ -112,7 +112,7 @@ fn is_left(run: &Expiry) -> bool
     }
 }
 
-/// Begins a run at a moment. The run, and whether it goes on at once.
+/// Begins an expiry at a moment. Gives it, and whether a step follows at once.
 fn begin<J: Naming>(desk: &Desk<J>, now: u64) -> (Option<Expiry>, Result<bool, Fault>)
     ensures { RunsOn now desk.now None result.1 desk.now result.0 }
 {
@@ -122,7 +122,7 @@ fn begin<J: Naming>(desk: &Desk<J>, now: u64) -> (Option<Expiry>, Result<bool, F
     }
 }
 
-/// A run of the keys that it takes at a moment.
+/// An expiry of the keys that are due at a moment.
 fn taken<J: Naming>(desk: &Desk<J>, now: u64) -> Result<Expiry, Fault>
     ensures keys { IfOk result (λ run. (p : Past) → HubStandsFor desk.now.hub p → run ≡ taken_in p now) }
     ensures memory { IfErr result (λ e. e ≡ OutOfMemory) }
@@ -131,7 +131,7 @@ fn taken<J: Naming>(desk: &Desk<J>, now: u64) -> Result<Expiry, Fault>
     Ok(run_of(keys)?)
 }
 
-/// Goes on with a run at a moment. What is left of it, and whether it goes on at once.
+/// Takes the next step of an expiry. Gives what is left of it, and whether another step follows at once.
 fn go_on<J: Naming>(
     desk: &mut Desk<J>,
     mut run: Expiry,
@@ -148,8 +148,8 @@ fn go_on<J: Naming>(
     }
 }
 
-/// Goes on with the run that is open, or begins one where none is. What is left of it then, and whether
-/// it goes on at once: until no key is left.
+/// Takes the next step of the open expiry, or begins one. Gives what is left of it, and whether another
+/// step follows at once: until no key is left.
 pub(crate) fn run_on<J: Naming>(
     desk: &mut Desk<J>,
     begun: Option<Expiry>,

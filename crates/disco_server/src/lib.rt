@@ -35,7 +35,7 @@ pub use disco_connections::listen;
 pub use gate::{Gate, Open, Point};
 pub use hub::answer_hub;
 pub use locked::answer;
-pub use publisher::{Step, publish_step, publish_step_locked};
+pub use publisher::{Step, publish_round, publish_step};
 pub use service::HubService;
 pub use shared::Shared;
 pub use startup::{start, start_with};

@@ -66,17 +66,28 @@ pub fn publish_step<J: Naming, R: Wait>(rt: &R, desk: &mut Desk<J>) -> Result<St
     }
 }
 
-/// Takes the next step of a publisher under the lock, as [`publish_step`] does, and gives the lock
-/// back.
-///
-/// # Errors
-///
-/// `OutOfMemory` alone.
-pub fn publish_step_locked<J: Naming, R: Wait>(rt: &R, desk: &Mutex<Desk<J>>) -> Result<Step, Fault>
+/// Takes the next step of a publisher under the lock.
+fn step_locked<J: Naming, R: Wait>(rt: &R, desk: &Mutex<Desk<J>>) -> Result<Step, Fault>
     ensures { IfErr result (λ fault. fault ≡ OutOfMemory) }
 {
     let mut guard = desk.lock(rt);
     let step = publish_step(rt, &mut *guard);
     MutexGuard::unlock(guard);
     step
+}
+
+/// Publishes the round that is open, or else a new one. Others get the lock between two steps.
+///
+/// # Errors
+///
+/// `OutOfMemory` alone. Then the round stays open.
+pub fn publish_round<J: Naming, R: Wait>(rt: &R, desk: &Mutex<Desk<J>>) -> Result<(), Fault>
+    ensures { IfErr result (λ fault. fault ≡ OutOfMemory) }
+{
+    for _ in rt.forever() {
+        if step_locked(rt, desk)? == Step::Published {
+            return Ok(());
+        }
+    }
+    unreachable!()
 }

@@ -7,9 +7,9 @@ use crate::desk_service::ServerContext;
 use crate::gate::Gate;
 use crate::shared::Shared;
 use crate::worker::{Worker, work};
-use disco_connections::{Hall, Refusal, Waits};
+use disco_connections::{EventLoop, Refusal, Timeouts};
 use disco_message::Limits;
-use disco_press::{Desk, Naming, Seat};
+use disco_press::{Desk, Naming, Seat, Seen};
 use disco_values::Fault;
 use std::alloc::{AllocError, Global};
 use std::io::ErrorKind;
@@ -21,20 +21,20 @@ use std::{rt, thread};
 /// How many connections are open at once, at most.
 const OPEN: usize = 16_384;
 
-/// A hall for the connections of a listener.
-fn hall_for<'a, R: Net + rt::Clock>(
+/// An event loop for the connections of a listener.
+fn event_loop_for<'a, J: Naming, R: Net + rt::Clock>(
     rt: &R,
     alloc: Global,
     listener: &'a TcpListener,
     limits: Limits,
-    places: usize,
+    slots: usize,
     connections: u64,
-) -> Result<Hall<'a, Shared>, Fault>
+) -> Result<EventLoop<'a, Shared, Seen<J>>, Fault>
     ensures { IfErr result (λ fault. (fault ≡ OutOfMemory) ⊎ (fault ≡ ReadFailed)) }
 {
-    let waits = Waits::of_server();
-    match Hall::new(rt, alloc, listener, limits, waits, places, connections) {
-        Ok(hall) => Ok(hall),
+    let timeouts = Timeouts::of_server();
+    match EventLoop::new(rt, alloc, listener, limits, timeouts, slots, connections) {
+        Ok(event_loop) => Ok(event_loop),
         Err(error) => match error.kind() {
             ErrorKind::OutOfMemory => Err(Fault::OutOfMemory),
             _ => Err(Fault::ReadFailed),
@@ -62,7 +62,7 @@ fn begin<'s, 'a: 's, E, J, R, C, G, T, F>(
     scope: &'s Scope<'s, E>,
     rt: &'s R,
     alloc: Global,
-    hall: &'s Hall<'s, Shared>,
+    event_loop: &'s EventLoop<'s, Shared, Seen<J>>,
     workers: Vec<Worker<'a, J, R, C, G>>,
     ready: F,
 ) -> Result<T, Fault>
@@ -76,9 +76,9 @@ where
     ensures made { IfOk result (λ made. F.post ready (Ok made)) }
     ensures fault { IfErr result (λ fault. (fault ≡ ReadFailed) ⊎ F.post ready (Err fault)) }
 {
-    let mut entry = hall.entrance.lock(rt);
+    let mut entry = event_loop.poller.lock(rt);
     for worker in workers {
-        let started = scope.spawn(move || work(rt, alloc, hall, worker));
+        let started = scope.spawn(move || work(rt, alloc, event_loop, worker));
         if started.is_err() {
             entry.acceptor.refuse(Refusal::ByHost);
             return Err(Fault::ReadFailed);
@@ -96,7 +96,7 @@ where
 fn run<J, R, C, G, T, F>(
     rt: &R,
     alloc: Global,
-    hall: &Hall<'_, Shared>,
+    event_loop: &EventLoop<'_, Shared, Seen<J>>,
     workers: Vec<Worker<'_, J, R, C, G>>,
     ready: F,
 ) -> Result<T, Fault>
@@ -115,11 +115,11 @@ where
         rt,
         move |scope|
             requires { F.pre ready }
-        { begin(scope, rt, alloc, hall, workers, ready) },
+        { begin(scope, rt, alloc, event_loop, workers, ready) },
     )
 }
 
-/// Serves as [`start`] does, with room for so many connections at once (`places`), and calls `ready` once all workers
+/// Serves as [`start`] does, with room for so many connections at once (`slots`), and calls `ready` once all workers
 /// are there, before any of them takes a connection. Gives what it made.
 ///
 /// # Errors
@@ -133,7 +133,7 @@ pub fn start_with<'a, J, R, C, G, T, F>(
     seats: Vec<Seat<J>>,
     limits: &Limits,
     connections: u64,
-    places: usize,
+    slots: usize,
     clock: C,
     gate: &'a G,
     ready: F,
@@ -151,9 +151,9 @@ where
 {
     let context = ServerContext::new(rt, alloc, desk, gate);
     let workers = workers_for(&context, seats, *limits, clock)?;
-    let hall = hall_for(rt, alloc, &listener, *limits, places, connections)?;
-    let made = run(rt, alloc, &hall, workers, ready)?;
-    hall.into_outcome()?;
+    let event_loop = event_loop_for(rt, alloc, &listener, *limits, slots, connections)?;
+    let made = run(rt, alloc, &event_loop, workers, ready)?;
+    event_loop.into_outcome()?;
     Ok(made)
 }
 
@@ -161,7 +161,7 @@ where
 /// has a connection only while there is something to do for it. Returns once so many connections in
 /// all have ended, and never where that is 0; with no seat none is taken.
 ///
-/// A connection is waited for as a server does ([`Waits::of_server`]). At most 16,384 are open at once:
+/// A connection is waited for as a server does ([`Timeouts::of_server`]). At most 16,384 are open at once:
 /// for one more the one ends that is silent longest between two requests.
 ///
 /// # Errors

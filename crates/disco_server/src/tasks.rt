@@ -1,6 +1,6 @@
-//! What is done to a desk again and again, and how often.
+//! The timed tasks: their periods and their steps.
 ghost use Rattle.std.specs.Prelude.{◌≡◌};
-ghost use Rattle.disco_server.specs.Tasks.{PublishesOn, Tends, next_go, period_of};
+ghost use Rattle.disco_server.specs.Tasks.{PublishesOn, TakesTaskStep, next_step, period_of};
 
 use crate::expiry::{Expiry, run_on};
 use crate::publisher::{Step, publish_step};
@@ -14,7 +14,7 @@ const PUBLISHER_PERIOD: u64 = 30_000;
 /// Milliseconds between two cleanings of the recent changes.
 const CLEANER_PERIOD: u64 = 30_000;
 
-/// Milliseconds of changes that a cleaning forgets under one hold of the desk.
+/// Milliseconds of changes that a cleaning forgets in one step.
 const CLEANER_STEP: u64 = 1_000;
 
 /// Milliseconds between two closings of a minute.
@@ -23,7 +23,7 @@ const MINUTE_PERIOD: u64 = 60_000;
 /// Milliseconds between two runs that let leases run out.
 const EXPIRY_PERIOD: u64 = 60_000;
 
-/// What a timed worker does.
+/// A timed task.
 #[derive(Clone, Copy, Debug)]
 pub(crate) enum Task {
     Publish,
@@ -35,7 +35,7 @@ pub(crate) enum Task {
 pub(crate) const TASKS: [Task; 4] = [Task::Publish, Task::Clean, Task::CloseMinute, Task::Expire];
 
 impl Task {
-    /// How long it is from one time to the next, in milliseconds.
+    /// Its period, in milliseconds.
     pub(crate) fn period(self) -> u64
         ensures { result ≡ period_of self }
     {
@@ -48,15 +48,15 @@ impl Task {
     }
 }
 
-/// The moment of a cleaning's next go: a step behind that of the last, up to now. So a hold of the
-/// desk is as long as it takes to forget what comes in one step, and not in a whole period.
-pub(crate) fn next_go(last: u64, now: u64) -> u64
-    ensures { result ≡ next_go last now }
+/// The moment of a cleaning's next step: a second behind that of the last, up to now. So the desk is
+/// locked as long as it takes to forget the changes of a second, and not of a period.
+pub(crate) fn next_step(last: u64, now: u64) -> u64
+    ensures { result ≡ next_step last now }
 {
     last.saturating_add(CLEANER_STEP).min(now)
 }
 
-/// Takes a publisher's next step. Whether it goes on at once: up to the end of its round.
+/// Takes a publisher's next step. Whether another follows at once: up to the end of the round.
 fn publish_on<J: Naming, R: Wait>(rt: &R, desk: &mut Desk<J>) -> Result<bool, Fault>
     ensures { PublishesOn desk.old result desk.new }
 {
@@ -68,21 +68,20 @@ fn publish_on<J: Naming, R: Wait>(rt: &R, desk: &mut Desk<J>) -> Result<bool, Fa
     }
 }
 
-/// What one go at a task does to a desk that is lent to it, at a moment, and to the run that lets
-/// leases run out, if one is open. What is left of that run, and whether the task goes on at once: a
-/// round, up to its publication, and a run, until none of its keys is left. May wait for a seat that is
-/// inside its look.
+/// Takes one step of a task at a moment. Gives what is left of the open expiry, and whether another step
+/// follows at once: in a round up to its publication, in an expiry until none of its keys is left. May
+/// wait for a seat that is inside its look.
 ///
-/// Refused as `OutOfMemory` in a step of a round, which stays as it was, and where a run begins, of
-/// which nothing is there then; and as a cancel of a run is, with what is gone by then.
-pub(crate) fn tend_once<J: Naming, R: Wait>(
+/// Refused as `OutOfMemory` in a step of a round, which stays as it was, and where an expiry begins; and as
+/// a cancel of an expiry is, with what is gone by then.
+pub(crate) fn take_step<J: Naming, R: Wait>(
     rt: &R,
     desk: &mut Desk<J>,
     task: Task,
     run: Option<Expiry>,
     now: u64,
 ) -> (Option<Expiry>, Result<bool, Fault>)
-    ensures { Tends task now desk.old run result.1 desk.new result.0 }
+    ensures { TakesTaskStep task now desk.old run result.1 desk.new result.0 }
 {
     match task {
         Task::Publish => (run, publish_on(rt, desk)),

@@ -1,11 +1,11 @@
-//! What is done again and again beside the requests.
+//! The timed tasks: each has a thread, beside those that answer requests.
 ghost use Rattle.std.specs.Prelude.{◌≡◌, IfErr};
 ghost use Rattle.disco_values.specs.declared.fault.Fault.TheVariants.{ReadFailed};
 
 use crate::clock::Clock;
 use crate::expiry::Expiry;
 use crate::pauses::Pauses;
-use crate::tasks::{TASKS, Task, next_go, tend_once};
+use crate::tasks::{TASKS, Task, next_step, take_step};
 use crate::timer::Timer;
 use disco_press::{Desk, Naming, Room};
 use disco_values::Fault;
@@ -15,11 +15,10 @@ use std::thread::{Scope, Threads};
 use std::time::Duration;
 use std::{rt, thread};
 
-/// How many milliseconds a worker sleeps before it looks again whether it is to stop, and what is
-/// due.
+/// How many milliseconds a thread sleeps before it looks again whether its task is due, or is to stop.
 const NAP_MILLIS: u64 = 50;
 
-/// How much room the next go at a task takes, where it writes a document that names many instances.
+/// How much room a task's next step takes, where it writes a document that names many instances.
 fn room_of_next<J: Naming>(desk: &Desk<J>, task: Task) -> Option<Room> {
     match task {
         Task::Publish => desk.next_room(),
@@ -29,8 +28,8 @@ fn room_of_next<J: Naming>(desk: &Desk<J>, task: Task) -> Option<Room> {
     }
 }
 
-/// Takes the lock for the next go at a task. Room that it takes is made before, so that nobody waits
-/// for the lock while the host gives the memory.
+/// Takes the lock for a task's next step. The room that it takes is made before, so that nobody waits for
+/// the lock while the host gives the memory.
 fn lock_with_room<'a, J: Naming, R: Wait>(
     rt: &R,
     desk: &'a Mutex<Desk<J>>,
@@ -49,10 +48,10 @@ fn lock_with_room<'a, J: Naming, R: Wait>(
     guard
 }
 
-/// Whether a task goes on at once behind a go at it. A run that is refused memory does once more, where
-/// the desk had a reserve to give up for it. The reserve is taken again once a task is done.
-fn goes_on<J: Naming>(desk: &mut Desk<J>, task: Task, tended: Result<bool, Fault>) -> bool {
-    match tended {
+/// Whether another step follows at once. An expiry that is refused memory goes on where the desk had a
+/// reserve to give up. The reserve is taken again once a task is done.
+fn goes_on<J: Naming>(desk: &mut Desk<J>, task: Task, taken: Result<bool, Fault>) -> bool {
+    match taken {
         Ok(true) => true,
         Ok(false) => {
             desk.take_reserve_again();
@@ -63,8 +62,8 @@ fn goes_on<J: Naming>(desk: &mut Desk<J>, task: Task, tended: Result<bool, Fault
     }
 }
 
-/// One go at a task at a moment, under the lock. Whether the task goes on at once.
-fn go<J: Naming, R: Wait + rt::Clock>(
+/// Takes one step of a task under the lock. Whether another follows at once.
+fn step<J: Naming, R: Wait + rt::Clock>(
     rt: &R,
     desk: &Mutex<Desk<J>>,
     task: Task,
@@ -78,16 +77,16 @@ fn go<J: Naming, R: Wait + rt::Clock>(
     }
     pauses.pause_if_due(rt);
     let mut guard = lock_with_room(rt, desk, task);
-    let (left, tended) = tend_once(rt, &mut *guard, task, run.take(), now);
+    let (left, taken) = take_step(rt, &mut *guard, task, run.take(), now);
     *run = left;
-    let more = goes_on(&mut *guard, task, tended);
+    let more = goes_on(&mut *guard, task, taken);
     MutexGuard::unlock(guard);
     more
 }
 
-/// Does a task at a moment, each go of it under the lock, which others may have between two goes.
-/// Where there is no memory the round stays open for the next time.
-fn tend<J: Naming, R: Wait + rt::Clock>(
+/// Takes the steps of a task that is due. Others may have the lock between two steps. Where there is no
+/// memory, a round stays open for the next time.
+fn take_steps<J: Naming, R: Wait + rt::Clock>(
     rt: &R,
     desk: &Mutex<Desk<J>>,
     task: Task,
@@ -96,14 +95,14 @@ fn tend<J: Naming, R: Wait + rt::Clock>(
     stop: &AtomicBool,
 ) {
     for _ in rt.forever() {
-        if !go(rt, desk, task, &mut None, now, pauses, stop) {
+        if !step(rt, desk, task, &mut None, now, pauses, stop) {
             return;
         }
     }
 }
 
-/// Lets leases run out: the keys that a run takes when it begins are cancelled some at a time, each
-/// where its lease has run out by the moment of its go. What a run is refused is taken the next time.
+/// Lets leases run out: the keys that were due when it began are cancelled some at a time, each where its
+/// lease has run out by the moment of its step. What is refused memory is left to the next time.
 fn expire<J: Naming, R: Wait + rt::Clock, C: Clock>(
     rt: &R,
     desk: &Mutex<Desk<J>>,
@@ -114,14 +113,14 @@ fn expire<J: Naming, R: Wait + rt::Clock, C: Clock>(
     let mut run = None;
     for _ in rt.forever() {
         let now = clock.now();
-        if !go(rt, desk, Task::Expire, &mut run, now, pauses, stop) {
+        if !step(rt, desk, Task::Expire, &mut run, now, pauses, stop) {
             return;
         }
     }
 }
 
-/// Cleans up to a moment, by goes that forget the changes of a step each, so that nobody waits for
-/// all that came in a period.
+/// Cleans up to a moment. Each step forgets the changes of a second, so that nobody waits for all that
+/// came in a period.
 fn clean<J: Naming, R: Wait + rt::Clock>(
     rt: &R,
     desk: &Mutex<Desk<J>>,
@@ -134,13 +133,13 @@ fn clean<J: Naming, R: Wait + rt::Clock>(
         if stop.load(Ordering::SeqCst) || moment >= now {
             return;
         }
-        moment = next_go(moment, now);
-        tend(rt, desk, Task::Clean, moment, pauses, stop);
+        moment = next_step(moment, now);
+        take_steps(rt, desk, Task::Clean, moment, pauses, stop);
     }
 }
 
-/// Does a task each time that it is due, until it is to end.
-fn tend_often<J: Naming, R: Wait + rt::Clock, C: Clock + Copy>(
+/// Runs a task each time that it is due, until it is to stop.
+fn run_when_due<J: Naming, R: Wait + rt::Clock, C: Clock + Copy>(
     rt: &R,
     desk: &Mutex<Desk<J>>,
     mut clock: C,
@@ -158,16 +157,15 @@ fn tend_often<J: Naming, R: Wait + rt::Clock, C: Clock + Copy>(
             match task {
                 Task::Clean => clean(rt, desk, now, &mut pauses, stop),
                 Task::Expire => expire(rt, desk, &mut clock, &mut pauses, stop),
-                other => tend(rt, desk, other, now, &mut pauses, stop),
+                other => take_steps(rt, desk, other, now, &mut pauses, stop),
             }
         }
         thread::sleep(rt, Duration::from_millis(NAP_MILLIS));
     }
 }
 
-/// Starts the timed workers in a scope: they publish and clean every 30,000 milliseconds of the clock,
-/// and close minutes and let leases run out every 60,000, each on a thread of its own, until `stop` is
-/// set.
+/// Starts the timed tasks in a scope, each on a thread of its own, until `stop` is set: the publisher and
+/// the cleaner every 30,000 milliseconds of the clock, the closing of a minute and the expiry every 60,000.
 ///
 /// # Errors
 ///
@@ -187,7 +185,7 @@ where
     ensures { IfErr result (λ fault. fault ≡ ReadFailed) }
 {
     for task in TASKS {
-        let worker = scope.spawn(move || tend_often(rt, desk, clock, task, stop));
+        let worker = scope.spawn(move || run_when_due(rt, desk, clock, task, stop));
         if worker.is_err() {
             stop.store(true, Ordering::SeqCst);
             return Err(Fault::ReadFailed);
@@ -196,7 +194,7 @@ where
     Ok(())
 }
 
-/// Runs the timed workers as [`start_timers`] starts them, and returns once all have ended.
+/// Runs the timed tasks as [`start_timers`] starts them, and returns once all have ended.
 ///
 /// # Errors
 ///
