@@ -14,7 +14,7 @@ pub record IsServicePlan (run : ℕ) (rows : List Row) (s : Service) : Type 0 wh
   pub port : s.port ≡ port_in rows
   pub workers : s.workers ≡ within 64 4 (number_given (codes "workers") rows)
   pub connections : s.connections ≡ unwrap_or (number_given (codes "connections") rows) 0
-  pub places : s.places ≡ within 65536 16384 (number_given (codes "open") rows)
+  pub slots : s.slots ≡ within 65536 16384 (number_given (codes "open") rows)
 
 -- `listening 127.0.0.1:PORT`
 abbrev pub listening_line : ℕ → List ℕ

@@ -8,7 +8,6 @@ mod following;
 mod line;
 mod plan;
 mod registering;
-mod rounds;
 mod running;
 mod showing;
 

@@ -34,7 +34,7 @@ fn service_from(matches: &ArgMatches<'_>, run: u64) -> Service
         port: count(matches, "port", MOST_PORT, 1) as u16,
         workers: count(matches, "workers", MOST_WORKERS, WORKERS) as usize,
         connections: number_given(matches, "connections").unwrap_or(0),
-        places: count(matches, "open", MOST_OPEN, OPEN) as usize,
+        slots: count(matches, "open", MOST_OPEN, OPEN) as usize,
     }
 }
 
@@ -76,7 +76,7 @@ where
         seats,
         &Limits::of_server(),
         service.connections,
-        service.places,
+        service.slots,
         clock,
         &Open,
         move || say(alloc, port, out),

@@ -12,7 +12,7 @@ pub(crate) struct Service {
     /// After how many connections it ends; 0 is no end.
     pub(crate) connections: u64,
     /// How many connections are open at once, at most.
-    pub(crate) places: usize,
+    pub(crate) slots: usize,
     pub(crate) ghost some: { 0 < workers },
     pub(crate) ghost few: { workers ≤ 64 },
 }

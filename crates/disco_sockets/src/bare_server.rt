@@ -1,5 +1,5 @@
 //! A server without a desk: each request is answered with 204.
-use disco_connections::{Hall, Room, Waits};
+use disco_connections::{EventLoop, Room, Timeouts};
 use disco_http::Service;
 use disco_message::{Document, Limits, Reply, Request, StatusCode};
 use std::alloc::{AllocError, Global};
@@ -48,35 +48,41 @@ impl Service for Always {
 fn work<R: Wait + rt::Clock>(
     rt: &R,
     alloc: Global,
-    hall: &Hall<'_, Nothing>,
+    event_loop: &EventLoop<'_, Nothing, ()>,
 ) -> Result<(), AllocError> {
     let mut room = Room::new(alloc, Limits::of_server())?;
+    let mut goes_on = None;
     for _ in rt.forever() {
-        let Some(connection) = hall.next(rt, alloc) else {
+        let taken = match goes_on {
+            Some(connection) => Some(connection),
+            None => event_loop.next(rt, alloc),
+        };
+        let Some(mut connection) = taken else {
             return Ok(());
         };
-        hall.serve(rt, alloc, connection, &mut room, &mut Always);
+        let turn = event_loop.serve(alloc, &mut *connection, &mut room, &mut Always);
+        goes_on = event_loop.leave(rt, connection, turn);
     }
     Ok(())
 }
 
-/// Serves so many connections, with four workers and so many places.
+/// Serves so many connections, with four workers and so many slots.
 pub(crate) fn serve<
     R: Net<Listener = TcpListener, Stream = TcpStream> + Threads + Wait + rt::Clock + Sync,
 >(
     rt: &R,
     alloc: Global,
     listener: &TcpListener,
-    waits: &Waits,
-    places: usize,
+    timeouts: &Timeouts,
+    slots: usize,
     connections: u64,
 ) -> io::Result<()> {
     let limits = Limits::of_server();
-    let hall = Hall::new(rt, alloc, listener, limits, *waits, places, connections)?;
-    let hall = &hall;
+    let event_loop = EventLoop::new(rt, alloc, listener, limits, *timeouts, slots, connections)?;
+    let event_loop = &event_loop;
     thread::scope(thread::scope_env(), rt, move |scope| {
         for _ in 0..WORKERS {
-            let _ = scope.spawn(move || work(rt, alloc, hall));
+            let _ = scope.spawn(move || work(rt, alloc, event_loop));
         }
     });
     Ok(())

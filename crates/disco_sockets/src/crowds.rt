@@ -3,7 +3,7 @@ use crate::bare_server::serve;
 use crate::beating::all_beat;
 use crate::client::visit;
 use crate::slow::{are_answered_late, are_kept_out, gives_way, is_kept};
-use disco_connections::{Waits, listen};
+use disco_connections::{Timeouts, listen};
 use std::alloc::Global;
 use std::net::{Net, SocketAddr, TcpListener, TcpStream};
 use std::sync::Wait;
@@ -37,8 +37,8 @@ pub(crate) enum Crowd {
 
 impl Crowd {
     /// How long connections are waited for.
-    fn waits(self) -> Waits {
-        let mut waits = Waits {
+    fn timeouts(self) -> Timeouts {
+        let mut timeouts = Timeouts {
             between: 20_000,
             head: 20_000,
             body: 20_000,
@@ -50,12 +50,12 @@ impl Crowd {
         match self {
             Crowd::Beats | Crowd::Halves | Crowd::Many => {}
             Crowd::Drips => {
-                waits.head = 300;
-                waits.body = 1_600;
+                timeouts.head = 300;
+                timeouts.body = 1_600;
             }
-            Crowd::Silence => waits.between = 600,
+            Crowd::Silence => timeouts.between = 600,
         }
-        waits
+        timeouts
     }
 
     /// How many connections may be there at once.
@@ -100,12 +100,12 @@ where
 {
     let listener = listen(rt, 0)?;
     let server = listener.local_addr()?;
-    let (waits, ended) = (crowd.waits(), AtomicBool::new(false));
-    let (listener, waits, ended) = (&listener, &waits, &ended);
+    let (timeouts, ended) = (crowd.timeouts(), AtomicBool::new(false));
+    let (listener, timeouts, ended) = (&listener, &timeouts, &ended);
     let (served, tried) = join(
         rt,
         move || {
-            let served = serve(rt, alloc, listener, waits, crowd.places(), CONNECTIONS);
+            let served = serve(rt, alloc, listener, timeouts, crowd.places(), CONNECTIONS);
             ended.store(true, Ordering::SeqCst);
             served
         },

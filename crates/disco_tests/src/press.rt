@@ -2,8 +2,8 @@
 ghost use Rattle.disco_press.specs.Openings.{Opens};
 
 use crate::given::{apps, cancel, defaults, refusal, registration};
-use crate::publishing::publish;
 use disco_press::{Desk, Looked, Naming, Opening, Seat, open};
+use disco_server::publish_round;
 use disco_values::Fault;
 use std::alloc::Global;
 use std::sync::{Mutex, MutexGuard, Wait};
@@ -45,23 +45,24 @@ fn found(looked: Looked) -> u64 {
     }
 }
 
-/// Registers an instance, and publishes the document of all apps.
-fn fill<J: Naming, R: Wait>(rt: &R, alloc: Global, desk: &mut Desk<J>) -> Result<(), Fault> {
+/// Registers an instance, and loads the document of all apps.
+fn fill<J: Naming>(alloc: Global, desk: &mut Desk<J>) -> Result<(), Fault> {
     desk.write(registration(alloc, "1")?, 1)?;
     let _ = desk.load(&apps())?;
-    desk.begin()?;
-    publish(rt, desk)
+    Ok(())
 }
 
-fn fill_locked<J: Naming, R: Wait>(
+/// As [`fill`], under the lock; then publishes a round.
+fn publish_one<J: Naming, R: Wait>(
     rt: &R,
     alloc: Global,
     desk: &Mutex<Desk<J>>,
 ) -> Result<(), Fault> {
     let mut guard = desk.lock(rt);
-    let filled = fill(rt, alloc, &mut *guard);
+    let filled = fill(alloc, &mut *guard);
     MutexGuard::unlock(guard);
-    filled
+    filled?;
+    publish_round(rt, desk)
 }
 
 /// Learns until a document is seen.
@@ -118,7 +119,7 @@ fn at_once<J: Naming + Send + Sync, R: Threads + Wait + Sync>(
 ) -> Result<Seen, Fault> {
     let (filled, (version, _two)) = join(
         rt,
-        move || fill_locked(rt, alloc, desk),
+        move || publish_one(rt, alloc, desk),
         move || see(rt, desk, two),
     );
     let cancels = cancel_twice(rt, alloc, desk, one);

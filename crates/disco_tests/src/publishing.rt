@@ -7,7 +7,7 @@ use std::sync::atomic::{AtomicU64, Ordering};
 use std::sync::{Mutex, MutexGuard, Wait};
 
 /// Copies all that is left of the open round, and publishes.
-pub(crate) fn publish<J: Naming, R: Wait>(rt: &R, desk: &mut Desk<J>) -> Result<(), Fault> {
+fn publish<J: Naming, R: Wait>(rt: &R, desk: &mut Desk<J>) -> Result<(), Fault> {
     for _ in 0..u64::MAX {
         if desk.copy_one()?.is_none() {
             break;

@@ -4,12 +4,11 @@ ghost use Rattle.disco_press.specs.Openings.{Opens};
 use crate::fleets::following::{Follower, connect_all, hang_up_all, refresh_all};
 use crate::fleets::plan::Plan;
 use crate::fleets::registering::register_all;
-use crate::fleets::rounds::{publish_round, publish_rounds};
 use crate::fleets::showing::lines_now;
 use disco_http::{Sink, write_all};
 use disco_message::Limits;
 use disco_press::{Desk, Naming, Opening, Seat, open};
-use disco_server::{Open, SystemClock, listen, start_with};
+use disco_server::{Open, SystemClock, listen, publish_round, start_with};
 use disco_values::{Fault, Settings};
 use std::alloc::Global;
 use std::net::{Net, TcpListener, TcpStream};
@@ -37,6 +36,18 @@ pub(super) enum Turn {
 struct Came {
     clients: Vec<Follower>,
     lines: String,
+}
+
+/// Publishes so many rounds.
+fn publish_rounds<J: Naming, R: Wait>(
+    rt: &R,
+    desk: &Mutex<Desk<J>>,
+    rounds: u64,
+) -> Result<(), Fault> {
+    for _ in 0..rounds {
+        publish_round(rt, desk)?;
+    }
+    Ok(())
 }
 
 /// Instances are registered and rounds are published on threads of their own, while clients refresh.
