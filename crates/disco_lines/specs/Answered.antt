@@ -6,7 +6,6 @@ use Rattle.disco_values.specs.declared.fault.Fault.TheVariants.{OutOfMemory, Rea
 use Rattle.disco_values.specs.declared.settings.Settings.{Settings}
 use Rattle.disco_core.specs.State.{rules}
 use Rattle.disco_world.specs.Answers.{AreAnswers, AreExact, AreKnown, AreServed, IsFirstBadEvent, NeverFall}
-use Rattle.disco_world.specs.Caching.{AreCached}
 use Rattle.disco_world.specs.declared.event.Event.{Event}
 use Rattle.disco_world.specs.declared.event.Reply.{Reply}
 use Rattle.disco_lines.specs.Answers.{answer_lines}
@@ -17,9 +16,8 @@ pub record AreReplies (settings : Settings) (given : Option (List ℕ)) (replies
   pub events : List Event
   pub read : AreRead given events
   pub each : length replies ≡ length events
-  pub answers : AreAnswers (rules settings) settings.run events replies
+  pub answers : AreAnswers settings.entries (rules settings) settings.run events replies
   pub served : AreServed (rules settings) settings.run events replies
-  pub cached : AreCached settings.entries (rules settings) settings.run events replies
   pub known : AreKnown (rules settings) settings.run events replies
   pub exact : AreExact (rules settings) settings.run events replies
   pub rising : NeverFall (rules settings) settings.run events replies
@@ -30,7 +28,7 @@ IsInputAnswered settings given old new = (replies : List Reply) × AreReplies se
 
 -- the fault names the first event of the whole input that can't be run
 abbrev pub NamesBadEvent : Settings → Option (List ℕ) → Fault → Type 0
-NamesBadEvent settings known fault = (events : List Event) × AreRead known events × IsFirstBadEvent (rules settings) settings.run events fault
+NamesBadEvent settings known fault = (events : List Event) × AreRead known events × IsFirstBadEvent settings.entries (rules settings) settings.run events fault
 
 -- why events may get no answers, or not all: want of memory, a failed read or write, of which there has to be a sign, or an input that can't be run
 abbrev pub IsRunFault : Settings → Option (List ℕ) → Type 0 → Type 0 → Fault → Type 0

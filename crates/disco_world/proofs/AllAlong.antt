@@ -1,7 +1,7 @@
 -- After each event of a run, what clients can take is true of a version, and each copy means the version at which it is known.
 use Rattle.std.specs.FinMap.{get}
 use Rattle.std.specs.Option.{option_map_or}
-use Rattle.std.proofs.Common.{◌≡◌, ℕ, zero, suc, ◌≤◌, arith, Bool, true, false, cond, eqb, List, [], ◌∷◌, ◌++◌, length, Option, Some, None, slice_get, refl, sym, ap, subst, ◌∙◌, add-one}
+use Rattle.std.proofs.Common.{◌≡◌, ℕ, zero, suc, ◌≤◌, arith, Bool, true, false, cond, eqb, List, [], ◌∷◌, ◌++◌, length, Option, Some, None, Ok, Err, slice_get, refl, sym, ap, subst, ◌∙◌, add-one}
 use Rattle.std.specs.declared.alloc.Global.{Global}
 use Rattle.std.specs.declared.sync.Arc.{Arc}
 use Rattle.std.proofs.lemmas.Bool.{eqb-true}
@@ -14,23 +14,23 @@ use Rattle.disco_core.specs.Past.{history}
 use Rattle.disco_core.specs.State.{Rules}
 use Rattle.disco_client.specs.Tracks.{Histories}
 use Rattle.disco_client.specs.declared.certified.CertifiedCopy.{CertifiedCopy}
-use Rattle.disco_world.specs.Answers.{AreAnswers, AreExact, AreKnown, IsAnswer, NeverFall}
-use Rattle.disco_world.specs.Certified.{given}
-use Rattle.disco_world.specs.Clients.{MeansVersion, client_after}
-use Rattle.disco_world.specs.Events.{Effect, World, loads, looks, takes, certifies, bad, after, after_at, effect, doc_in, doc_of_event, for_clients, history_of, ran_out, world}
-use Rattle.disco_world.specs.Steps.{AreReadable, certified_done, clients_done}
+use Rattle.disco_world.specs.Answers.{AreExact, AreKnown, NeverFall}
+use Rattle.disco_world.specs.Clients.{client_after, given}
+use Rattle.disco_world.specs.Events.{Effect, World, writes, loads, looks, takes, certifies, bad, effect, doc_in, doc_of_event, for_clients}
+use Rattle.disco_world.specs.Outcomes.{after, after_at, history_of, world}
+use Rattle.disco_world.specs.Steps.{AreAnswered, AreReadable, IsAnswer, certified_after, clients_after}
 use Rattle.disco_world.specs.declared.clients.Client.{Client}
 use Rattle.disco_world.specs.declared.event.Event.{Event}
 use Rattle.disco_world.specs.declared.event.Event.TheVariants.{Step, Take, Certify}
 use Rattle.disco_world.specs.declared.event.Step.TheVariants.{Minute}
 use Rattle.disco_world.specs.declared.event.Reply.{Reply}
-use Rattle.disco_world.specs.declared.event.Reply.TheVariants.{Doc}
+use Rattle.disco_world.specs.declared.event.Reply.TheVariants.{Doc, Taken, Certified}
 use Rattle.disco_world.proofs.CertifiedTakes.{IsExact, Rises, given_exact, given_rises, rises_alone}
 use Rattle.disco_world.proofs.Editions.{Sees, ShowsFresh, sees_at}
 use Rattle.disco_world.proofs.Histories.{Place, below, at, beyond, get_front, get_last, get_past, place_of}
 use Rattle.disco_world.proofs.LongerHistories.{AreNumbered, between, grows, now_is, numbered_at}
-use Rattle.disco_world.proofs.EffectParts.{certified_are, clients_are}
-use Rattle.disco_world.proofs.Known.{IsOf, at_on, delta_means, full_means, means_on, of_now, of_on, readable}
+use Rattle.disco_world.proofs.EffectParts.{parts}
+use Rattle.disco_world.proofs.Known.{IsOf, MeansVersion, at_on, delta_means, full_means, means_on, of_now, of_on, readable}
 
 -- ---- what is true after each event
 
@@ -75,12 +75,14 @@ kind_of d e false kind is = absurd (cc)
 served_is : (rules : Rules) (w : World) → Seen w → (what : Effect) (r : Reply) (d : Payload) → IsAnswer rules w what r → doc_in (Some r) ≡ Some d → IsOf (history_of w) d
 served_is rules w seen (loads k) (Doc p) d answer is =
     let kind = kind_of p d (for_clients p.value.key.query) refl is in
-    subst (IsOf (history_of w)) kind.1 (of_now (history_of w) w.past.run (history w.past) p.value (now_is w) answer.1.true_now kind.0)
+    subst (IsOf (history_of w)) kind.1 (of_now (history_of w) w.past.run (history w.past) p.value (now_is w) answer.may.1.true_now kind.0)
 served_is rules w seen (looks (Some k)) (Doc p) d answer is =
     let kind = kind_of p d (for_clients p.value.key.query) refl is in
-    subst (IsOf (history_of w)) kind.1 (seen k p.value answer kind.0)
-served_is rules w seen (looks None) (Doc p) d answer is = absurd (cc)
-served_is rules w seen what (Doc p) d answer is = absurd answer
+    subst (IsOf (history_of w)) kind.1 (seen k p.value answer.may.0 kind.0)
+served_is rules w seen (looks None) (Doc p) d answer is = absurd (let none = answer.may.0 in cc)
+served_is rules w seen (writes now (Ok ask)) (Doc p) d answer is = absurd answer.may.0
+served_is rules w seen (writes now (Err cause)) (Doc p) d answer is = absurd answer.may.0
+served_is rules w seen what (Doc p) d answer is = absurd answer.may.0
 served_is rules w seen what r d answer is = absurd (cc)
 
 docs_after : (rules : Rules) (w : World) → Seen w → (what : Effect) (r : Reply) → Holds w → IsAnswer rules w what r → (k : ℕ) (d : Payload) → doc_of_event (w.replies ++ r ∷ []) k ≡ Some d → IsOf (history_of w) d
@@ -106,14 +108,9 @@ one_of : (hs : Histories) (clients : ℕ → Option Client) (client q : ℕ) (d 
 one_of hs clients client q d c true is means e = took hs d (clients client) c is (means client) e
 one_of hs clients client q d c false is means e = means q c e
 
-copies_done : (hs : Histories) (clients : ℕ → Option Client) (what : Effect) (q : ℕ) (c : Client) → IsGood hs what → ((q : ℕ) (o : Client) → clients q ≡ Some o → MeansVersion hs o) → clients_done clients what q ≡ Some c → MeansVersion hs c
-copies_done hs clients (takes client d) q c is means e = one_of hs clients client q d c (eqb q client) is means e
-copies_done hs clients what q c is means e = means q c e
-
-copies_after : (hs : Histories) (clients : ℕ → Option Client) (what : Effect) (r : Bool) (q : ℕ) (c : Client) → IsGood hs what → ((q : ℕ) (o : Client) → clients q ≡ Some o → MeansVersion hs o)
-    → cond r clients (clients_done clients what) q ≡ Some c → MeansVersion hs c
-copies_after hs clients what true q c is means e = means q c e
-copies_after hs clients what false q c is means e = copies_done hs clients what q c is means e
+copies_after : (hs : Histories) (clients : ℕ → Option Client) (what : Effect) (r : Reply) (q : ℕ) (c : Client) → IsGood hs what → ((q : ℕ) (o : Client) → clients q ≡ Some o → MeansVersion hs o) → clients_after clients what r q ≡ Some c → MeansVersion hs c
+copies_after hs clients (takes client d) (Taken equal version) q c is means e = one_of hs clients client q d c (eqb q client) is means e
+copies_after hs clients what r q c is means e = means q c e
 
 -- ---- copies of certified clients
 
@@ -122,14 +119,9 @@ one_exact : (hs : Histories) (clients : ℕ → Option CertifiedCopy) (client q 
 one_exact hs clients client q d k true is exact e = given_exact hs d (clients client) k is (exact client) e
 one_exact hs clients client q d k false is exact e = exact q k e
 
-exact_done : (hs : Histories) (clients : ℕ → Option CertifiedCopy) (what : Effect) (q : ℕ) (k : CertifiedCopy) → IsGood hs what → ((q : ℕ) (o : CertifiedCopy) → clients q ≡ Some o → IsExact hs o) → certified_done clients what q ≡ Some k → IsExact hs k
-exact_done hs clients (certifies client d) q k is exact e = one_exact hs clients client q d k (eqb q client) is exact e
-exact_done hs clients what q k is exact e = exact q k e
-
-exact_after : (hs : Histories) (clients : ℕ → Option CertifiedCopy) (what : Effect) (r : Bool) (q : ℕ) (k : CertifiedCopy) → IsGood hs what → ((q : ℕ) (o : CertifiedCopy) → clients q ≡ Some o → IsExact hs o)
-    → cond r clients (certified_done clients what) q ≡ Some k → IsExact hs k
-exact_after hs clients what true q k is exact e = exact q k e
-exact_after hs clients what false q k is exact e = exact_done hs clients what q k is exact e
+exact_after : (hs : Histories) (clients : ℕ → Option CertifiedCopy) (what : Effect) (r : Reply) (q : ℕ) (k : CertifiedCopy) → IsGood hs what → ((q : ℕ) (o : CertifiedCopy) → clients q ≡ Some o → IsExact hs o) → certified_after clients what r q ≡ Some k → IsExact hs k
+exact_after hs clients (certifies client d) (Certified taken run version) q k is exact e = one_exact hs clients client q d k (eqb q client) is exact e
+exact_after hs clients what r q k is exact e = exact q k e
 
 -- ---- one event on, and all
 
@@ -141,36 +133,36 @@ holds_after rules w numbered seen e r holds answer =
     let grow = grows rules w numbered what r answer in
     record {
       docs = λ k d is. of_on hs gs d grow (docs_after rules w seen what r holds answer k d is);
-      copies = λ q c is. means_on hs gs c grow (copies_after hs w.clients what (ran_out r) q c (good rules w e holds) holds.copies (sym (ap (λ f. f q) (clients_are rules w what r)) ∙ is));
-      exact = λ q k is. at_on (hs k.known.run) (gs k.known.run) k.known k.copy (grow k.known.run) (exact_after hs w.certified what (ran_out r) q k (good rules w e holds) holds.exact (sym (ap (λ f. f q) (certified_are rules w what r)) ∙ is));
+      copies = λ q c is. means_on hs gs c grow (copies_after hs w.clients what r q c (good rules w e holds) holds.copies (sym (ap (λ f. f q) (parts rules w what r).clients) ∙ is));
+      exact = λ q k is. at_on (hs k.known.run) (gs k.known.run) k.known k.copy (grow k.known.run) (exact_after hs w.certified what r q k (good rules w e holds) holds.exact (sym (ap (λ f. f q) (parts rules w what r).certified) ∙ is));
     }
 
 no_docs : (k : ℕ) (d : Payload) → doc_of_event [] k ≡ Some d → ⊥
 no_docs zero d is = cc
 no_docs (suc i) d is = cc
 
-seen_at : (rules : Rules) (first_run : ℕ) (es : List Event) (rs : List Reply) → AreAnswers rules first_run es rs → (i : ℕ) → Sees rules first_run es rs i → Seen (world rules first_run es rs i)
+seen_at : (rules : Rules) (first_run : ℕ) (es : List Event) (rs : List Reply) → AreAnswered rules first_run es rs → (i : ℕ) → Sees rules first_run es rs i → Seen (world rules first_run es rs i)
 seen_at rules first_run es rs answers i sees = λ k d is kind.
     let was = sees.sees.shown k d is in
     let v = world rules first_run es rs was.after in
     of_on (history_of v) (history_of (world rules first_run es rs i)) d (between rules first_run es rs answers was.after i was.within) (of_now (history_of v) v.past.run (history v.past) d (now_is v) was.served.true_now kind)
 
-one_on : (rules : Rules) (first_run : ℕ) (es : List Event) (rs : List Reply) → AreAnswers rules first_run es rs → (i : ℕ) → Seen (world rules first_run es rs i) → Holds (world rules first_run es rs i) → (e : Option Event) → slice_get es i ≡ e → (r : Option Reply) → slice_get rs i ≡ r → Holds (after_at rules (world rules first_run es rs i) e r)
+one_on : (rules : Rules) (first_run : ℕ) (es : List Event) (rs : List Reply) → AreAnswered rules first_run es rs → (i : ℕ) → Seen (world rules first_run es rs i) → Holds (world rules first_run es rs i) → (e : Option Event) → slice_get es i ≡ e → (r : Option Reply) → slice_get rs i ≡ r → Holds (after_at rules (world rules first_run es rs i) e r)
 one_on rules first_run es rs answers i seen holds (Some e) event (Some r) reply = holds_after rules (world rules first_run es rs i) (numbered_at rules first_run es rs answers i) seen e r holds (answers i e r event reply)
 one_on rules first_run es rs answers i seen holds None event r reply = holds
 one_on rules first_run es rs answers i seen holds (Some e) event None reply = holds
 
-pub holds_at : (rules : Rules) (first_run : ℕ) (es : List Event) (rs : List Reply) → AreAnswers rules first_run es rs → (i : ℕ) → ((j : ℕ) → j ≤ i → ShowsFresh rules first_run es rs j) → Holds (world rules first_run es rs i)
+pub holds_at : (rules : Rules) (first_run : ℕ) (es : List Event) (rs : List Reply) → AreAnswered rules first_run es rs → (i : ℕ) → ((j : ℕ) → j ≤ i → ShowsFresh rules first_run es rs j) → Holds (world rules first_run es rs i)
 unfolding world
 holds_at rules first_run es rs answers zero fresh = record { docs = λ k d is. absurd (no_docs k d is); copies = λ q c is. absurd (cc); exact = λ q k is. absurd (cc) }
 holds_at rules first_run es rs answers (suc i) fresh =
     let before : (j : ℕ) → j ≤ i → ShowsFresh rules first_run es rs j = λ j le. fresh j (omega (arith, le)) in
     one_on rules first_run es rs answers i (seen_at rules first_run es rs answers i (sees_at rules first_run es rs answers i before)) (holds_at rules first_run es rs answers i before) (slice_get es i) refl (slice_get rs i) refl
 
-pub known : (rules : Rules) (first_run : ℕ) (es : List Event) (rs : List Reply) → AreAnswers rules first_run es rs → ((i : ℕ) → ShowsFresh rules first_run es rs i) → AreKnown rules first_run es rs
-known rules first_run es rs answers fresh = λ i client c is. (holds_at rules first_run es rs answers i (λ j le. fresh j)).copies client c is
+pub known : (rules : Rules) (first_run : ℕ) (es : List Event) (rs : List Reply) → AreAnswered rules first_run es rs → ((i : ℕ) → ShowsFresh rules first_run es rs i) → AreKnown rules first_run es rs
+known rules first_run es rs answers fresh = λ i client c at is known. (holds_at rules first_run es rs answers i (λ j le. fresh j)).copies client c is at known
 
-pub exact : (rules : Rules) (first_run : ℕ) (es : List Event) (rs : List Reply) → AreAnswers rules first_run es rs → ((i : ℕ) → ShowsFresh rules first_run es rs i) → AreExact rules first_run es rs
+pub exact : (rules : Rules) (first_run : ℕ) (es : List Event) (rs : List Reply) → AreAnswered rules first_run es rs → ((i : ℕ) → ShowsFresh rules first_run es rs i) → AreExact rules first_run es rs
 exact rules first_run es rs answers fresh = λ i client k is. (holds_at rules first_run es rs answers i (λ j le. fresh j)).exact client k is
 
 -- ---- no certified copy falls
@@ -179,16 +171,12 @@ one_rises : (clients : ℕ → Option CertifiedCopy) (client q : ℕ) (d : Paylo
 one_rises clients client q d k true same is = subst (λ o. Rises k (given d o)) (sym (ap clients (sym (eqb-true q client same)) ∙ is)) (given_rises d k)
 one_rises clients client q d k false other is = rises_alone k (clients q) is
 
-rises_done : (clients : ℕ → Option CertifiedCopy) (what : Effect) (q : ℕ) (k : CertifiedCopy) → clients q ≡ Some k → Rises k (certified_done clients what q)
-rises_done clients (certifies client d) q k is = one_rises clients client q d k (eqb q client) refl is
-rises_done clients what q k is = rises_alone k (clients q) is
-
-rises_after : (clients : ℕ → Option CertifiedCopy) (what : Effect) (b : Bool) (q : ℕ) (k : CertifiedCopy) → clients q ≡ Some k → Rises k (cond b clients (certified_done clients what) q)
-rises_after clients what true q k is = rises_alone k (clients q) is
-rises_after clients what false q k is = rises_done clients what q k is
+rises_after : (clients : ℕ → Option CertifiedCopy) (what : Effect) (r : Reply) (q : ℕ) (k : CertifiedCopy) → clients q ≡ Some k → Rises k (certified_after clients what r q)
+rises_after clients (certifies client d) (Certified taken run version) q k is = one_rises clients client q d k (eqb q client) refl is
+rises_after clients what r q k is = rises_alone k (clients q) is
 
 rises_at : (rules : Rules) (w : World) (e : Option Event) (r : Option Reply) (q : ℕ) (k : CertifiedCopy) → w.certified q ≡ Some k → Rises k ((after_at rules w e r).certified q)
-rises_at rules w (Some e) (Some r) q k is = subst (λ f. Rises k (f q)) (sym (certified_are rules w (effect rules w e) r)) (rises_after w.certified (effect rules w e) (ran_out r) q k is)
+rises_at rules w (Some e) (Some r) q k is = subst (λ f. Rises k (f q)) (sym (parts rules w (effect rules w e) r).certified) (rises_after w.certified (effect rules w e) r q k is)
 rises_at rules w None r q k is = rises_alone k (w.certified q) is
 rises_at rules w (Some e) None q k is = rises_alone k (w.certified q) is
 

@@ -1,8 +1,7 @@
 -- Certified clients that are given documents: a copy that is exact stays so, and does not fall.
-use Rattle.std.proofs.Common.{◌≡◌, ◌≤◌, ◌&&◌, Bool, true, false, cond, Option, Some, None, Result, Ok, Err, refl, sym, ap, subst, ◌∙◌, arith}
+use Rattle.std.proofs.Common.{◌≡◌, ◌≤◌, ◌&&◌, Bool, true, false, cond, not, Option, Some, None, option_map, Result, Ok, Err, refl, sym, ap, subst, ◌∙◌, arith}
 use Rattle.std.proofs.lemmas.Option.{same_Some}
 use Rattle.std.specs.Option.{option_map_or}
-use Rattle.std.specs.Result.{result_ok}
 use Rattle.disco_values.specs.declared.fault.Fault.{Fault}
 use Rattle.disco_history.specs.Mentions.{copied, overlay}
 use Rattle.disco_wire.specs.Documents.{document_of}
@@ -14,22 +13,31 @@ use Rattle.disco_cache.specs.declared.payload.Payload.{Payload}
 use Rattle.disco_client.specs.Tracks.{Histories, IsVersionIn, gives_way, known_at, reaches, same_form}
 use Rattle.disco_client.specs.declared.certified.CertifiedCopy.{CertifiedCopy}
 use Rattle.disco_client.proofs.KnownVersions.{Moves, moves, rises}
-use Rattle.disco_world.specs.Certified.{IsGiven, given, rows_by, takes_it}
-use Rattle.disco_world.proofs.Known.{IsOf, delta_at, full_at, meaning_at, means_delta, means_full}
+use Rattle.disco_world.specs.Clients.{IsGiven, given, takes_it}
+use Rattle.disco_world.proofs.Known.{IsOf, delta_at, full_at, meaning_at, means_delta, means_full, rows_from}
 
 -- a copy is exactly the version of its run's history at which it is known
 abbrev pub IsExact : Histories → CertifiedCopy → Type 0
 IsExact hs k = IsVersionIn (hs k.known.run) k.known k.copy
 
-abbrev given_by : Bool → Payload → Meaning → Option CertifiedCopy → Option CertifiedCopy
-given_by delta d m held = cond (takes_it delta d held) (Some (record { copy = rows_by delta m held; known = known_at d.key.form (cert_of d) })) held
+-- whether a document is taken, and what it makes then, where it is a delta and where it isn't
+abbrev pub takes_by : Bool → Payload → Option CertifiedCopy → Bool
+takes_by delta d None = not delta
+takes_by delta d (Some k) = cond delta (same_form k.known.form d.key.form && reaches (cert_of d) k.known) (gives_way (cert_of d) k.known)
+
+takes_is : (d : Payload) (held : Option CertifiedCopy) → takes_it d held ≡ takes_by (is_delta d.key.query) d held
+takes_is d None = refl
+takes_is d (Some k) = refl
 
 -- a certified client after it was given a document that means that, if it means something
-abbrev given_from : Payload → Result Meaning Fault → Option CertifiedCopy → Option CertifiedCopy
-given_from d r held = option_map_or (λ m. given_by (is_delta d.key.query) d m held) (result_ok r) held
+abbrev given_from : Bool → Bool → Payload → Result Meaning Fault → Option CertifiedCopy → Option CertifiedCopy
+given_from takes delta d r held = option_map_or (λ s. cond takes (Some (record { copy = s; known = known_at d.key.form (cert_of d) })) held) (rows_from delta r (option_map (λ (k : CertifiedCopy). k.copy) held)) held
+
+abbrev given_by : Bool → Payload → Meaning → Option CertifiedCopy → Option CertifiedCopy
+given_by delta d m held = given_from (takes_by delta d held) delta d (Ok m) held
 
 pub given_is : (d : Payload) (held : Option CertifiedCopy) (b : Bool) (m : Meaning) → is_delta d.key.query ≡ b → document_of d.text ≡ Ok m → given d held ≡ given_by b d m held
-given_is d held b m kind means = ap (λ x. given_from d x held) means ∙ ap (λ b. given_by b d m held) kind
+given_is d held b m kind means = (λ i. given_from (takes_is d held i) (is_delta d.key.query) d (document_of d.text) held) ∙ (λ i. given_from (takes_by (kind i) d held) (kind i) d (means i) held)
 
 either : (hs : Histories) (made : CertifiedCopy) (held : Option CertifiedCopy) (k : CertifiedCopy) (b : Bool) → (b ≡ true → IsExact hs made) → ((o : CertifiedCopy) → held ≡ Some o → IsExact hs o) → cond b (Some made) held ≡ Some k → IsExact hs k
 either hs made held k true so exact e = subst (IsExact hs) (same_Some _ _ e) (so refl)
@@ -75,31 +83,12 @@ rises_by : (b : Bool) (d : Payload) (m : Meaning) (k : CertifiedCopy) → Rises 
 rises_by false d m k = rises_if k (record { copy = copied m.mentions; known = known_at d.key.form (cert_of d) }) (gives_way (cert_of d) k.known) (λ gives run. rises (cert_of d) k.known gives run)
 rises_by true d m k = rises_if k (record { copy = overlay k.copy m.mentions; known = known_at d.key.form (cert_of d) }) (same_form k.known.form d.key.form && reaches (cert_of d) k.known) (λ test run. (moves_it d k test).reaches.below)
 
-rises_from : (d : Payload) (r : Result Meaning Fault) (k : CertifiedCopy) → Rises k (given_from d r (Some k))
-rises_from d (Ok m) k = rises_by (is_delta d.key.query) d m k
-rises_from d (Err e) k = rises_alone k (Some k) refl
+rises_from : (d : Payload) (r : Result Meaning Fault) (k : CertifiedCopy) → document_of d.text ≡ r → Rises k (given d (Some k))
+rises_from d (Ok m) k means = subst (Rises k) (sym (given_is d (Some k) (is_delta d.key.query) m refl means)) (rises_by (is_delta d.key.query) d m k)
+rises_from d (Err e) k means = rises_alone k (given d (Some k)) (λ i. given_from (takes_it d (Some k)) (is_delta d.key.query) d (means i) (Some k))
 
 pub given_rises : (d : Payload) (k : CertifiedCopy) → Rises k (given d (Some k))
-given_rises d k = rises_from d (document_of d.text) k
-
--- ---- a document that leaves no copy
-
-none_if : (b : Bool) (made : CertifiedCopy) (held : Option CertifiedCopy) → cond b (Some made) held ≡ None → held ≡ None
-none_if true made held is = absurd (cc)
-none_if false made held is = is
-
-none_by : (b : Bool) (d : Payload) (m : Meaning) (held : Option CertifiedCopy) → given_by b d m held ≡ None → held ≡ None
-none_by b d m None is = refl
-none_by false d m (Some k) is = none_if (gives_way (cert_of d) k.known) _ (Some k) is
-none_by true d m (Some k) is = none_if (same_form k.known.form d.key.form && reaches (cert_of d) k.known) _ (Some k) is
-
-none_from : (d : Payload) (r : Result Meaning Fault) (held : Option CertifiedCopy) → given_from d r held ≡ None → held ≡ None
-none_from d (Ok m) held is = none_by (is_delta d.key.query) d m held is
-none_from d (Err e) held is = is
-
--- there was none
-pub none_given : (d : Payload) (held : Option CertifiedCopy) → given d held ≡ None → held ≡ None
-none_given d held is = none_from d (document_of d.text) held is
+given_rises d k = rises_from d (document_of d.text) k refl
 
 -- ---- a first document, where there was no copy
 
@@ -108,10 +97,4 @@ module _ (d : Payload) (m : Meaning) (held : Option CertifiedCopy) (now : Certif
   begins_copy means is = ap (given d) none ∙ given_is d None false m full means ∙ ap Some (sym is)
 
   pub is_begun : given d held ≡ Some now → IsGiven d held true now.known.run now.known.version
-  is_begun made = record {
-    copy = now;
-    now = made;
-    taken_is = sym (ap (λ o. takes_it (is_delta d.key.query) d o) none ∙ ap (λ b. takes_it b d None) full);
-    run_is = refl;
-    version_is = refl;
-  }
+  is_begun made = (now, made, sym (ap (takes_it d) none ∙ ap not full), refl, refl)

@@ -16,12 +16,12 @@ use Rattle.disco_hub.specs.Press.{Edition, IsPublishable, begin, change, copied_
 use Rattle.disco_hub.specs.State.{MayServe}
 use Rattle.disco_hub.specs.declared.copied.Copied.TheVariants as copied
 use Rattle.disco_hub.proofs.Notes.{copied-begin, copied-doc, copied-gone}
-use Rattle.disco_world.specs.Answers.{AreAnswers, IsAnswer}
-use Rattle.disco_world.specs.Events.{Effect, World, begins, copies, publishes, restarts, after, after_at, effect, world}
-use Rattle.disco_world.specs.Steps.{changes_since, is_plain, past_after}
+use Rattle.disco_world.specs.Events.{Effect, World, begins, copies, publishes, restarts, effect}
+use Rattle.disco_world.specs.Outcomes.{after, after_at, outcome, world}
+use Rattle.disco_world.specs.Steps.{AreAnswered, IsAnswer, changes_since, is_plain}
 use Rattle.disco_world.specs.Rounds.{Press, all_of, press_from}
 use Rattle.disco_world.specs.declared.event.Event.{Event}
-use Rattle.disco_world.proofs.EffectParts.{press_is}
+use Rattle.disco_world.proofs.EffectParts.{parts}
 use Rattle.disco_hub.proofs.Levels.{copied_changes}
 use Rattle.disco_world.specs.declared.event.Reply.{Reply}
 use Rattle.disco_world.specs.declared.event.Reply.TheVariants.{Begun, Copied, Published, Restarted}
@@ -74,8 +74,8 @@ module _ (rules : Rules) (first_run : ℕ) (es : List Event) (rs : List Reply) w
       shown = on_from s.floor (edition_of s.published) sees.shown;
     }
 
-    begun_on : (s : Press) (keys : ℕ) → SeesIn s i n → SeesIn (record s { pending = s.pending ++ begin ∷ []; keys = keys; begun = n + 1 }) (i + 1) (n + 1)
-    begun_on s keys sees = record {
+    begun_on : (s : Press) → SeesIn s i n → SeesIn (record s { pending = s.pending ++ begin ∷ []; begun = n + 1 }) (i + 1) (n + 1)
+    begun_on s sees = record {
       begun = omega arith;
       floor = omega (arith, sees.floor);
       copied = subst (AllWere (i + 1) (n + 1)) (sym (ap copied_in (sym (append_assoc s.published s.pending (begin ∷ []))) ∙ copied-begin (all_of s))) (λ k d is. absurd (none_at k d is));
@@ -136,11 +136,11 @@ module _ (rules : Rules) (first_run : ℕ) (es : List Event) (rs : List Reply) w
 
     plain_on : (what : Effect) (r : Reply) → is_plain what r ≡ true → SeesIn s i n → SeesIn (after rules (here i) what r).press (i + 1) (n + 1)
     plain_on what r plain sees =
-        subst (λ t. SeesIn t (i + 1) (n + 1)) (sym (press_is rules (here i) what r plain)) (plainly i n le s (changes_since (here i).past (past_after rules (here i).past what r)) sees)
+        subst (λ t. SeesIn t (i + 1) (n + 1)) (sym ((parts rules (here i) what r).press plain)) (plainly i n le s (changes_since (here i).past (outcome rules (here i) what r).next.past) sees)
 
     sees_on : (what : Effect) (r : Reply) → IsAnswer rules (here i) what r → IsPublishable (after rules (here i) what r).press.published → SeesIn s i n → SeesIn (after rules (here i) what r).press (i + 1) (n + 1)
-    sees_on begins (Begun m) answer fresh sees = begun_on i n le s m sees
-    sees_on copies (Copied (copied.Doc p)) answer fresh sees = doc_on i n le s p.value answer.2.1 sees
+    sees_on begins (Begun m) answer fresh sees = begun_on i n le s sees
+    sees_on copies (Copied (copied.Doc p)) answer fresh sees = doc_on i n le s p.value answer.may.1.1 sees
     sees_on copies (Copied (copied.Drop j)) answer fresh sees = gone_on i n le s j sees
     sees_on publishes (Published m) answer fresh sees = published_on i n le s fresh sees
     sees_on (restarts run) (Restarted r) answer fresh sees = restarted_on i n le
@@ -169,7 +169,7 @@ module _ (rules : Rules) (first_run : ℕ) (es : List Event) (rs : List Reply) w
     shown = λ k d is. longer rules first_run es rs i s.floor k d (sees.shown k d is);
   }
 
-  one_on : AreAnswers rules first_run es rs → (i : ℕ) → Sees rules first_run es rs i → (e : Option Event) → slice_get es i ≡ e → (r : Option Reply) → slice_get rs i ≡ r
+  one_on : AreAnswered rules first_run es rs → (i : ℕ) → Sees rules first_run es rs i → (e : Option Event) → slice_get es i ≡ e → (r : Option Reply) → slice_get rs i ≡ r
       → IsPublishable (after_at rules (world rules first_run es rs i) e r).press.published → Next rules first_run es rs (i + 1) (after_at rules (world rules first_run es rs i) e r)
   one_on answers i now (Some e) event (Some r) reply fresh =
       let w = world rules first_run es rs i in
@@ -184,7 +184,7 @@ module _ (rules : Rules) (first_run : ℕ) (es : List Event) (rs : List Reply) w
   one_on answers i now None event r reply fresh = record { count = omega (arith, now.count); sees = later (world rules first_run es rs i).press i (length (world rules first_run es rs i).replies) now.sees }
   one_on answers i now (Some e) event None reply fresh = record { count = omega (arith, now.count); sees = later (world rules first_run es rs i).press i (length (world rules first_run es rs i).replies) now.sees }
 
-  pub sees_at : AreAnswers rules first_run es rs → (i : ℕ) → ((j : ℕ) → j ≤ i → ShowsFresh rules first_run es rs j) → Sees rules first_run es rs i
+  pub sees_at : AreAnswered rules first_run es rs → (i : ℕ) → ((j : ℕ) → j ≤ i → ShowsFresh rules first_run es rs j) → Sees rules first_run es rs i
   unfolding world
   sees_at answers zero fresh = record {
     count = omega arith;

@@ -1,13 +1,67 @@
--- What an effect makes of what has happened, part by part.
-use Rattle.std.proofs.Common.{◌≡◌, Bool, true, false, cond, List, [], ◌∷◌, ◌++◌, drop, length, map, Ok, refl, sym, ap, ◌∙◌, append-nil}
-use Rattle.disco_core.specs.Past.{Past, history}
-use Rattle.disco_core.specs.State.{Rules}
+-- What an effect and a reply make of each part of what has happened.
+use Rattle.std.proofs.Common.{◌≡◌, ℕ, zero, suc, true, List, [], ◌∷◌, ◌++◌, drop, length, map, Option, Some, None, Result, Ok, Err, slice_get, refl, sym, ap, subst, ◌∙◌, append-nil}
+use Rattle.disco_values.specs.declared.fault.Fault.{Fault}
+use Rattle.disco_values.specs.declared.key.Key.{Key}
+use Rattle.disco_history.specs.Change.{Entry}
+use Rattle.disco_registry.specs.Accept.{accept_after}
+use Rattle.disco_registry.specs.Op.{OpView, cancel}
+use Rattle.disco_queue.specs.Timed.{Timed, changes}
+use Rattle.disco_hub.specs.Expiry.{after_next, cancel_of, cancelled}
 use Rattle.disco_hub.specs.Press.{change}
-use Rattle.disco_world.specs.Events.{Effect, World, writes, expires, begins, copies, publishes, restarts, after, performed, ran_out}
+use Rattle.disco_core.specs.Past.{Past, after_ask, history, taken_in}
+use Rattle.disco_core.specs.State.{Rules}
+use Rattle.disco_core.proofs.Runs.{run_done}
+use Rattle.disco_hub.proofs.Runs.{run_cancelled}
+use Rattle.disco_client.specs.Tracks.{Histories}
+use Rattle.disco_world.specs.Events.{Effect, World, writes, loads, cleans, closes, expires, begins, copies, publishes, looks, takes, certifies, shows, shows_certified, restarts}
+use Rattle.disco_world.specs.Outcomes.{outcome}
 use Rattle.disco_world.specs.Rounds.{Press}
-use Rattle.disco_world.specs.Steps.{certified_done, changes_since, clients_done, ended_after, is_plain, past_after, past_done}
+use Rattle.disco_world.specs.Steps.{certified_after, changes_since, clients_after, goes_on, is_plain, only_asks}
 use Rattle.disco_world.specs.declared.event.Reply.{Reply}
-use Rattle.disco_world.specs.declared.event.Reply.TheVariants.{Expired, Begun, Copied, Published, Restarted}
+use Rattle.disco_world.specs.declared.event.Reply.TheVariants.{Changed, Same, Doc, Cleaned, Closed, Expired, Begun, Copied, Published, Taken, Certified, Held, Restarted}
+use Rattle.disco_world.proofs.Known.{Extends, extends_more, extends_on, extends_same}
+
+-- ---- a history only grows, and its run stays
+
+map_more : (ts : List Timed) (t : Timed) → changes (ts ++ t ∷ []) ≡ changes ts ++ t.0 ∷ []
+map_more [] t = refl
+map_more (s ∷ ts) t = ap (λ cs. s.0 ∷ cs) (map_more ts t)
+
+ask_extends : (most : ℕ) (p : Past) (now : ℕ) (ask : OpView) (result : Result (Option Entry) Fault) → Extends (history p) (history (after_ask most p now ask result))
+ask_extends most p now ask (Ok (Some c)) = subst (Extends (history p)) (sym (map_more p.timed (c, now))) (extends_more (history p) c)
+ask_extends most p now ask (Ok None) = extends_same (history p)
+ask_extends most p now ask (Err e) = extends_same (history p)
+
+next_extends : (rules : Rules) (p : Past) (now : ℕ) (o : Option Key) → Extends (history p) (history (after_next rules p now o))
+next_extends rules p now None = extends_same (history p)
+next_extends rules p now (Some k) = ask_extends rules.queue p now (cancel k) (cancel_of rules p now k)
+
+-- so it does by each of several cancels
+cancels_extend : (rules : Rules) (p : Past) (now : ℕ) (ks : List Key) (i : ℕ) → Extends (history p) (history (cancelled rules p now ks i))
+unfolding cancelled
+cancels_extend rules p now ks zero = extends_same (history p)
+cancels_extend rules p now ks (suc i) = extends_on _ _ _ (cancels_extend rules p now ks i) (next_extends rules (cancelled rules p now ks i) now (slice_get ks i))
+
+ask_stays : (most : ℕ) (p : Past) (now : ℕ) (ask : OpView) (result : Result (Option Entry) Fault) → (after_ask most p now ask result).run ≡ p.run
+ask_stays most p now ask (Ok c) = run_done most p now ask c
+ask_stays most p now ask (Err e) = refl
+
+-- the run goes on, and what is ended stays so
+pub record GoesOn (w : World) (p : Past) (ended : Histories) : Type 0 where
+  pub run : p.run ≡ w.past.run
+  pub extends : Extends (history w.past) (history p)
+  pub ended_is : ended ≡ w.ended
+
+still : (w : World) → GoesOn w w.past w.ended
+still w = record { run = refl; extends = extends_same (history w.past); ended_is = refl }
+
+asked_on : (rules : Rules) (w : World) (now : ℕ) (ask : OpView) (result : Result (Option Entry) Fault) → GoesOn w (after_ask rules.queue w.past now ask result) w.ended
+asked_on rules w now ask result = record { run = ask_stays rules.queue w.past now ask result; extends = ask_extends rules.queue w.past now ask result; ended_is = refl }
+
+expired_on : (rules : Rules) (w : World) (now gone : ℕ) → GoesOn w (cancelled rules w.past now (taken_in w.past now) gone) w.ended
+expired_on rules w now gone = record { run = run_cancelled rules w.past now (taken_in w.past now) gone; extends = cancels_extend rules w.past now (taken_in w.past now) gone; ended_is = refl }
+
+-- ---- notes
 
 none_behind : {A : Type 0} (xs : List A) → drop (length xs) xs ≡ []
 none_behind [] = refl
@@ -20,81 +74,30 @@ noted_to w p = record w.press { pending = w.press.pending ++ map change (changes
 nothing_new : (w : World) → w.press ≡ noted_to w w.past
 nothing_new w = ap (λ ns. record w.press { pending = ns }) (sym (ap (λ cs. w.press.pending ++ map change cs) (none_behind (history w.past)) ∙ append-nil w.press.pending))
 
-past_performed : (rules : Rules) (w : World) (what : Effect) (r : Reply) → (performed rules w what r).past ≡ past_done rules w.past what r
-past_performed rules w (writes now (Ok ask)) r = refl
-past_performed rules w (expires now) (Expired run) = refl
-past_performed rules w begins (Begun n) = refl
-past_performed rules w copies (Copied c) = refl
-past_performed rules w publishes (Published n) = refl
-past_performed rules w (restarts run) (Restarted s) = refl
-past_performed rules w what r = refl
+-- ---- the parts
 
-press_performed : (rules : Rules) (w : World) (what : Effect) (r : Reply) → is_plain what r ≡ true → (performed rules w what r).press ≡ noted_to w (past_done rules w.past what r)
-press_performed rules w (writes now (Ok ask)) r plain = refl
-press_performed rules w (expires now) (Expired run) plain = refl
-press_performed rules w begins (Begun n) plain = absurd (cc)
-press_performed rules w copies (Copied c) plain = absurd (cc)
-press_performed rules w publishes (Published n) plain = absurd (cc)
-press_performed rules w (restarts run) (Restarted s) plain = absurd (cc)
-press_performed rules w what r plain = nothing_new w
+pub record Parts (w : World) (what : Effect) (r : Reply) (v : World) : Type 0 where
+  pub clients : v.clients ≡ clients_after w.clients what r
+  pub certified : v.certified ≡ certified_after w.certified what r
+  pub quiet : only_asks what ≡ true → v.past ≡ w.past
+  pub goes : goes_on what r ≡ true → GoesOn w v.past v.ended
+  pub press : is_plain what r ≡ true → v.press ≡ noted_to w v.past
 
-clients_performed : (rules : Rules) (w : World) (what : Effect) (r : Reply) → (performed rules w what r).clients ≡ clients_done w.clients what
-clients_performed rules w (writes now (Ok ask)) r = refl
-clients_performed rules w (expires now) (Expired run) = refl
-clients_performed rules w begins (Begun n) = refl
-clients_performed rules w copies (Copied c) = refl
-clients_performed rules w publishes (Published n) = refl
-clients_performed rules w (restarts run) (Restarted s) = refl
-clients_performed rules w what r = refl
-
-certified_performed : (rules : Rules) (w : World) (what : Effect) (r : Reply) → (performed rules w what r).certified ≡ certified_done w.certified what
-certified_performed rules w (writes now (Ok ask)) r = refl
-certified_performed rules w (expires now) (Expired run) = refl
-certified_performed rules w begins (Begun n) = refl
-certified_performed rules w copies (Copied c) = refl
-certified_performed rules w publishes (Published n) = refl
-certified_performed rules w (restarts run) (Restarted s) = refl
-certified_performed rules w what r = refl
-
-pub ended_performed : (rules : Rules) (w : World) (what : Effect) (r : Reply) → (performed rules w what r).ended ≡ ended_after w what r
-ended_performed rules w (writes now (Ok ask)) r = refl
-ended_performed rules w (expires now) (Expired run) = refl
-ended_performed rules w begins (Begun n) = refl
-ended_performed rules w copies (Copied c) = refl
-ended_performed rules w publishes (Published n) = refl
-ended_performed rules w (restarts run) (Restarted s) = refl
-ended_performed rules w what r = refl
-
--- ---- and where there was no memory
-
-module _ (rules : Rules) (w : World) (what : Effect) (r : Reply) where
-  abbrev v : World
-  v = performed rules w what r
-
-  pub past_is : (after rules w what r).past ≡ past_after rules w.past what r
-  past_is = by (ran_out r)
-    where
-      by : (b : Bool) → (cond b w v).past ≡ cond b w.past (past_done rules w.past what r)
-      by true = refl
-      by false = past_performed rules w what r
-
-  pub press_is : is_plain what r ≡ true → (after rules w what r).press ≡ noted_to w (past_after rules w.past what r)
-  press_is plain = by (ran_out r)
-    where
-      by : (b : Bool) → (cond b w v).press ≡ noted_to w (cond b w.past (past_done rules w.past what r))
-      by true = nothing_new w
-      by false = press_performed rules w what r plain
-
-  pub clients_are : (after rules w what r).clients ≡ cond (ran_out r) w.clients (clients_done w.clients what)
-  clients_are = by (ran_out r)
-    where
-      by : (b : Bool) → (cond b w v).clients ≡ cond b w.clients (clients_done w.clients what)
-      by true = refl
-      by false = clients_performed rules w what r
-
-  pub certified_are : (after rules w what r).certified ≡ cond (ran_out r) w.certified (certified_done w.certified what)
-  certified_are = by (ran_out r)
-    where
-      by : (b : Bool) → (cond b w v).certified ≡ cond b w.certified (certified_done w.certified what)
-      by true = refl
-      by false = certified_performed rules w what r
+pub parts : (rules : Rules) (w : World) (what : Effect) (r : Reply) → Parts w what r (outcome rules w what r).next
+parts rules w (writes now (Ok ask)) (Changed v) = record { clients = refl; certified = refl; quiet = λ asks. absurd (cc); goes = λ _. asked_on rules w now ask (accept_after rules.limits (history w.past) ask now); press = λ _. refl }
+parts rules w (writes now (Ok ask)) Same = record { clients = refl; certified = refl; quiet = λ asks. absurd (cc); goes = λ _. asked_on rules w now ask (accept_after rules.limits (history w.past) ask now); press = λ _. refl }
+parts rules w (cleans now) (Cleaned b) = record { clients = refl; certified = refl; quiet = λ asks. absurd (cc); goes = λ _. record { run = refl; extends = extends_same (history w.past); ended_is = refl }; press = λ _. nothing_new w }
+parts rules w closes (Closed m) = record { clients = refl; certified = refl; quiet = λ asks. absurd (cc); goes = λ _. record { run = refl; extends = extends_same (history w.past); ended_is = refl }; press = λ _. nothing_new w }
+parts rules w (expires now) (Expired run) = record { clients = refl; certified = refl; quiet = λ asks. absurd (cc); goes = λ _. expired_on rules w now run.gone; press = λ _. refl }
+parts rules w begins (Begun n) = record { clients = refl; certified = refl; quiet = λ asks. absurd (cc); goes = λ _. still w; press = λ plain. absurd (cc) }
+parts rules w copies (Copied c) = record { clients = refl; certified = refl; quiet = λ asks. absurd (cc); goes = λ _. still w; press = λ plain. absurd (cc) }
+parts rules w publishes (Published n) = record { clients = refl; certified = refl; quiet = λ asks. absurd (cc); goes = λ _. still w; press = λ plain. absurd (cc) }
+parts rules w (restarts run) (Restarted s) = record { clients = refl; certified = refl; quiet = λ asks. absurd (cc); goes = λ on. absurd (cc); press = λ plain. absurd (cc) }
+parts rules w (writes now (Err cause)) (Changed v) = record { clients = refl; certified = refl; quiet = λ asks. absurd (cc); goes = λ _. still w; press = λ _. nothing_new w }
+parts rules w (loads asked) (Doc d) = record { clients = refl; certified = refl; quiet = λ _. refl; goes = λ _. still w; press = λ _. nothing_new w }
+parts rules w (looks key) (Doc d) = record { clients = refl; certified = refl; quiet = λ _. refl; goes = λ _. still w; press = λ _. nothing_new w }
+parts rules w (takes client d) (Taken equal version) = record { clients = refl; certified = refl; quiet = λ _. refl; goes = λ _. still w; press = λ _. nothing_new w }
+parts rules w (certifies client d) (Certified taken run version) = record { clients = refl; certified = refl; quiet = λ _. refl; goes = λ _. still w; press = λ _. nothing_new w }
+parts rules w (shows client) (Held listed) = record { clients = refl; certified = refl; quiet = λ _. refl; goes = λ _. still w; press = λ _. nothing_new w }
+parts rules w (shows_certified client) (Held listed) = record { clients = refl; certified = refl; quiet = λ _. refl; goes = λ _. still w; press = λ _. nothing_new w }
+parts rules w what r = record { clients = refl; certified = refl; quiet = λ _. refl; goes = λ _. still w; press = λ _. nothing_new w }

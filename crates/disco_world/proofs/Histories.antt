@@ -1,5 +1,5 @@
 -- Runs of events, one event on.
-use Rattle.std.proofs.Common.{◌≡◌, ℕ, zero, suc, ◌+◌, ◌<◌, ◌≤◌, List, [], ◌∷◌, ◌++◌, length, get_or, cond, if◌then◌else◌, nat_lt, Option, Some, None, Result, option_map, slice_get, refl, sym, ap, subst, ◌∙◌, arith, length-append, add-one}
+use Rattle.std.proofs.Common.{◌≡◌, ◌⊎◌, inl, inr, ℕ, zero, suc, ◌+◌, ◌<◌, ◌≤◌, List, [], ◌∷◌, ◌++◌, length, get_or, cond, if◌then◌else◌, nat_lt, Option, Some, None, Ok, Err, slice_get, refl, sym, ap, subst, ◌∙◌, arith, length-append, add-one}
 use Rattle.std.specs.declared.alloc.Global.{Global}
 use Rattle.std.specs.declared.sync.Arc.{Arc}
 use Rattle.std.proofs.lemmas.Bool.{le-ltb, lt-ltb}
@@ -7,24 +7,20 @@ use Rattle.std.proofs.lemmas.Option.{slice_get-get_or, same_Some}
 use Rattle.disco_cache.specs.declared.payload.Payload.{Payload}
 use Rattle.disco_core.specs.State.{Rules}
 use Rattle.disco_core.specs.Past.{history, nothing}
-use Rattle.disco_hub.specs.Press.{IsPublishable}
-use Rattle.disco_hub.specs.Rounds.{KeySet, Round, Rounds}
+use Rattle.disco_hub.specs.Press.{IsPressed, IsPublishable}
 use Rattle.disco_hub.specs.State.{MayServe, HubStandsFor, rules_of}
 use Rattle.disco_hub.proofs.Levels.{first_levels}
 use Rattle.disco_hub.proofs.Pressed.{first_pressed}
 use Rattle.std.specs.FinMap.{empty}
-use Rattle.disco_world.specs.Answers.{AreAnswers, AreServed, IsAnswer, IsFirstBadEvent, IsPressState, IsServed, key_asked}
-use Rattle.disco_world.specs.Caching.{AreCached, Cache, Caches, new_cache}
+use Rattle.disco_world.specs.Answers.{AreAnswers, AreServed, IsFirstBadEvent}
+use Rattle.disco_world.specs.Outcomes.{Cache, after, after_at, new_cache, new_world, outcome, world}
 use Rattle.disco_world.specs.Levels.{AreLevelsOf, AnswersEvent}
 use Rattle.disco_world.specs.declared.levels.CacheLevels.{CacheLevels}
 use Rattle.disco_world.proofs.Rooms.{room_stays}
 use Rattle.disco_world.proofs.Editions.{Sees, ShowsFresh, sees_at}
-use Rattle.disco_world.proofs.EffectParts.{certified_are, clients_are}
-use Rattle.disco_values.specs.declared.fault.Fault.{Fault}
 use Rattle.disco_values.specs.declared.fault.Fault.TheVariants.{BadEvent}
-use Rattle.disco_values.specs.declared.doc_key.DocKey.{DocKey}
-use Rattle.disco_world.specs.Events.{Effect, World, writes, loads, cleans, closes, expires, begins, copies, publishes, looks, takes, certifies, shows, shows_certified, restarts, bad, after, after_at, effect, new_world, world}
-use Rattle.disco_world.specs.Steps.{AreHeld, Holders, cache_of}
+use Rattle.disco_world.specs.Events.{Effect, World, writes, loads, cleans, closes, expires, begins, copies, publishes, looks, takes, certifies, shows, shows_certified, restarts, bad, effect}
+use Rattle.disco_world.specs.Steps.{AreAnswered, AreHeld, Holders, IsAnswer, cache_of}
 use Rattle.disco_world.specs.declared.event.Event.{Event}
 use Rattle.disco_world.specs.declared.event.Reply.{Reply}
 use Rattle.disco_world.specs.declared.event.Reply.TheVariants.{Doc}
@@ -65,9 +61,6 @@ place_of (suc i) (suc n) = one_on i n (place_of i n)
 
 -- ---- histories
 
-abbrev pub answers_event : Rules → World → Event → Reply → Type 0
-answers_event rules w e r = IsAnswer rules w (effect rules w e) r
-
 abbrev pub after_event : Rules → World → Event → Reply → World
 after_event rules w e r = after rules w (effect rules w e) r
 
@@ -83,29 +76,38 @@ world-suc : (rules : Rules) (first_run : ℕ) (es : List Event) (rs : List Reply
 unfolding world
 world-suc rules first_run es rs i e r event reply = ap (world rules first_run es rs) (add-one i) ∙ (λ k. after_at rules (world rules first_run es rs i) (event k) (reply k))
 
--- what was noted is as it has to be after the first k events
+-- what was noted is as it has to be, with the rounds of a cache
+abbrev pub IsPressedIn : World → Cache → Type 0
+IsPressedIn w s = IsPressed w.past.run w.press.published w.press.pending (history w.past) s.rounds.edition s.rounds.round
+
+-- an event may be answered so between two caches
+abbrev pub MayIn : Rules → World → Event → Reply → Cache → Cache → Type 0
+MayIn rules w e r old new = (outcome rules w (effect rules w e) r).may old new
+
+-- and after the first k events, with those of some cache
 abbrev pub IsPressedAt : Rules → ℕ → List Event → List Reply → ℕ → Type 0
-IsPressedAt rules first_run es rs k = let w = world rules first_run es rs k in (edition : KeySet) × (round : Option Round) × IsPressState w.past.run w.press (history w.past) edition round
+IsPressedAt rules first_run es rs k = (s : Cache) × IsPressedIn (world rules first_run es rs k) s
 
--- and it is so with the rounds of a cache
-abbrev pub IsPressedBy : Rules → ℕ → List Event → List Reply → ℕ → Cache → Type 0
-IsPressedBy rules first_run es rs k s = let w = world rules first_run es rs k in IsPressState w.past.run w.press (history w.past) s.rounds.edition s.rounds.round
-
--- the event of index k leaves this
-abbrev pub CachesAt : Rules → ℕ → List Event → List Reply → ℕ → Event → Reply → Cache → Cache → Type 0
-CachesAt rules first_run es rs k e r old new = let w = world rules first_run es rs k in Caches rules w.past (effect rules w e) r old new
+-- the event of index k may be answered so
+abbrev pub MayAt : Rules → ℕ → List Event → List Reply → ℕ → Event → Reply → Cache → Cache → Type 0
+MayAt rules first_run es rs k e r old new = MayIn rules (world rules first_run es rs k) e r old new
 
 -- what was kept and copied, up to the first i events, which leave this
 pub record IsCourse (most : ℕ) (rules : Rules) (first_run : ℕ) (es : List Event) (rs : List Reply) (i : ℕ) (now : Cache) : Type 0 where
   pub caches : ℕ → Cache
   pub first : caches 0 ≡ new_cache most
   pub last : caches i ≡ now
-  pub each : (k : ℕ) (e : Event) (r : Reply) → slice_get es k ≡ Some e → slice_get rs k ≡ Some r → CachesAt rules first_run es rs k e r (caches k) (caches (k + 1))
-  pub pressed : (k : ℕ) → k ≤ i → IsPressedBy rules first_run es rs k (caches k)
+  pub each : (k : ℕ) (e : Event) (r : Reply) → slice_get es k ≡ Some e → slice_get rs k ≡ Some r → MayAt rules first_run es rs k e r (caches k) (caches (k + 1))
+  pub pressed : (k : ℕ) → k ≤ i → IsPressedIn (world rules first_run es rs k) (caches k)
 
--- what was noted is in step with the rounds of some cache
-pub some_pressed : (most : ℕ) (rules : Rules) (first_run : ℕ) (es : List Event) (rs : List Reply) (i : ℕ) (now : Cache) → IsCourse most rules first_run es rs i now → (k : ℕ) → k ≤ i → IsPressedAt rules first_run es rs k
-some_pressed most rules first_run es rs i now course k le = ((course.caches k).rounds.edition, (course.caches k).rounds.round, course.pressed k le)
+module _ (most : ℕ) (rules : Rules) (first_run : ℕ) (es : List Event) (rs : List Reply) (i : ℕ) (now : Cache) (course : IsCourse most rules first_run es rs i now) where
+  -- what was noted is in step with the rounds of some cache
+  pub some_pressed : (k : ℕ) → k ≤ i → IsPressedAt rules first_run es rs k
+  some_pressed k le = (course.caches k, course.pressed k le)
+
+  -- each event is answered
+  pub answered : AreAnswered rules first_run es rs
+  answered = λ k e r event reply. record { old = course.caches k; new = course.caches (k + 1); may = course.each k e r event reply }
 
 -- what is true of a run after its first i events
 pub record IsRun (most : ℕ) (rules : Rules) (first_run : ℕ) (es : List Event) (rs : List Reply) (i : ℕ) (s : CacheLevels) (clients : Holders) : Type 0 where
@@ -116,7 +118,6 @@ pub record IsRun (most : ℕ) (rules : Rules) (first_run : ℕ) (es : List Event
   pub replies : (world rules first_run es rs i).replies ≡ rs
   pub rules_are : rules_of s.hub ≡ rules
   pub room : s.hub.docs.max ≡ most
-  pub answers : AreAnswers rules first_run es rs
 
 module _ (rules : Rules) (first_run : ℕ) (es : List Event) (rs : List Reply) (i : ℕ) (e : Event) (r : Reply) (count : length rs ≡ i) (event : slice_get es i ≡ Some e) where
   last_reply : slice_get (rs ++ r ∷ []) i ≡ Some r
@@ -127,21 +128,6 @@ module _ (rules : Rules) (first_run : ℕ) (es : List Event) (rs : List Reply) (
 
   world_next : world rules first_run es (rs ++ r ∷ []) (i + 1) ≡ after_event rules (world rules first_run es rs i) e r
   world_next = world-suc rules first_run es (rs ++ r ∷ []) i e r event last_reply ∙ ap (λ p. after_event rules p e r) (same_front i (omega (arith, count)))
-
-  answer_at : answers_event rules (world rules first_run es rs i) e r → AreAnswers rules first_run es rs → (k : ℕ) (f : Event) (q : Reply) → slice_get es k ≡ Some f → slice_get (rs ++ r ∷ []) k ≡ Some q → Place k (length rs)
-      → answers_event rules (world rules first_run es (rs ++ r ∷ []) k) f q
-  answer_at here so_far k f q ev rep (below lt) =
-      subst (λ h. answers_event rules h f q) (sym (same_front k (omega (arith, lt)))) (so_far k f q ev (sym (get_front rs r k lt) ∙ rep))
-  answer_at here so_far k f q ev rep (at is) =
-      let same_k : k ≡ i = is ∙ count in
-      let same_e : e ≡ f = same_Some e f (sym event ∙ ap (slice_get es) (sym same_k) ∙ ev) in
-      let same_r : r ≡ q = same_Some r q (sym last_reply ∙ ap (slice_get (rs ++ r ∷ [])) (sym same_k) ∙ rep) in
-      let hs : world rules first_run es rs i ≡ world rules first_run es (rs ++ r ∷ []) k = ap (world rules first_run es rs) (sym same_k) ∙ sym (same_front k (omega (arith, is))) in
-      subst (λ x. x) (λ j. answers_event rules (hs j) (same_e j) (same_r j)) here
-  answer_at here so_far k f q ev rep (beyond lt) = absurd (let bad = sym (get_past rs r k lt) ∙ rep in cc)
-
-  pub answers_more : answers_event rules (world rules first_run es rs i) e r → AreAnswers rules first_run es rs → AreAnswers rules first_run es (rs ++ r ∷ [])
-  answers_more here so_far = λ k f q ev rep. answer_at here so_far k f q ev rep (place_of k (length rs))
 
   -- what is kept after the event comes last
   abbrev extended : (ℕ → Cache) → Cache → ℕ → Cache
@@ -157,32 +143,32 @@ module _ (rules : Rules) (first_run : ℕ) (es : List Event) (rs : List Reply) (
     abbrev at_each : ℕ → Cache
     at_each = extended course.caches new
 
-    here_is : Caches rules (world rules first_run es rs i).past (effect rules (world rules first_run es rs i) e) r old new → CachesAt rules first_run es (rs ++ r ∷ []) i e r (at_each i) (at_each (i + 1))
+    here_is : MayIn rules (world rules first_run es rs i) e r old new → MayAt rules first_run es (rs ++ r ∷ []) i e r (at_each i) (at_each (i + 1))
     here_is here =
-        subst (λ x. x) (λ j. let w = sym (same_front i (omega (arith, count))) j in Caches rules w.past (effect rules w e) r (sym (before_it course.caches new i (omega arith) ∙ course.last) j) (sym (after_it course.caches new (i + 1) refl) j)) here
+        subst (λ x. x) (λ j. MayIn rules (sym (same_front i (omega (arith, count))) j) e r (sym (before_it course.caches new i (omega arith) ∙ course.last) j) (sym (after_it course.caches new (i + 1) refl) j)) here
 
-    each_at : Caches rules (world rules first_run es rs i).past (effect rules (world rules first_run es rs i) e) r old new → (k : ℕ) (f : Event) (q : Reply) → slice_get es k ≡ Some f → slice_get (rs ++ r ∷ []) k ≡ Some q → Place k (length rs)
-        → CachesAt rules first_run es (rs ++ r ∷ []) k f q (at_each k) (at_each (k + 1))
+    each_at : MayIn rules (world rules first_run es rs i) e r old new → (k : ℕ) (f : Event) (q : Reply) → slice_get es k ≡ Some f → slice_get (rs ++ r ∷ []) k ≡ Some q → Place k (length rs)
+        → MayAt rules first_run es (rs ++ r ∷ []) k f q (at_each k) (at_each (k + 1))
     each_at here k f q ev rep (below lt) =
         let so_far = course.each k f q ev (sym (get_front rs r k lt) ∙ rep) in
-        subst (λ x. x) (λ j. let w = sym (same_front k (omega (arith, lt))) j in Caches rules w.past (effect rules w f) q (sym (before_it course.caches new k (omega (arith, lt, count))) j) (sym (before_it course.caches new (k + 1) (omega (arith, lt, count))) j)) so_far
+        subst (λ x. x) (λ j. MayIn rules (sym (same_front k (omega (arith, lt))) j) f q (sym (before_it course.caches new k (omega (arith, lt, count))) j) (sym (before_it course.caches new (k + 1) (omega (arith, lt, count))) j)) so_far
     each_at here k f q ev rep (at is) =
         let same_k : k ≡ i = is ∙ count in
         let same_e : e ≡ f = same_Some e f (sym event ∙ ap (slice_get es) (sym same_k) ∙ ev) in
         let same_r : r ≡ q = same_Some r q (sym last_reply ∙ ap (slice_get (rs ++ r ∷ [])) (sym same_k) ∙ rep) in
-        subst (λ x. x) (λ j. CachesAt rules first_run es (rs ++ r ∷ []) (sym same_k j) (same_e j) (same_r j) (at_each (sym same_k j)) (at_each (sym same_k j + 1))) (here_is here)
+        subst (λ x. x) (λ j. MayAt rules first_run es (rs ++ r ∷ []) (sym same_k j) (same_e j) (same_r j) (at_each (sym same_k j)) (at_each (sym same_k j + 1))) (here_is here)
     each_at here k f q ev rep (beyond lt) = absurd (let bad = sym (get_past rs r k lt) ∙ rep in cc)
 
-    pressed_at : (levels : CacheLevels) → cache_of levels.hub ≡ new → AreLevelsOf levels (after_event rules (world rules first_run es rs i) e r) → (k : ℕ) → k ≤ i + 1 → Place k (i + 1) → IsPressedBy rules first_run es (rs ++ r ∷ []) k (at_each k)
+    pressed_at : (levels : CacheLevels) → cache_of levels.hub ≡ new → AreLevelsOf levels (after_event rules (world rules first_run es rs i) e r) → (k : ℕ) → k ≤ i + 1 → Place k (i + 1) → IsPressedIn (world rules first_run es (rs ++ r ∷ []) k) (at_each k)
     pressed_at levels is_new are k le (below lt) =
-        subst (λ x. x) (λ j. let w = sym (same_front k (omega (arith, lt, count))) j in let s = sym (before_it course.caches new k lt) j in IsPressState w.past.run w.press (history w.past) s.rounds.edition s.rounds.round) (course.pressed k (omega (arith, lt)))
+        subst (λ x. x) (λ j. IsPressedIn (sym (same_front k (omega (arith, lt, count))) j) (sym (before_it course.caches new k lt) j)) (course.pressed k (omega (arith, lt)))
     pressed_at levels is_new are k le (at is) =
-        let here : IsPressState (after_event rules (world rules first_run es rs i) e r).past.run (after_event rules (world rules first_run es rs i) e r).press (history (after_event rules (world rules first_run es rs i) e r).past) levels.hub.rounds.edition levels.hub.rounds.round = record { pressed = are.levels.pressed; keys = are.keys } in
-        subst (λ n. IsPressedBy rules first_run es (rs ++ r ∷ []) n (at_each n)) (sym is)
-        (subst (λ x. x) (λ j. let w = sym world_next j in let s = (is_new ∙ sym (after_it course.caches new (i + 1) refl)) j in IsPressState w.past.run w.press (history w.past) s.rounds.edition s.rounds.round) here)
+        let here : IsPressedIn (after_event rules (world rules first_run es rs i) e r) (cache_of levels.hub) = are.levels.pressed in
+        subst (λ n. IsPressedIn (world rules first_run es (rs ++ r ∷ []) n) (at_each n)) (sym is)
+        (subst (λ x. x) (λ j. IsPressedIn (sym world_next j) ((is_new ∙ sym (after_it course.caches new (i + 1) refl)) j)) here)
     pressed_at levels is_new are k le (beyond lt) = absurd (omega (arith, le, lt))
 
-    pub course_more : (levels : CacheLevels) → cache_of levels.hub ≡ new → AreLevelsOf levels (after_event rules (world rules first_run es rs i) e r) → Caches rules (world rules first_run es rs i).past (effect rules (world rules first_run es rs i) e) r old new
+    pub course_more : (levels : CacheLevels) → cache_of levels.hub ≡ new → AreLevelsOf levels (after_event rules (world rules first_run es rs i) e r) → MayIn rules (world rules first_run es rs i) e r old new
         → IsCourse most rules first_run es (rs ++ r ∷ []) (i + 1) new
     course_more levels is_new are here = record {
       caches = at_each;
@@ -200,73 +186,84 @@ module _ (rules : Rules) (first_run : ℕ) (es : List Event) (rs : List Reply) (
       let done : AnswersEvent rules w e r old.hub new now = subst (λ l. AnswersEvent l w e r old.hub new now) run.rules_are (goes w run.replies run.held run.levels) in
       record {
         count = length-append rs (r ∷ []) ∙ ap (λ n. n + 1) count;
-        levels = subst (AreLevelsOf new) (sym world_next) done.1;
-        course = course_more most (cache_of old.hub) (cache_of new.hub) run.course new refl done.1 done.3;
-        held = subst (AreHeld now) (sym world_next) (λ q. done.2.0 q ∙ sym (ap (λ f. f q) (clients_are rules w what r)), λ q. done.2.1 q ∙ sym (ap (λ f. f q) (certified_are rules w what r)));
+        levels = subst (AreLevelsOf new) (sym world_next) done.0;
+        course = course_more most (cache_of old.hub) (cache_of new.hub) run.course new refl done.0 done.2;
+        held = subst (AreHeld now) (sym world_next) done.1;
         replies = ap (λ (x : World). x.replies) world_next ∙ ap (λ xs. xs ++ r ∷ []) run.replies;
         rules_are = same ∙ run.rules_are;
-        room = room_stays rules w.past (effect rules w e) r (cache_of old.hub) (cache_of new.hub) done.3 ∙ run.room;
-        answers = answers_more done.0 run.answers;
+        room = room_stays rules w what r (cache_of old.hub) (cache_of new.hub) done.2 ∙ run.room;
       }
 
 -- ---- served documents
 
--- a document that is answered comes from a load or a look, after which what readers see is as before
+-- a document that is answered to an effect may be served so
+abbrev IsServed : Rules → ℕ → List Event → List Reply → ℕ → Effect → Payload → Type 0
+IsServed rules first_run es rs i what d = (after : ℕ) × ((world rules first_run es rs (i + 1)).press.floor ≤ after) × (after ≤ i + 1) × MayServe d (world rules first_run es rs after).past
+    × (((what ≡ loads (Ok d.key)) × (after ≡ i + 1)) ⊎ (what ≡ looks (Some d.key)))
+
+-- it comes from a load or a look, after which what readers see is as before
 load_or_look : (rules : Rules) (first_run : ℕ) (es : List Event) (rs : List Reply) (i : ℕ) → Sees rules first_run es rs i → (what : Effect) (d : Arc Payload Global) → IsAnswer rules (world rules first_run es rs i) what (Doc d)
     → (v : World) → world rules first_run es rs (i + 1) ≡ v → v ≡ after rules (world rules first_run es rs i) what (Doc d) → IsServed rules first_run es rs i what d.value
 load_or_look rules first_run es rs i sees (loads asked) d answer v next is =
-    let same : world rules first_run es rs (i + 1) ≡ after rules (world rules first_run es rs i) (loads asked) (Doc d) = next ∙ is in record {
-      after = i + 1;
-      floor = omega (arith, ap (λ (w : World). w.press.floor) same, sees.sees.floor, sees.count);
-      within = omega arith;
-      load = λ _ _. refl;
-      asked = ap (λ (a : Result DocKey Fault). key_asked (loads a)) answer.0;
-      served = subst (λ (w : World). MayServe d.value w.past) (sym same) answer.1;
-    }
+    let same : world rules first_run es rs (i + 1) ≡ after rules (world rules first_run es rs i) (loads asked) (Doc d) = next ∙ is in (
+      i + 1,
+      omega (arith, ap (λ (w : World). w.press.floor) same, sees.sees.floor, sees.count),
+      omega arith,
+      subst (λ (w : World). MayServe d.value w.past) (sym same) answer.may.1,
+      inl (ap loads answer.may.0, refl),
+    )
 load_or_look rules first_run es rs i sees (looks (Some k)) d answer v next is =
-    let was = sees.sees.shown k d.value answer in
-    let same : world rules first_run es rs (i + 1) ≡ after rules (world rules first_run es rs i) (looks (Some k)) (Doc d) = next ∙ is in record {
-      after = was.after;
-      floor = omega (arith, ap (λ (w : World). w.press.floor) same, was.since);
-      within = omega (arith, was.within);
-      load = λ asked is. absurd (cc);
-      asked = ap Some (sym was.key);
-      served = was.served;
-    }
-load_or_look rules first_run es rs i sees (looks None) d answer v next is = absurd (cc)
-load_or_look rules first_run es rs i sees (writes now asked) d answer v next is = absurd answer
-load_or_look rules first_run es rs i sees (cleans now) d answer v next is = absurd answer
-load_or_look rules first_run es rs i sees closes d answer v next is = absurd answer
-load_or_look rules first_run es rs i sees (expires now) d answer v next is = absurd answer
-load_or_look rules first_run es rs i sees begins d answer v next is = absurd answer
-load_or_look rules first_run es rs i sees copies d answer v next is = absurd answer
-load_or_look rules first_run es rs i sees publishes d answer v next is = absurd answer
-load_or_look rules first_run es rs i sees (takes client p) d answer v next is = absurd answer
-load_or_look rules first_run es rs i sees (certifies client p) d answer v next is = absurd answer
-load_or_look rules first_run es rs i sees (shows client) d answer v next is = absurd answer
-load_or_look rules first_run es rs i sees (shows_certified client) d answer v next is = absurd answer
-load_or_look rules first_run es rs i sees (restarts run) d answer v next is = absurd answer
-load_or_look rules first_run es rs i sees bad d answer v next is = absurd answer
+    let was = sees.sees.shown k d.value answer.may.0 in
+    let same : world rules first_run es rs (i + 1) ≡ after rules (world rules first_run es rs i) (looks (Some k)) (Doc d) = next ∙ is in (
+      was.after,
+      omega (arith, ap (λ (w : World). w.press.floor) same, was.since),
+      omega (arith, was.within),
+      was.served,
+      inr (ap (λ k. looks (Some k)) (sym was.key)),
+    )
+load_or_look rules first_run es rs i sees (looks None) d answer v next is = absurd (let none = answer.may.0 in cc)
+load_or_look rules first_run es rs i sees (writes now (Ok ask)) d answer v next is = absurd answer.may.0
+load_or_look rules first_run es rs i sees (writes now (Err cause)) d answer v next is = absurd answer.may.0
+load_or_look rules first_run es rs i sees (cleans now) d answer v next is = absurd answer.may.0
+load_or_look rules first_run es rs i sees closes d answer v next is = absurd answer.may.0
+load_or_look rules first_run es rs i sees (expires now) d answer v next is = absurd answer.may.0
+load_or_look rules first_run es rs i sees begins d answer v next is = absurd answer.may.0
+load_or_look rules first_run es rs i sees copies d answer v next is = absurd answer.may.0
+load_or_look rules first_run es rs i sees publishes d answer v next is = absurd answer.may.0
+load_or_look rules first_run es rs i sees (takes client p) d answer v next is = absurd answer.may.0
+load_or_look rules first_run es rs i sees (certifies client p) d answer v next is = absurd answer.may.0
+load_or_look rules first_run es rs i sees (shows client) d answer v next is = absurd answer.may.0
+load_or_look rules first_run es rs i sees (shows_certified client) d answer v next is = absurd answer.may.0
+load_or_look rules first_run es rs i sees (restarts run) d answer v next is = absurd answer.may.0
+load_or_look rules first_run es rs i sees bad d answer v next is = absurd answer.may.0
 
 in_range : {A : Type 0} (xs : List A) (i : ℕ) (x : A) → slice_get xs i ≡ Some x → i < length xs
 in_range [] i x is = absurd (cc)
 in_range (y ∷ xs) zero x is = omega arith
 in_range (y ∷ xs) (suc i) x is = omega (arith, in_range xs i x is)
 
-pub served : (rules : Rules) (first_run : ℕ) (es : List Event) (rs : List Reply) → AreAnswers rules first_run es rs → ((i : ℕ) → i ≤ length rs → ShowsFresh rules first_run es rs i) → AreServed rules first_run es rs
+pub served : (rules : Rules) (first_run : ℕ) (es : List Event) (rs : List Reply) → AreAnswered rules first_run es rs → ((i : ℕ) → i ≤ length rs → ShowsFresh rules first_run es rs i) → AreServed rules first_run es rs
 served rules first_run es rs answers fresh = λ i e d event is.
     let lt = in_range rs i (Doc d) is in
     let sees = sees_at rules first_run es rs answers i (λ j le. fresh j (omega (arith, le, lt))) in
     load_or_look rules first_run es rs i sees (effect rules (world rules first_run es rs i) e) d (answers i e (Doc d) event is) _ refl (world-suc rules first_run es rs i e (Doc d) event is)
 
--- ---- the first event that can't be run
+-- ---- all answers, and the first event that can't be run
+
+pub all_answers : (most : ℕ) (rules : Rules) (first_run : ℕ) (es : List Event) (rs : List Reply) (i : ℕ) (now : Cache) → length rs ≡ i → IsCourse most rules first_run es rs i now → AreAnswers most rules first_run es rs
+all_answers most rules first_run es rs i now count course = record {
+  caches = course.caches;
+  first = course.first;
+  each = course.each;
+  pressed = λ k le. course.pressed k (omega (arith, le, count));
+}
 
 pub first_bad : (most : ℕ) (rules : Rules) (first_run : ℕ) (es : List Event) (rs : List Reply) (i : ℕ) (e : Event) (n : ℕ) (s : CacheLevels) (held : Holders) → IsRun most rules first_run es rs i s held → slice_get es i ≡ Some e → n ≡ length rs
-    → ((w : World) → w.replies ≡ rs → effect (rules_of s.hub) w e ≡ bad) → IsFirstBadEvent rules first_run es (BadEvent (n + 1))
+    → ((w : World) → w.replies ≡ rs → effect (rules_of s.hub) w e ≡ bad) → IsFirstBadEvent most rules first_run es (BadEvent (n + 1))
 first_bad most rules first_run es rs i e n s held run event number is = record {
   replies = rs;
   event = e;
-  before = run.answers;
+  before = all_answers most rules first_run es rs i (cache_of s.hub) run.count run.course;
   is_next = ap (slice_get es) run.count ∙ event;
   is_bad =
       ap (λ k. effect rules (world rules first_run es rs k) e) run.count
@@ -278,23 +275,17 @@ first_bad most rules first_run es rs i e n s held run event number is = record {
 pub at_index : {A : Type 0} (xs : List A) (i : ℕ) (x : A) → i < length xs → x ≡ get_or xs i x → slice_get xs i ≡ Some x
 at_index xs i x lt is = slice_get-get_or xs i x lt ∙ ap (λ y. Some y) (sym is)
 
-pub no_answers : (rules : Rules) (first_run : ℕ) (es : List Event) (rs : List Reply) → rs ≡ [] → AreAnswers rules first_run es rs
-no_answers rules first_run es rs none = λ i event reply ev is. absurd (let bad = ap (λ xs. slice_get xs i) (sym none) ∙ is in cc)
-
 -- ---- nothing has happened yet
 
 pub new_levels : (run most : ℕ) (s : CacheLevels) → HubStandsFor s.hub (nothing run) → cache_of s.hub ≡ new_cache most → s.published ≡ empty → AreLevelsOf s (new_world run)
-new_levels run most s stands cache published =
-    let rounds : s.hub.rounds ≡ record { edition = empty; round = None } = ap (λ (c : Cache). c.rounds) cache in
-    record {
-      levels = first_levels run s.hub s.next stands rounds;
-      keys = ap (λ (r : Rounds). option_map (λ (x : Round). length x.left) r.round) (sym rounds);
-      published = published;
-    }
+new_levels run most s stands cache published = record {
+  levels = first_levels run s.hub s.next stands (ap (λ (c : Cache). c.rounds) cache);
+  published = published;
+}
 
-new_pressed : (rules : Rules) (first_run : ℕ) (es : List Event) (rs : List Reply) (most : ℕ) (k : ℕ) → k ≤ 0 → IsPressedBy rules first_run es rs k (new_cache most)
+new_pressed : (rules : Rules) (first_run : ℕ) (es : List Event) (rs : List Reply) (most : ℕ) (k : ℕ) → k ≤ 0 → IsPressedIn (world rules first_run es rs k) (new_cache most)
 unfolding world
-new_pressed rules first_run es rs most zero le = record { pressed = first_pressed first_run; keys = refl }
+new_pressed rules first_run es rs most zero le = first_pressed first_run
 new_pressed rules first_run es rs most (suc k) le = absurd (omega (arith, le))
 
 pub new_course : (most : ℕ) (rules : Rules) (first_run : ℕ) (es : List Event) (rs : List Reply) (now : Cache) → rs ≡ [] → now ≡ new_cache most → IsCourse most rules first_run es rs 0 now
@@ -304,15 +295,6 @@ new_course most rules first_run es rs now none is = record {
   last = sym is;
   each = λ k e r ev rep. absurd (let bad = ap (λ xs. slice_get xs k) (sym none) ∙ rep in cc);
   pressed = λ k le. new_pressed rules first_run es rs most k le;
-}
-
--- all that was kept and copied
-pub all_cached : (most : ℕ) (rules : Rules) (first_run : ℕ) (es : List Event) (rs : List Reply) (i : ℕ) (now : Cache) → length rs ≡ i → IsCourse most rules first_run es rs i now → AreCached most rules first_run es rs
-all_cached most rules first_run es rs i now count course = record {
-  caches = course.caches;
-  first = course.first;
-  each = course.each;
-  pressed = λ k le. course.pressed k (omega (arith, le, count));
 }
 
 -- ---- past the last reply nothing happens
@@ -345,6 +327,6 @@ pub always_fresh : (rules : Rules) (first_run : ℕ) (es : List Event) (rs : Lis
 always_fresh rules first_run es rs pressed i = one (place_of i (length rs))
   where
     one : Place i (length rs) → ShowsFresh rules first_run es rs i
-    one (below lt) = (pressed i (omega (arith, lt))).2.pressed.publishable
-    one (at is) = (pressed i (omega (arith, is))).2.pressed.publishable
-    one (beyond lt) = subst (λ (w : World). IsPublishable w.press.published) (sym (world_end rules first_run es rs i (omega (arith, lt)))) (pressed (length rs) (omega arith)).2.pressed.publishable
+    one (below lt) = (pressed i (omega (arith, lt))).1.publishable
+    one (at is) = (pressed i (omega (arith, is))).1.publishable
+    one (beyond lt) = subst (λ (w : World). IsPublishable w.press.published) (sym (world_end rules first_run es rs i (omega (arith, lt)))) (pressed (length rs) (omega arith)).1.publishable

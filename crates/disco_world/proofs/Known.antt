@@ -1,5 +1,5 @@
 -- Copies that are known at a version of a run, and documents that are true of a version of their run.
-use Rattle.std.proofs.Common.{◌≡◌, ℕ, ◌≤◌, Bool, true, false, List, [], ◌∷◌, ◌++◌, length, map, take, Option, Some, None, Result, Ok, refl, sym, ap, subst, ◌∙◌, arith}
+use Rattle.std.proofs.Common.{◌≡◌, ℕ, ◌≤◌, Bool, true, false, cond, List, [], ◌∷◌, ◌++◌, length, map, take, Option, Some, None, option_and_then, option_map, Result, Ok, refl, sym, ap, subst, ◌∙◌, arith}
 use Rattle.std.proofs.lemmas.Option.{same_Some}
 use Rattle.std.specs.FinMap.{FinMap, values}
 use Rattle.std.specs.Option.{option_map_or}
@@ -27,7 +27,7 @@ use Rattle.disco_cache.specs.declared.payload.Payload.{Payload}
 use Rattle.disco_client.specs.Tracks.{Histories, IsVersionIn, known_at, moved}
 use Rattle.disco_client.specs.declared.known.Known.{Known}
 use Rattle.disco_client.proofs.KnownVersions.{Moves, moves}
-use Rattle.disco_world.specs.Clients.{MeansVersion, client_after, taken_by}
+use Rattle.disco_world.specs.Clients.{client_after}
 use Rattle.disco_world.specs.Events.{for_clients}
 use Rattle.disco_world.specs.Steps.{IsReadable}
 use Rattle.disco_world.specs.declared.clients.Client.{Client}
@@ -59,6 +59,10 @@ Grow hs gs = (r : ℕ) → Extends (hs r) (gs r)
 
 pub at_on : (h g : List Entry) (k : Known) (s : FinMap key_cmp Row) → Extends h g → IsVersionIn h k s → IsVersionIn g k s
 at_on h g k s ext so = (omega (arith, so.0, ext.longer), so.1 ∙ ap (λ x. in_form k.form (registry_of x)) (sym (same_version h g k.version ext so.0)))
+
+-- a copy that is known at a version of a run is exactly that version of the run's history, in its form
+abbrev pub MeansVersion : Histories → Client → Type 0
+MeansVersion hs c = (at : Known) → c.known ≡ Some at → IsVersionIn (hs at.run) at c.copy
 
 pub means_on : (hs gs : Histories) (c : Client) → Grow hs gs → MeansVersion hs c → MeansVersion gs c
 means_on hs gs c grow means = λ at is. at_on (hs at.run) (gs at.run) at c.copy (grow at.run) (means at is)
@@ -167,12 +171,24 @@ delta_at hs d k at s is kind so m =
 
 -- ---- plain clients
 
--- a client after it took a document that means that, if it means something
-abbrev pub taken_from : Payload → Result Meaning Fault → Option Client → Option Client
-taken_from d r held = option_map_or (λ m. taken_by (is_delta d.key.query) d m held) (result_ok r) held
+-- a client after it took a document that means that
+abbrev pub taken_by : Bool → Payload → Meaning → Option Client → Option Client
+taken_by delta d m held = cond delta (option_map (λ (c : Client). record { copy = overlay c.copy m.mentions; known = moved c.known d.key.form (cert_of d) }) held) (Some (record { copy = copied m.mentions; known = Some (known_at d.key.form (cert_of d)) }))
+
+-- the records by a document that means that, if it means something
+abbrev pub rows_from : Bool → Result Meaning Fault → Option (FinMap key_cmp Row) → Option (FinMap key_cmp Row)
+rows_from delta r held = option_and_then (λ m. cond delta (option_map (λ s. overlay s m.mentions) held) (Some (copied m.mentions))) (result_ok r)
+
+abbrev taken_from : Bool → Payload → Result Meaning Fault → Option Client → Option Client
+taken_from delta d r held = option_map_or (λ s. Some (record { copy = s; known = cond delta (option_and_then (λ (c : Client). moved c.known d.key.form (cert_of d)) held) (Some (known_at d.key.form (cert_of d))) })) (rows_from delta r (option_map (λ (c : Client). c.copy) held)) held
+
+taken_so : (d : Payload) (held : Option Client) (b : Bool) (m : Meaning) → taken_from b d (Ok m) held ≡ taken_by b d m held
+taken_so d held false m = refl
+taken_so d None true m = refl
+taken_so d (Some c) true m = refl
 
 pub taken_is : (d : Payload) (held : Option Client) (b : Bool) (m : Meaning) → is_delta d.key.query ≡ b → document_of d.text ≡ Ok m → client_after d held ≡ taken_by b d m held
-taken_is d held b m kind means = ap (λ x. taken_from d x held) means ∙ ap (λ b. taken_by b d m held) kind
+taken_is d held b m kind means = (λ i. taken_from (kind i) d (means i) held) ∙ taken_so d held b m
 
 same_known : (c : Client) (s : FinMap key_cmp Row) (at now : Known) → c ≡ record { copy = s; known = Some now } → c.known ≡ Some at → now ≡ at
 same_known c s at now e is = same_Some now at (sym (ap (λ (c : Client). c.known) e) ∙ is)

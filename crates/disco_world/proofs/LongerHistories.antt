@@ -1,85 +1,18 @@
 -- The history of the run that is running goes on from event to event, and that of each other run stays.
-use Rattle.std.proofs.Common.{◌≡◌, ℕ, zero, suc, ◌<◌, ◌≤◌, Bool, true, false, cond, eqb, List, [], ◌∷◌, ◌++◌, Option, Some, None, Result, Ok, Err, slice_get, refl, sym, ap, subst, ◌∙◌, arith}
+use Rattle.std.proofs.Common.{◌≡◌, ℕ, zero, suc, ◌<◌, ◌≤◌, Bool, true, false, cond, eqb, List, [], Option, Some, None, slice_get, refl, sym, ap, subst, ◌∙◌, arith}
 use Rattle.std.proofs.lemmas.Bool.{eq-eqb, eqb-true, ne_eqb}
-use Rattle.disco_values.specs.declared.fault.Fault.{Fault}
-use Rattle.disco_values.specs.declared.key.Key.{Key}
-use Rattle.disco_history.specs.Change.{Entry}
-use Rattle.disco_registry.specs.Op.{OpView, cancel}
-use Rattle.disco_queue.specs.Timed.{Timed, changes}
-use Rattle.disco_hub.specs.Expiry.{after_next, cancel_of, cancelled}
-use Rattle.disco_core.specs.Past.{Past, after_ask, history, taken_in}
+use Rattle.disco_core.specs.Past.{history}
 use Rattle.disco_core.specs.State.{Rules}
-use Rattle.disco_core.proofs.Runs.{run_done}
-use Rattle.disco_hub.proofs.Runs.{run_cancelled}
 use Rattle.disco_client.specs.Tracks.{Histories}
-use Rattle.disco_world.specs.Answers.{AreAnswers, IsAnswer}
-use Rattle.disco_world.specs.Events.{Effect, World, writes, expires, restarts, after, after_at, effect, done, history_of, performed, ran_out, world}
-use Rattle.disco_world.specs.Steps.{after_run, ended_after, past_done}
+use Rattle.disco_world.specs.Events.{Effect, World, restarts, effect}
+use Rattle.disco_world.specs.Outcomes.{after, after_at, history_of, world}
+use Rattle.disco_world.specs.Steps.{AreAnswered, IsAnswer, goes_on}
 use Rattle.disco_world.specs.declared.event.Event.{Event}
 use Rattle.disco_world.specs.declared.event.Reply.{Reply}
-use Rattle.disco_world.specs.declared.event.Reply.TheVariants.{Expired, Restarted}
+use Rattle.disco_world.specs.declared.event.Reply.TheVariants.{Restarted}
 use Rattle.disco_world.proofs.Histories.{Place, below, at, beyond, place_of}
-use Rattle.disco_world.proofs.EffectParts.{ended_performed, past_is}
-use Rattle.disco_world.proofs.Known.{Extends, Grow, extends_more, extends_on, extends_same}
-
--- ---- a history only grows
-
-map_more : (ts : List Timed) (t : Timed) → changes (ts ++ t ∷ []) ≡ changes ts ++ t.0 ∷ []
-map_more [] t = refl
-map_more (s ∷ ts) t = ap (λ cs. s.0 ∷ cs) (map_more ts t)
-
-ask_extends : (most : ℕ) (p : Past) (now : ℕ) (ask : OpView) (result : Result (Option Entry) Fault) → Extends (history p) (history (after_ask most p now ask result))
-ask_extends most p now ask (Ok (Some c)) = subst (Extends (history p)) (sym (map_more p.timed (c, now))) (extends_more (history p) c)
-ask_extends most p now ask (Ok None) = extends_same (history p)
-ask_extends most p now ask (Err e) = extends_same (history p)
-
-next_extends : (rules : Rules) (p : Past) (now : ℕ) (o : Option Key) → Extends (history p) (history (after_next rules p now o))
-next_extends rules p now None = extends_same (history p)
-next_extends rules p now (Some k) = ask_extends rules.queue p now (cancel k) (cancel_of rules p now k)
-
--- so it does by each of several cancels
-cancels_extend : (rules : Rules) (p : Past) (now : ℕ) (ks : List Key) (i : ℕ) → Extends (history p) (history (cancelled rules p now ks i))
-unfolding cancelled
-cancels_extend rules p now ks zero = extends_same (history p)
-cancels_extend rules p now ks (suc i) = extends_on _ _ _ (cancels_extend rules p now ks i) (next_extends rules (cancelled rules p now ks i) now (slice_get ks i))
-
-run_extends : (rules : Rules) (p : Past) (now : ℕ) (r : Reply) → Extends (history p) (history (after_run rules p now r))
-run_extends rules p now (Expired run) = cancels_extend rules p now (taken_in p now) run.gone
-run_extends rules p now r = extends_same (history p)
-
--- ---- effects that begin no run
-
-abbrev pub goes_on : Effect → Reply → Bool
-goes_on (restarts run) (Restarted r) = false
-goes_on _ _ = true
-
-done_extends : (rules : Rules) (p : Past) (what : Effect) (r : Reply) → goes_on what r ≡ true → Extends (history p) (history (past_done rules p what r))
-done_extends rules p (expires now) r goes = run_extends rules p now r
-done_extends rules p (writes now (Ok ask)) r goes = ask_extends rules.queue p now ask (done rules p now (Ok ask))
-done_extends rules p (restarts run) (Restarted s) goes = absurd (cc)
-done_extends rules p what r goes = extends_same (history p)
-
-past_extends : (rules : Rules) (p : Past) (what : Effect) (r : Reply) (b : Bool) → goes_on what r ≡ true → Extends (history p) (history (cond b p (past_done rules p what r)))
-past_extends rules p what r true goes = extends_same (history p)
-past_extends rules p what r false goes = done_extends rules p what r goes
-
-ask_stays : (most : ℕ) (p : Past) (now : ℕ) (ask : OpView) (result : Result (Option Entry) Fault) → (after_ask most p now ask result).run ≡ p.run
-ask_stays most p now ask (Ok c) = run_done most p now ask c
-ask_stays most p now ask (Err e) = refl
-
-expiry_stays : (rules : Rules) (p : Past) (now : ℕ) (r : Reply) → (after_run rules p now r).run ≡ p.run
-expiry_stays rules p now (Expired run) = run_cancelled rules p now (taken_in p now) run.gone
-expiry_stays rules p now r = refl
-
-done_stays : (rules : Rules) (p : Past) (what : Effect) (r : Reply) → goes_on what r ≡ true → (past_done rules p what r).run ≡ p.run
-done_stays rules p (expires now) r goes = expiry_stays rules p now r
-done_stays rules p (writes now (Ok ask)) r goes = ask_stays rules.queue p now ask (done rules p now (Ok ask))
-done_stays rules p (restarts run) (Restarted s) goes = absurd (cc)
-done_stays rules p what r goes = refl
-
-run_stays : (rules : Rules) (p : Past) (what : Effect) (r : Reply) (b : Bool) → goes_on what r ≡ true → (cond b p (past_done rules p what r)).run ≡ p.run
-run_stays rules p what r true goes = refl
-run_stays rules p what r false goes = done_stays rules p what r goes
+use Rattle.disco_world.proofs.EffectParts.{GoesOn, parts}
+use Rattle.disco_world.proofs.Known.{Extends, Grow, extends_on, extends_same}
 
 -- ---- all histories
 
@@ -125,44 +58,27 @@ module _ (w : World) (run : ℕ) (numbered : AreNumbered w) (new : w.past.run < 
       by true is = let same : n ≡ run = eqb-true n run is in subst (λ h. Extends h []) (sym (none_yet n (omega (arith, same, new)))) (extends_same [])
       by false other = extends_same (history_of w n)
 
--- what is ended stays so where no run begins
-ended_stays : (w : World) (what : Effect) (r : Reply) → goes_on what r ≡ true → ended_after w what r ≡ w.ended
-ended_stays w (restarts run) (Restarted s) goes = absurd (cc)
-ended_stays w what r goes = refl
-
--- so it is after it
-module _ (rules : Rules) (w : World) (what : Effect) (r : Reply) (goes : goes_on what r ≡ true) where
-  ended_on : (after rules w what r).ended ≡ w.ended
-  ended_on = by (ran_out r)
-    where
-      by : (b : Bool) → (cond b w (performed rules w what r)).ended ≡ w.ended
-      by true = refl
-      by false = ended_performed rules w what r ∙ ended_stays w what r goes
-
-  pub run_on : (after rules w what r).past.run ≡ w.past.run
-  run_on = ap (λ (p : Past). p.run) (past_is rules w what r) ∙ run_stays rules w.past what r (ran_out r) goes
-
-  pub extends_so : Extends (history w.past) (history (after rules w what r).past)
-  extends_so = subst (λ (p : Past). Extends (history w.past) (history p)) (sym (past_is rules w what r)) (past_extends rules w.past what r (ran_out r) goes)
-
 module _ (rules : Rules) (w : World) (numbered : AreNumbered w) where
+  on : (what : Effect) (r : Reply) → goes_on what r ≡ true → GoesOn w (after rules w what r).past (after rules w what r).ended
+  on what r goes = (parts rules w what r).goes goes
+
   goes_so : (what : Effect) (r : Reply) → goes_on what r ≡ true → Grow (history_of w) (history_of (after rules w what r))
-  goes_so what r goes = grows_in w (after rules w what r) (run_on rules w what r goes) (ended_on rules w what r goes) (extends_so rules w what r goes)
+  goes_so what r goes = let so = on what r goes in grows_in w (after rules w what r) so.run so.ended_is so.extends
 
   pub grows : (what : Effect) (r : Reply) → IsAnswer rules w what r → Grow (history_of w) (history_of (after rules w what r))
-  grows (restarts run) (Restarted s) answer = grows_anew w run numbered answer.1
+  grows (restarts run) (Restarted s) answer = grows_anew w run numbered answer.may.1
   grows what r answer = goes_so what r refl
 
   stays_so : (what : Effect) (r : Reply) → goes_on what r ≡ true → AreNumbered (after rules w what r)
-  stays_so what r goes = numbered_in w (after rules w what r) (run_on rules w what r goes) (ended_on rules w what r goes) numbered
+  stays_so what r goes = let so = on what r goes in numbered_in w (after rules w what r) so.run so.ended_is numbered
 
   pub numbered_after : (what : Effect) (r : Reply) → IsAnswer rules w what r → AreNumbered (after rules w what r)
-  numbered_after (restarts run) (Restarted s) answer = λ n lt. none_yet w run numbered answer.1 n (omega (arith, lt, answer.1))
+  numbered_after (restarts run) (Restarted s) answer = λ n lt. none_yet w run numbered answer.may.1 n (omega (arith, lt, answer.may.1))
   numbered_after what r answer = stays_so what r refl
 
 -- ---- from event to event
 
-module _ (rules : Rules) (first_run : ℕ) (es : List Event) (rs : List Reply) (answers : AreAnswers rules first_run es rs) where
+module _ (rules : Rules) (first_run : ℕ) (es : List Event) (rs : List Reply) (answers : AreAnswered rules first_run es rs) where
   abbrev here : ℕ → World
   here i = world rules first_run es rs i
 

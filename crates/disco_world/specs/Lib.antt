@@ -1,8 +1,7 @@
 pub mod Answers
-pub mod Caching
-pub mod Certified
 pub mod Clients
 pub mod Events
 pub mod Levels
+pub mod Outcomes
 pub mod Rounds
 pub mod Steps

@@ -1,7 +1,5 @@
 -- What private contracts say of one event. Nothing here is to be believed: the clauses of `run` don't cite it.
-use Rattle.std.specs.Prelude.{◌≡◌, ◌≢◌, ℕ, Bool, true, false, List, drop, length, if◌then◌else◌, Option, Some, None, Result, Ok, Err}
-use Rattle.std.specs.Option.{option_flatten}
-use Rattle.std.specs.Result.{result_ok}
+use Rattle.std.specs.Prelude.{◌≡◌, ◌≢◌, ℕ, Bool, true, false, List, drop, length, Option, Some, None, Result, Ok, Err, slice_get}
 use Rattle.std.specs.BTreeMap as tree
 use Rattle.std.specs.Ordering.{nat_cmp}
 use Rattle.std.specs.declared.alloc.Global.{Global}
@@ -10,30 +8,25 @@ use Rattle.disco_instance.specs.Row.{Row}
 use Rattle.disco_values.specs.declared.fault.Fault.{Fault}
 use Rattle.disco_values.specs.declared.fault.Fault.TheVariants.{NotFetched, OutOfMemory}
 use Rattle.disco_history.specs.Change.{Entry}
-use Rattle.disco_registry.specs.Accept.{accept_after}
 use Rattle.disco_registry.specs.declared.op.Applied.{Applied}
 use Rattle.disco_registry.specs.declared.op.Applied.TheVariants as applied
 use Rattle.disco_wire.specs.Documents.{document_of}
 use Rattle.disco_wire.specs.Meaning.{Meaning}
 use Rattle.disco_wire.specs.declared.wire.Shape.TheVariants.{Many}
 use Rattle.disco_cache.specs.declared.payload.Payload.{Payload}
-use Rattle.disco_core.specs.Past.{Past, after_ask, cleaned, history, minute_closed, nothing, taken_in}
+use Rattle.disco_core.specs.Past.{Past, history}
 use Rattle.disco_core.specs.State.{Rules}
-use Rattle.disco_hub.specs.Expiry.{cancelled}
 use Rattle.disco_hub.specs.State.{HubState, HubStandsFor, rules_of}
-use Rattle.disco_world.specs.Answers.{IsAnswer}
-use Rattle.disco_world.specs.Caching.{Cache, Caches}
-use Rattle.disco_client.specs.Tracks.{Histories}
 use Rattle.disco_client.specs.declared.certified.CertifiedCopy.{CertifiedCopy}
 use Rattle.disco_client.specs.declared.known.Known.{Known}
-use Rattle.disco_world.specs.Certified.{IsGiven, given, takes_it}
-use Rattle.disco_world.specs.Clients.{IsTakenReply, client_after, with_one}
-use Rattle.disco_world.specs.Events.{Effect, World, doc_of_event, history_of, ran_out}
-use Rattle.disco_world.specs.Events.{writes, cleans, closes, expires, begins, copies, publishes, takes, certifies, restarts}
+use Rattle.disco_world.specs.Clients.{IsGiven, IsTakenReply, client_after, given, takes_it, with_one}
+use Rattle.disco_world.specs.Events.{Effect, World, begins, copies, publishes, looks, takes, certifies, shows, shows_certified, restarts, doc_of_event, effect}
+use Rattle.disco_world.specs.Outcomes.{Cache, outcome, world}
 use Rattle.disco_world.specs.declared.clients.Client.{Client}
 use Rattle.disco_world.specs.declared.clients.Clients.{Clients}
+use Rattle.disco_world.specs.declared.event.Event.{Event}
 use Rattle.disco_world.specs.declared.event.Reply.{Reply}
-use Rattle.disco_world.specs.declared.event.Reply.TheVariants.{Changed, Same, Doc, Expired, Begun, Copied, Published, Restarted, Refused}
+use Rattle.disco_world.specs.declared.event.Reply.TheVariants.{Changed, Same, Doc, Begun, Copied, Published, Restarted, Refused}
 use Rattle.disco_world.specs.declared.event.Reply.TheVariants.{Taken, Certified, Held}
 use Rattle.disco_world.specs.declared.instance_summary.InstanceSummary.{InstanceSummary}
 
@@ -63,47 +56,37 @@ abbrev pub reply_to_show : Result (List InstanceSummary) Fault → Reply
 reply_to_show (Ok listed) = Held listed
 reply_to_show (Err e) = Refused e
 
--- ---- what an effect with that answer does to each part of what has happened
+-- ---- what an effect with that reply makes of each part of what has happened
 
-abbrev pub after_run : Rules → Past → ℕ → Reply → Past
-after_run rules p now (Expired run) = cancelled rules p now (taken_in p now) run.gone
-after_run rules p now _ = p
+-- the reply may be given between two states of what is kept and copied
+pub record IsAnswer (rules : Rules) (w : World) (what : Effect) (reply : Reply) : Type 0 where
+  pub old : Cache
+  pub new : Cache
+  pub may : (outcome rules w what reply).may old new
 
-abbrev pub after_restart : ℕ → Past → Reply → Past
-after_restart run p (Restarted r) = nothing run
-after_restart run p _ = p
+-- each reply may be given so
+abbrev pub AreAnswered : Rules → ℕ → List Event → List Reply → Type 0
+AreAnswered rules run events replies = (i : ℕ) (event : Event) (reply : Reply) → slice_get events i ≡ Some event → slice_get replies i ≡ Some reply
+    → let w = world rules run events replies i in IsAnswer rules w (effect rules w event) reply
 
--- to the registry, where there was memory
-abbrev pub past_done : Rules → Past → Effect → Reply → Past
-past_done rules p (writes now (Ok ask)) reply = after_ask rules.queue p now ask (accept_after rules.limits (history p) ask now)
-past_done rules p (cleans now) reply = cleaned rules.retention p now
-past_done rules p closes reply = minute_closed p
-past_done rules p (expires now) reply = after_run rules p now reply
-past_done rules p (restarts run) reply = after_restart run p reply
-past_done rules p _ reply = p
+-- the clients' copies
+abbrev pub clients_after : (ℕ → Option Client) → Effect → Reply → ℕ → Option Client
+clients_after clients (takes client d) (Taken equal version) = with_one clients client (client_after d (clients client))
+clients_after clients _ _ = clients
 
--- to the clients' copies
-abbrev pub clients_done : (ℕ → Option Client) → Effect → ℕ → Option Client
-clients_done clients (takes client d) = with_one clients client (client_after d (clients client))
-clients_done clients _ = clients
-
--- and to those of the certified clients
-abbrev pub certified_done : (ℕ → Option CertifiedCopy) → Effect → ℕ → Option CertifiedCopy
-certified_done clients (certifies client d) = with_one clients client (given d (clients client))
-certified_done clients _ = clients
-
--- to the histories of the runs that ended
-abbrev pub ended_after : World → Effect → Reply → Histories
-ended_after w (restarts run) (Restarted r) = history_of w
-ended_after w _ _ = w.ended
+-- and those of the certified clients
+abbrev pub certified_after : (ℕ → Option CertifiedCopy) → Effect → Reply → ℕ → Option CertifiedCopy
+certified_after clients (certifies client d) (Certified taken run version) = with_one clients client (given d (clients client))
+certified_after clients _ _ = clients
 
 -- the changes that there are more
 abbrev pub changes_since : Past → Past → List Entry
 changes_since p q = drop (length (history p)) (history q)
 
--- the change that an operation makes, if it makes one
-abbrev pub change_made : Result (Option Entry) Fault → Option Entry
-change_made result = option_flatten (result_ok result)
+-- it begins no run
+abbrev pub goes_on : Effect → Reply → Bool
+goes_on (restarts run) (Restarted r) = false
+goes_on _ _ = true
 
 -- it is no step of a round and no restart, so that of readers nothing but changes is noted
 abbrev pub is_plain : Effect → Reply → Bool
@@ -113,14 +96,14 @@ is_plain publishes (Published n) = false
 is_plain (restarts run) (Restarted r) = false
 is_plain _ _ = true
 
-abbrev pub past_after : Rules → Past → Effect → Reply → Past
-past_after rules p what reply = if ran_out reply then p else past_done rules p what reply
-
-abbrev pub clients_after : (ℕ → Option Client) → Effect → Reply → ℕ → Option Client
-clients_after clients what reply = if ran_out reply then clients else clients_done clients what
-
-abbrev pub certified_after : (ℕ → Option CertifiedCopy) → Effect → Reply → ℕ → Option CertifiedCopy
-certified_after clients what reply = if ran_out reply then clients else certified_done clients what
+-- it leaves the registry, whatever it answers
+abbrev pub only_asks : Effect → Bool
+only_asks (looks key) = true
+only_asks (takes client d) = true
+only_asks (certifies client d) = true
+only_asks (shows client) = true
+only_asks (shows_certified client) = true
+only_asks _ = false
 
 -- ---- calls
 
@@ -130,9 +113,8 @@ cache_of s = record { docs = s.docs; rounds = s.rounds }
 
 -- a hub answers an effect, then stands for what has happened with it, and keeps what it leaves
 abbrev pub Performs : HubState → HubState → (World → Effect) → Reply → Type 0
-Performs old new what reply = (w : World) → HubStandsFor old w.past
-    → IsAnswer (rules_of old) w (what w) reply × HubStandsFor new (past_after (rules_of old) w.past (what w) reply)
-    × Caches (rules_of old) w.past (what w) reply (cache_of old) (cache_of new)
+Performs old new what reply = (w : World) → HubStandsFor old w.past → HubStandsFor new (outcome (rules_of old) w (what w) reply).next.past
+    × (outcome (rules_of old) w (what w) reply).may (cache_of old) (cache_of new)
 
 -- the document means that, which is of many apps
 abbrev pub IsMeant : Payload → Meaning → Type 0
@@ -148,9 +130,9 @@ ClientTakes old new client d (Ok told) = IsTakenReply d (client_after d (old cli
 ClientTakes old new client d (Err e) = (e ≢ OutOfMemory → (e ≡ NotFetched) × (client_after d (old client) ≡ None)) × ((q : ℕ) → new q ≡ old q)
 
 -- a copy is given a document: so it is then, and so is told
-pub record IsTurned (delta : Bool) (d : Payload) (old new : CertifiedCopy) (taken : Bool) : Type 0 where
+pub record IsTurned (d : Payload) (old new : CertifiedCopy) (taken : Bool) : Type 0 where
   pub now : given d (Some old) ≡ Some new
-  pub taken_is : taken ≡ takes_it delta d (Some old)
+  pub taken_is : taken ≡ takes_it d (Some old)
 
 -- a certified client is given a document, or is refused it and all is as before
 abbrev pub ClientIsGiven : (ℕ → Option CertifiedCopy) → (ℕ → Option CertifiedCopy) → ℕ → Payload → Result (Bool × Known) Fault → Type 0
@@ -176,7 +158,3 @@ holders c = record { plain = tree.get nat_cmp c.plain; certified = tree.get nat_
 -- the clients are those of what has happened
 abbrev pub AreHeld : Holders → World → Type 0
 AreHeld held w = ((q : ℕ) → held.plain q ≡ w.clients q) × ((q : ℕ) → held.certified q ≡ w.certified q)
-
--- what an effect with that answer makes of the clients
-abbrev pub with_clients : World → Effect → Reply → World
-with_clients w what r = record w { clients = clients_after w.clients what r; certified = certified_after w.certified what r }

@@ -33,7 +33,7 @@ fn read(alloc: Global, payload: &Payload) -> Result<Wire, Fault>
 fn renew(alloc: Global, held: &mut CertifiedCopy, payload: &Payload) -> Result<bool, Fault>
     requires readable { IsReadable payload.now }
     requires full { is_delta payload.now.key.query ≡ false }
-    ensures turned { IfOk result (IsTurned false payload.now held.old held.new) }
+    ensures turned { IfOk result (IsTurned payload.now held.old held.new) }
     ensures memory { IfErr result (λ e. e ≡ OutOfMemory) }
     ensures unchanged { OnErr result (held.new ≡ held.old) }
 {
@@ -57,7 +57,7 @@ fn is_next(known: Known, payload: &Payload) -> bool
 fn follow(alloc: Global, held: &mut CertifiedCopy, payload: &Payload) -> Result<bool, Fault>
     requires readable { IsReadable payload.now }
     requires delta { is_delta payload.now.key.query ≡ true }
-    ensures turned { IfOk result (IsTurned true payload.now held.old held.new) }
+    ensures turned { IfOk result (IsTurned payload.now held.old held.new) }
     ensures memory { IfErr result (λ e. e ≡ OutOfMemory) }
     ensures unchanged { OnErr result (held.new ≡ held.old) }
 {
@@ -71,7 +71,7 @@ fn follow(alloc: Global, held: &mut CertifiedCopy, payload: &Payload) -> Result<
 /// A copy is given a document. Says whether it was taken.
 fn turn(alloc: Global, held: &mut CertifiedCopy, payload: &Payload) -> Result<bool, Fault>
     requires { IsReadable payload.now }
-    ensures turned { IfOk result (IsTurned (is_delta payload.now.key.query) payload.now held.old held.new) }
+    ensures turned { IfOk result (IsTurned payload.now held.old held.new) }
     ensures memory { IfErr result (λ e. e ≡ OutOfMemory) }
     ensures unchanged { OnErr result (held.new ≡ held.old) }
 {

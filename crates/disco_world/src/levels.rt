@@ -4,7 +4,7 @@ ghost use Rattle.std.specs.FinMap.{empty};
 ghost use Rattle.disco_core.specs.Past.{nothing};
 ghost use Rattle.disco_core.specs.State.{rules};
 ghost use Rattle.disco_hub.specs.State.{HubStandsFor, rules_of};
-ghost use Rattle.disco_world.specs.Caching.{new_cache};
+ghost use Rattle.disco_world.specs.Outcomes.{new_cache};
 ghost use Rattle.disco_world.specs.Steps.{cache_of};
 
 use disco_cache::Edition;

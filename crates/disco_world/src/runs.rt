@@ -12,8 +12,8 @@ ghost use Rattle.disco_core.specs.Past.{nothing};
 ghost use Rattle.disco_core.specs.State.{rules};
 ghost use Rattle.disco_hub.specs.State.{HubStandsFor, rules_of};
 ghost use Rattle.disco_world.specs.Answers.{AreAnswers, AreExact, AreKnown, AreServed, IsFirstBadEvent, NeverFall};
-ghost use Rattle.disco_world.specs.Caching.{AreCached, new_cache};
 ghost use Rattle.disco_world.specs.Events.{World, bad, closes, effect, doc_in, doc_of_event, expires, for_clients, writes};
+ghost use Rattle.disco_world.specs.Outcomes.{new_cache};
 ghost use Rattle.disco_world.specs.Levels.{AreLevelsOf, AnswersEvent};
 ghost use Rattle.disco_world.specs.Steps.{AreHeld, AreReadable, Performs, cache_of, holders, reply_to, reply_to_give, reply_to_show, reply_to_take};
 ghost use Rattle.disco_world.specs.declared.event.Event.TheVariants as event;
@@ -45,13 +45,12 @@ use std::alloc::Global;
 /// the replies is found.
 pub fn run(alloc: Global, settings: &Settings, events: &[Event]) -> Result<Vec<Reply>, Fault>
     ensures each { IfOk result (λ replies. length replies.items ≡ length events.now) }
-    ensures answers { IfOk result (λ replies. AreAnswers (rules settings.now) settings.now.run events.now replies.items) }
+    ensures answers { IfOk result (λ replies. AreAnswers settings.now.entries (rules settings.now) settings.now.run events.now replies.items) }
     ensures served { IfOk result (λ replies. AreServed (rules settings.now) settings.now.run events.now replies.items) }
-    ensures cached { IfOk result (λ replies. AreCached settings.now.entries (rules settings.now) settings.now.run events.now replies.items) }
     ensures known { IfOk result (λ replies. AreKnown (rules settings.now) settings.now.run events.now replies.items) }
     ensures exact { IfOk result (λ replies. AreExact (rules settings.now) settings.now.run events.now replies.items) }
     ensures rising { IfOk result (λ replies. NeverFall (rules settings.now) settings.now.run events.now replies.items) }
-    ensures refused { IfErr result (λ e. e ≢ OutOfMemory → IsFirstBadEvent (rules settings.now) settings.now.run events.now e) }
+    ensures refused { IfErr result (λ e. e ≢ OutOfMemory → IsFirstBadEvent settings.now.entries (rules settings.now) settings.now.run events.now e) }
 {
     let mut levels = CacheLevels::new(alloc, settings);
     let mut clients = Clients::new(alloc);
@@ -73,13 +72,12 @@ fn run_all(
     requires plain { tree.IsEmpty clients.old.plain }
     requires certified { tree.IsEmpty clients.old.certified }
     ensures each { IfOk result (λ replies. length replies.items ≡ length events.now) }
-    ensures answers { IfOk result (λ replies. AreAnswers (rules settings.now) settings.now.run events.now replies.items) }
+    ensures answers { IfOk result (λ replies. AreAnswers settings.now.entries (rules settings.now) settings.now.run events.now replies.items) }
     ensures served { IfOk result (λ replies. AreServed (rules settings.now) settings.now.run events.now replies.items) }
-    ensures cached { IfOk result (λ replies. AreCached settings.now.entries (rules settings.now) settings.now.run events.now replies.items) }
     ensures known { IfOk result (λ replies. AreKnown (rules settings.now) settings.now.run events.now replies.items) }
     ensures exact { IfOk result (λ replies. AreExact (rules settings.now) settings.now.run events.now replies.items) }
     ensures rising { IfOk result (λ replies. NeverFall (rules settings.now) settings.now.run events.now replies.items) }
-    ensures refused { IfErr result (λ e. e ≢ OutOfMemory → IsFirstBadEvent (rules settings.now) settings.now.run events.now e) }
+    ensures refused { IfErr result (λ e. e ≢ OutOfMemory → IsFirstBadEvent settings.now.entries (rules settings.now) settings.now.run events.now e) }
 {
     let mut replies = Vec::new(alloc);
     for event in events {

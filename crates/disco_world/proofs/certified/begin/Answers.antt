@@ -6,7 +6,7 @@ use Rattle.disco_wire.specs.Wire.{wire_meaning}
 use Rattle.disco_client.specs.Tracks.{known_at}
 use Rattle.disco_client.specs.declared.certified.CertifiedCopy.{CertifiedCopy}
 use Rattle.disco_values.specs.declared.cert.Cert.{Cert}
-use Rattle.disco_world.specs.Certified.{given}
+use Rattle.disco_world.specs.Clients.{given}
 use Rattle.disco_world.proofs.CertifiedTakes.{begins_copy, is_begun}
 use Rattle.disco_world.proofs.TakenDocuments.{with_now}
 use Rattle.disco_world.proofs.certified.begin.Goals as goal

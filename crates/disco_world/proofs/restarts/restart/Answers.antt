@@ -1,7 +1,7 @@
 use Rattle.std.proofs.Common.{◌≡◌, ap, sym, subst, ◌∙◌, arith}
 use Rattle.disco_core.specs.Past.{nothing}
 use Rattle.disco_hub.specs.State.{HubStandsFor}
-use Rattle.disco_world.specs.Caching.{new_cache}
+use Rattle.disco_world.specs.Outcomes.{new_cache}
 use Rattle.disco_world.proofs.LevelEffects.{restarted_turns}
 use Rattle.disco_world.proofs.restarts.restart.Goals as goal
 

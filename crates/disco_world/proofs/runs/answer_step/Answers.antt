@@ -3,11 +3,13 @@ use Rattle.disco_instance.specs.Instance.{Gives}
 use Rattle.disco_registry.specs.Op as asking
 use Rattle.disco_registry.specs.Op.{op_view}
 use Rattle.disco_wire.specs.Registration.{registration_of}
-use Rattle.disco_world.specs.Events.{expires, looks, restarts, shows, shows_certified, writes}
+use Rattle.disco_world.specs.Events.{begins, closes, copies, effect, expires, looks, publishes, restarts, shows, shows_certified, writes}
 use Rattle.disco_operations.specs.Operations.{key_named, registers}
 use Rattle.disco_world.specs.Levels.{key_looked}
-use Rattle.disco_world.specs.Steps.{holders, reply_to_show}
+use Rattle.disco_world.specs.Steps.{cache_of, holders, reply_to_show}
 use Rattle.disco_hub.specs.State.{rules_of}
+use Rattle.disco_world.specs.declared.event.Event.TheVariants as event
+use Rattle.disco_world.specs.declared.event.Step.TheVariants as step
 use Rattle.disco_world.proofs.Taken.{showed, showed_certified}
 use Rattle.disco_world.proofs.LevelEffects.{looked, quiet_turns}
 use Rattle.disco_world.proofs.Writes.{with_hub, with_turn}
@@ -47,22 +49,47 @@ returns-in-Look-clause-does c = λ w held levels.
     let s = c.args.levels.now in
     let what = looks (Some (key_looked c.in-Look.key)) in
     rw c.in-Look.is (with_turn s s (holders c.args.clients.now) w what c.look.result refl refl held
-    (looked (rules_of s.hub) w s.published (key_looked c.in-Look.key) c.look.result levels.published c.look.ensures, quiet_turns s s w levels refl what c.look.result refl refl, refl))
+    (quiet_turns (rules_of s.hub) s w what c.look.result levels refl refl, looked (rules_of s.hub) w s.published (key_looked c.in-Look.key) c.look.result (cache_of s.hub) levels.published c.look.ensures))
 
 pub returns-in-Show-clause-does : goal.returns-in-Show-clause-does
 returns-in-Show-clause-does c = λ w held levels.
     let s = c.args.levels.now in
     let what = shows c.in-Show.client in
     rw (c.in-Show.is, c.showed.ensures) (with_turn s s (holders c.args.clients.now) w what (reply_to_show c.show.result) refl refl held
-    (showed (rules_of s.hub) w (holders c.args.clients.now) held c.in-Show.client c.show.result c.show.ensures.listed c.show.ensures.memory, quiet_turns s s w levels refl what (reply_to_show c.show.result) refl refl, refl))
+    (quiet_turns (rules_of s.hub) s w what (reply_to_show c.show.result) levels refl refl, showed (rules_of s.hub) w (holders c.args.clients.now) held c.in-Show.client (cache_of s.hub) c.show.result c.show.ensures.listed c.show.ensures.memory))
 
 pub returns-in-ShowCertified-clause-does : goal.returns-in-ShowCertified-clause-does
 returns-in-ShowCertified-clause-does c = λ w held levels.
     let s = c.args.levels.now in
     let what = shows_certified c.in-ShowCertified.client in
     rw (c.in-ShowCertified.is, c.showed-in-ShowCertified.ensures) (with_turn s s (holders c.args.clients.now) w what (reply_to_show c.show_certified.result) refl refl held
-    (showed_certified (rules_of s.hub) w (holders c.args.clients.now) held c.in-ShowCertified.client c.show_certified.result c.show_certified.ensures.listed c.show_certified.ensures.memory, quiet_turns s s w levels refl what (reply_to_show c.show_certified.result) refl refl, refl))
+    (quiet_turns (rules_of s.hub) s w what (reply_to_show c.show_certified.result) levels refl refl, showed_certified (rules_of s.hub) w (holders c.args.clients.now) held c.in-ShowCertified.client (cache_of s.hub) c.show_certified.result c.show_certified.ensures.listed c.show_certified.ensures.memory))
 
 pub returns-in-Restart-clause-does : goal.returns-in-Restart-clause-does
 returns-in-Restart-clause-does c = λ w held levels.
     rw c.in-Restart.is (with_turn c.args.levels.now c.restart.new.levels (holders c.args.clients.now) w (restarts c.in-Restart.run') c.restart.result refl refl held (c.restart.ensures.turns w levels))
+
+pub returns-in-Load-clause-does : goal.returns-in-Load-clause-does
+returns-in-Load-clause-does c = λ w held levels.
+    rw c.in-Load.is (with_hub c.args.levels.now (record c.args.levels.now { hub = c.load.new.hub }) (holders c.args.clients.now) w (effect (rules_of c.args.levels.now.hub) w (event.Step (step.Load c.in-Load.key))) c.load.result refl refl held refl refl levels c.load.ensures.rounds refl refl (c.load.ensures.does w levels.levels.stands))
+
+pub returns-in-LoadById-clause-does : goal.returns-in-LoadById-clause-does
+returns-in-LoadById-clause-does c = λ w held levels.
+    let s = c.args.levels.now in
+    rw c.in-LoadById.is (with_hub s s (holders c.args.clients.now) w (effect (rules_of s.hub) w (event.Step (step.LoadById c.in-LoadById.id c.in-LoadById.form))) c.load_by_id.result refl refl held refl refl levels refl refl refl (c.load_by_id.ensures w levels.levels.stands))
+
+pub returns-in-Minute-clause-does : goal.returns-in-Minute-clause-does
+returns-in-Minute-clause-does c = λ w held levels.
+    rw c.in-Minute.is (with_hub c.args.levels.now (record c.args.levels.now { hub = c.close.new.hub }) (holders c.args.clients.now) w closes c.close.result refl refl held refl refl levels c.close.ensures.rounds refl refl (c.close.ensures.does w levels.levels.stands))
+
+pub returns-in-Begin-clause-does : goal.returns-in-Begin-clause-does
+returns-in-Begin-clause-does c = λ w held levels.
+    rw c.in-Begin.is (with_turn c.args.levels.now c.begin.new.levels (holders c.args.clients.now) w begins c.begin.result refl refl held (c.begin.ensures.turns w levels))
+
+pub returns-in-Copy-clause-does : goal.returns-in-Copy-clause-does
+returns-in-Copy-clause-does c = λ w held levels.
+    rw c.in-Copy.is (with_turn c.args.levels.now c.copy.new.levels (holders c.args.clients.now) w copies c.copy.result refl refl held (c.copy.ensures.turns w levels))
+
+pub returns-in-Publish-clause-does : goal.returns-in-Publish-clause-does
+returns-in-Publish-clause-does c = λ w held levels.
+    rw c.in-Publish.is (with_turn c.args.levels.now c.publish.new.levels (holders c.args.clients.now) w publishes c.publish.result refl refl held (c.publish.ensures.turns w levels))

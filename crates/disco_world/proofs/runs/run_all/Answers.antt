@@ -1,10 +1,9 @@
 use Rattle.std.proofs.Common.{◌≡◌, refl, sym, ap, subst, ◌∙◌, Option, Some, None, IfNone, arith}
 use Rattle.disco_core.specs.State.{rules}
-use Rattle.disco_world.specs.Events.{world}
+use Rattle.disco_world.specs.Outcomes.{Cache, world}
 use Rattle.disco_world.specs.Steps.{AreReadable, cache_of, holders}
-use Rattle.disco_world.specs.Caching.{Cache}
 use Rattle.disco_world.specs.declared.event.Reply.{Reply}
-use Rattle.disco_world.proofs.Histories.{all_cached, always_fresh, at_index, first_bad, new_course, new_levels, no_answers, run_more, served, some_pressed}
+use Rattle.disco_world.proofs.Histories.{all_answers, always_fresh, answered, at_index, first_bad, new_course, new_levels, run_more, served, some_pressed}
 use Rattle.disco_world.proofs.AllAlong.{all_readable, exact, holds_at, known, rising}
 use Rattle.disco_world.proofs.runs.run_all.Goals as goal
 
@@ -22,13 +21,12 @@ loop-event-init c = record {
   replies = sym c.new-replies.ensures.items;
   rules_are = c.requires.ruled;
   room = ap (λ (s : Cache). s.docs.max) c.requires.cache;
-  answers = no_answers (rules c.args.settings.now) c.args.settings.now.run c.args.events.now c.new-replies.result.items c.new-replies.ensures.items;
 }
 
 pub answer-requires : goal.answer-requires
 answer-requires c =
     let run = c.loop-event.invariant in
-    let readable : AreReadable c.loop-event.replies.items = subst AreReadable run.replies (all_readable _ (holds_at (rules c.args.settings.now) c.args.settings.now.run c.args.events.now c.loop-event.replies.items run.answers c.loop-event.event-index (λ j le. (some_pressed c.args.settings.now.entries _ _ _ _ _ _ run.course j le).2.pressed.publishable))) in
+    let readable : AreReadable c.loop-event.replies.items = subst AreReadable run.replies (all_readable _ (holds_at (rules c.args.settings.now) c.args.settings.now.run c.args.events.now c.loop-event.replies.items (answered c.args.settings.now.entries _ _ _ _ _ _ run.course) c.loop-event.event-index (λ j le. (some_pressed c.args.settings.now.entries _ _ _ _ _ _ run.course j le).1.publishable))) in
     record { ruled = run.rules_are; room = run.room; readable = subst AreReadable (sym c.as_slice.ensures.value) readable }
 
 pub returns-in_default-clause-refused : goal.returns-in_default-clause-refused
@@ -51,29 +49,29 @@ loop-event-preserved c =
     c.args.settings.now.entries c.loop-event.levels c.answer.new.levels (holders c.loop-event.clients) (holders c.answer.new.clients) run
     (λ w replies held levels. c.in-Some.ensures.does w (replies ∙ sym c.as_slice.ensures.value) held levels) c.answer.ensures.rules)
 
-pub returns-clause-cached : goal.returns-clause-cached
-returns-clause-cached c =
+pub returns-clause-answers : goal.returns-clause-answers
+returns-clause-answers c =
     let run = c.loop-event.invariant in
-    all_cached c.args.settings.now.entries (rules c.args.settings.now) c.args.settings.now.run c.args.events.now c.loop-event.replies.items c.loop-event.event-index (cache_of c.loop-event.levels.hub) run.count run.course
+    all_answers c.args.settings.now.entries (rules c.args.settings.now) c.args.settings.now.run c.args.events.now c.loop-event.replies.items c.loop-event.event-index (cache_of c.loop-event.levels.hub) run.count run.course
 
 pub returns-clause-served : goal.returns-clause-served
 returns-clause-served c =
     let run = c.loop-event.invariant in
-    served (rules c.args.settings.now) c.args.settings.now.run c.args.events.now c.loop-event.replies.items run.answers (λ i le. (some_pressed c.args.settings.now.entries _ _ _ _ _ _ run.course i (omega (arith, le, run.count))).2.pressed.publishable)
+    served (rules c.args.settings.now) c.args.settings.now.run c.args.events.now c.loop-event.replies.items (answered c.args.settings.now.entries _ _ _ _ _ _ run.course) (λ i le. (some_pressed c.args.settings.now.entries _ _ _ _ _ _ run.course i (omega (arith, le, run.count))).1.publishable)
 
 pub returns-clause-known : goal.returns-clause-known
 returns-clause-known c =
     let run = c.loop-event.invariant in
     let es = c.args.events.now in
     let rs = c.loop-event.replies.items in
-    known (rules c.args.settings.now) c.args.settings.now.run es rs run.answers (always_fresh (rules c.args.settings.now) c.args.settings.now.run es rs (λ k le. some_pressed c.args.settings.now.entries _ _ _ _ _ _ run.course k (omega (arith, le, run.count))))
+    known (rules c.args.settings.now) c.args.settings.now.run es rs (answered c.args.settings.now.entries _ _ _ _ _ _ run.course) (always_fresh (rules c.args.settings.now) c.args.settings.now.run es rs (λ k le. some_pressed c.args.settings.now.entries _ _ _ _ _ _ run.course k (omega (arith, le, run.count))))
 
 pub returns-clause-exact : goal.returns-clause-exact
 returns-clause-exact c =
     let run = c.loop-event.invariant in
     let es = c.args.events.now in
     let rs = c.loop-event.replies.items in
-    exact (rules c.args.settings.now) c.args.settings.now.run es rs run.answers (always_fresh (rules c.args.settings.now) c.args.settings.now.run es rs (λ k le. some_pressed c.args.settings.now.entries _ _ _ _ _ _ run.course k (omega (arith, le, run.count))))
+    exact (rules c.args.settings.now) c.args.settings.now.run es rs (answered c.args.settings.now.entries _ _ _ _ _ _ run.course) (always_fresh (rules c.args.settings.now) c.args.settings.now.run es rs (λ k le. some_pressed c.args.settings.now.entries _ _ _ _ _ _ run.course k (omega (arith, le, run.count))))
 
 pub returns-clause-rising : goal.returns-clause-rising
 returns-clause-rising c = rising (rules c.args.settings.now) c.args.settings.now.run c.args.events.now c.loop-event.replies.items
