@@ -17,7 +17,7 @@ import specs
 HERE = os.path.dirname(os.path.abspath(__file__))
 
 # What `{TABLE}` is in a sketch: the definitions that say of each effect what is answered, what has happened after it, and what is kept.
-TABLE = ("performed", "Caches", "IsAnswer")
+TABLE = ("outcome",)
 
 # Of each page its name, of what it is, and its roots: a source file with a function or, for all public ones, without; or a file of lemmas with one.
 Page = collections.namedtuple("Page", "name of roots")
@@ -51,19 +51,6 @@ PAGES = [
 # The last page has what the contracts of all public functions reach and no page above it has.
 PARTS = Page("parts", "the other public functions", [])
 
-# Files that no public contract reaches and that aren't marked so yet.
-NOT_YET = {
-    ("disco_client", "Steps"),
-    ("disco_connections", "Accepts"),
-    ("disco_connections", "Awaited"),
-    ("disco_connections", "Ending"),
-    ("disco_core", "Tied"),
-    ("disco_follow", "Seen"),
-    ("disco_press", "Rolls"),
-    ("disco_queue", "Seen"),
-    ("disco_server", "Tasks"),
-    ("disco_writer", "Empty"),
-}
 # Marked files that a contract hands on from call to call, so that no page shows them: what a session holds of a request that isn't whole.
 HANDED_ON = {("disco_http", "Coming")}
 
@@ -258,7 +245,7 @@ def faults(made, marked, names_at):
             said.append("%s.md has a file that is marked as not to be believed: %s/specs/%s.antt" % (one.page.name, *place))
         for name in sorted(set(re.findall(r"`([^`]+)`", sketches()[one.page.name])) - known_on(one)):
             said.append("sketches.md: %s.md has no %s" % (one.page.name, name))
-    for place in sorted(set(names_at) - marked - on_pages - NOT_YET):
+    for place in sorted(set(names_at) - marked - on_pages):
         said.append("a file that isn't marked as not to be believed is on no page: %s/specs/%s.antt" % place)
     return said
 
