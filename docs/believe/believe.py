@@ -16,9 +16,6 @@ import specs
 
 HERE = os.path.dirname(os.path.abspath(__file__))
 
-# What `{TABLE}` is in a sketch: the definitions that say of each effect what is answered, what has happened after it, and what is kept.
-TABLE = ("outcome",)
-
 # Of each page its name, of what it is, and its roots: a source file with a function or, for all public ones, without; or a file of lemmas with one.
 Page = collections.namedtuple("Page", "name of roots")
 PAGES = [
@@ -159,9 +156,8 @@ def table(first, files):
 def sketches():
     """The sections of `sketches.md` by their names."""
     sections = re.split(r"(?m)^## (.*)\n", specs.read(os.path.join(HERE, "sketches.md")))
-    named = ", ".join("`%s`" % name for name in TABLE[:-1]) + " and " * (len(TABLE) > 1) + "`%s`" % TABLE[-1]
     found = {name: text.strip() for name, text in zip(sections[1::2], sections[2::2])}
-    return {name: text.replace("{documents}", found["documents"]).replace("{TABLE}", named) for name, text in found.items()}
+    return {name: text.replace("{documents}", found["documents"]) for name, text in found.items()}
 
 
 def contract_lines(contracts):
