@@ -32,7 +32,7 @@ const BEFORE: usize = 8;
 /// The token of the listener.
 const LISTENER: Token = Token(usize::MAX);
 
-/// The token of what wakes the worker that timeouts.
+/// The token of what wakes the worker that waits.
 const WAKER: Token = Token(usize::MAX - 1);
 
 /// How many milliseconds a worker pauses where the host refuses a wait.

@@ -50,7 +50,7 @@ impl<J: Naming> Seat<J> {
     }
 
     /// The document of a key in the edition that was published last, as far as this seat sees: no
-    /// earlier one than it has seen or been told of. An app's name has to be in upper case. Takes no
+    /// earlier one than it knows. An app's name has to be in upper case. Takes no
     /// lock and no memory, and waits for nobody.
     pub fn look(&mut self, key: &DocKey) -> Looked
         ensures shows { Shows (notes_in self.new.known) key.now result }
