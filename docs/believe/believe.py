@@ -1,8 +1,8 @@
 """Writes beside itself, for each main theorem, its contracts and the definitions that these reach, in the order in which they can be read.
 
 Run it at the top of the repository: `python3 docs/believe/believe.py`. It prints how many lines each page makes a reader believe. It ends with
-status 1 where a page has a file that is marked as not to be believed, where a file that isn't marked is on no page, and where a sketch names what
-its page hasn't. The sketches stand in `sketches.md`, a section for each page.
+status 1 where a page has a file that is marked as not to be believed, where a file that isn't marked is on no page, where a name has two meanings on
+a page, and where a sketch names what its page hasn't. The sketches stand in `sketches.md`, a section for each page.
 """
 
 import collections
@@ -119,15 +119,25 @@ def by_file(order):
     return [(place, files[place]) for place in sorted(files, key=lambda it: (crates.index(it[0]), last[it]))]
 
 
+def uses(contracts, order, names_at):
+    """The words of contracts and definitions, each with what the names of its file mean."""
+    return [(it.words, names_of(it.path)) for it in contracts] + [(it.words, names_at[it.place]) for it in order]
+
+
 def count(made):
     return sum(specs.is_code(line) for definition in made for line in definition.lines)
 
 
+def named(words, names):
+    """Of these words those that are taken from elsewhere by name."""
+    return [word for word in names.taken if all(part in words for part in word.split("◌") if part)]
+
+
 def taken_from(words, names):
     """Of these words those that are taken from elsewhere: the place of each, and the word there."""
-    for word, (place, old) in names.taken.items():
-        if all(part in words for part in word.split("◌") if part):
-            yield place, word if word == old else "%s as %s" % (old, word)
+    for word in named(words, names):
+        place, old = names.taken[word]
+        yield place, word if word == old else "%s as %s" % (old, word)
     for word in words:
         first, _, rest = word.partition(".")
         if rest and first in names.files:
@@ -137,11 +147,23 @@ def taken_from(words, names):
 def kit_words(contracts, order, names_at):
     """The words of the kit's libraries, by file, that contracts and definitions use."""
     files = collections.defaultdict(set)
-    for words, names in [(it.words, names_of(it.path)) for it in contracts] + [(it.words, names_at[it.place]) for it in order]:
+    for words, names in uses(contracts, order, names_at):
         for place, word in taken_from(words, names):
             if not place[0].startswith("disco_"):
                 files["/".join(place).replace(".", "/")].add(word.replace("◌", " ").strip())
     return files
+
+
+def meanings(one, names_at):
+    """What each name of a page stands for: by the place where it is made, its name there."""
+    made = collections.defaultdict(set)
+    for it in one.order:
+        for name in [it.name] + specs.constructors(it.lines):
+            made[name].add((it.place, name))
+    for words, names in uses(one.contracts, one.order, names_at):
+        for word in named(words, names):
+            made[word].add(names.taken[word])
+    return made
 
 
 def table(first, files):
@@ -241,6 +263,10 @@ def faults(made, marked, names_at):
             said.append("%s.md has a file that is marked as not to be believed: %s/specs/%s.antt" % (one.page.name, *place))
         for name in sorted(set(re.findall(r"`([^`]+)`", sketches()[one.page.name])) - known_on(one)):
             said.append("sketches.md: %s.md has no %s" % (one.page.name, name))
+        for name, made_at in sorted(meanings(one, names_at).items()):
+            if len(made_at) > 1:
+                places = sorted("%s.%s" % (".".join(place), old) for place, old in made_at)
+                said.append("%s.md has a name with two meanings: %s (%s)" % (one.page.name, name, ", ".join(places)))
     for place in sorted(set(names_at) - marked - on_pages):
         said.append("a file that isn't marked as not to be believed is on no page: %s/specs/%s.antt" % place)
     return said

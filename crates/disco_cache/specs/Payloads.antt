@@ -6,8 +6,8 @@ use Rattle.disco_wire.specs.Documents.{IsTrueFor}
 use Rattle.disco_cache.specs.declared.payload.Payload.{Payload}
 
 -- the document is true after a history of a run: it is of that run, and true of what it was asked for, in its form
-abbrev pub IsTrue : ℕ → Payload → List Entry → Type 0
-IsTrue run p h = (p.run ≡ run) × IsTrueFor p.key.query p.text p.base p.version p.key.form h
+abbrev pub IsTruePayload : ℕ → Payload → List Entry → Type 0
+IsTruePayload run p h = (p.run ≡ run) × IsTrueFor p.key.query p.text p.base p.version p.key.form h
 
 -- the certificate of a document
 abbrev pub cert_of : Payload → Cert

@@ -3,7 +3,7 @@ use Rattle.std.specs.Prelude.{ℕ, Bool, false, not, ◌&&◌, ◌||◌, List, [
 use Rattle.std.specs.List.{list_any}
 use Rattle.disco_values.specs.declared.form.Form.{Form}
 use Rattle.disco_values.specs.declared.form.Form.TheVariants.{Full, Compact}
-use Rattle.disco_message.specs.Fields.{eq_ignore_case, values}
+use Rattle.disco_message.specs.Fields.{eq_ignore_case, field_values}
 
 -- the value begins with the word, in any case
 abbrev pub begins : List ℕ → List ℕ → Bool
@@ -21,7 +21,7 @@ have_word word vs = list_any (λ v. has_word word v) vs
 -- JSON is not accepted where the Accept fields name XML, and neither JSON nor anything (this project's own rule for RFC 9110, section 12.5.1)
 abbrev pub takes_json : List (List ℕ × List ℕ) → Bool
 takes_json fields =
-    let accepted = values (codes "accept") fields in
+    let accepted = field_values (codes "accept") fields in
     not (have_word (codes "xml") accepted) || have_word (codes "json") accepted || have_word (codes "*/*") accepted
 
 -- the form that the first value names
@@ -31,4 +31,4 @@ form_accepted (v ∷ vs) = if eq_ignore_case v (codes "compact") then Compact el
 
 -- the form that is asked for (Eureka's `X-Eureka-Accept`)
 abbrev pub form_of : List (List ℕ × List ℕ) → Form
-form_of fields = form_accepted (values (codes "x-eureka-accept") fields)
+form_of fields = form_accepted (field_values (codes "x-eureka-accept") fields)

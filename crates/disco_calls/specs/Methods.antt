@@ -5,14 +5,14 @@ use Rattle.std.specs.Str.{bytes_eq}
 use Rattle.disco_message.specs.declared.status_line.Allow.{Allow}
 use Rattle.disco_message.specs.declared.status_line.Allow.TheVariants as allow
 use Rattle.disco_calls.specs.declared.place.Place.{Place}
-use Rattle.disco_calls.specs.declared.place.Place.TheVariants.{App, Instance, Status, Metadata}
+use Rattle.disco_calls.specs.declared.place.Place.TheVariants as place
 
 -- the methods of the path of a place
 abbrev pub allow_of : {T : Type 0} → Place T → Allow
-allow_of (App app) = allow.GetPost
-allow_of (Instance app id) = allow.GetPutDelete
-allow_of (Status app id) = allow.PutDelete
-allow_of (Metadata app id) = allow.Put
+allow_of (place.App app) = allow.GetPost
+allow_of (place.Instance app id) = allow.GetPutDelete
+allow_of (place.Status app id) = allow.PutDelete
+allow_of (place.Metadata app id) = allow.Put
 allow_of _ = allow.Get
 
 -- their names

@@ -3,7 +3,7 @@ use Rattle.std.specs.Prelude.{ℕ, Bool, true, false, ◌||◌, List, [], ◌∷
 use Rattle.std.specs.List.{slice_split, starts_with}
 use Rattle.std.specs.Str.{bytes_eq}
 use Rattle.disco_calls.specs.declared.place.Place.{Place}
-use Rattle.disco_calls.specs.declared.place.Place.TheVariants.{Apps, Delta, App, Instance, Status, Metadata, Id, Vip, Svip}
+use Rattle.disco_calls.specs.declared.place.Place.TheVariants as places
 
 abbrev pub is_slash : ℕ → Bool
 is_slash b = b == 47
@@ -23,27 +23,27 @@ one_name place _ = None
 
 -- behind `/apps/{app}/{id}`
 abbrev pub of_instance : List ℕ → List ℕ → List (List ℕ) → Option (Place (List ℕ))
-of_instance app id [] = Some (Instance app id)
+of_instance app id [] = Some (places.Instance app id)
 of_instance app id (last ∷ []) =
-    if bytes_eq last (codes "metadata") then Some (Metadata app id)
-    else (if bytes_eq last (codes "status") then Some (Status app id) else None)
+    if bytes_eq last (codes "metadata") then Some (places.Metadata app id)
+    else (if bytes_eq last (codes "status") then Some (places.Status app id) else None)
 of_instance app id _ = None
 
 -- behind `/apps`
 abbrev pub of_apps : List (List ℕ) → Option (Place (List ℕ))
-of_apps [] = Some Apps
+of_apps [] = Some places.Apps
 of_apps (app ∷ []) =
-    if is_empty app then Some Apps
-    else (if bytes_eq app (codes "delta") then Some Delta else Some (App app))
+    if is_empty app then Some places.Apps
+    else (if bytes_eq app (codes "delta") then Some places.Delta else Some (places.App app))
 of_apps (app ∷ id ∷ more) = if is_empty app || is_empty id then None else of_instance app id more
 
 -- the table of paths, by their parts
 abbrev pub parts_place : List (List ℕ) → Option (Place (List ℕ))
 parts_place ([] ∷ folder ∷ names) =
     if bytes_eq folder (codes "apps") then of_apps names
-    else (if bytes_eq folder (codes "instances") then one_name (λ id. Id id) names
-    else (if bytes_eq folder (codes "svips") then one_name (λ svip. Svip svip) names
-    else (if bytes_eq folder (codes "vips") then one_name (λ vip. Vip vip) names else None)))
+    else (if bytes_eq folder (codes "instances") then one_name (λ id. places.Id id) names
+    else (if bytes_eq folder (codes "svips") then one_name (λ svip. places.Svip svip) names
+    else (if bytes_eq folder (codes "vips") then one_name (λ vip. places.Vip vip) names else None)))
 parts_place _ = None
 
 -- what stands behind `/eureka/v2`

@@ -1,6 +1,6 @@
 //! What a reader accepts.
 ghost use Rattle.std.specs.Prelude.{◌≡◌, codes};
-ghost use Rattle.disco_message.specs.Fields.{values};
+ghost use Rattle.disco_message.specs.Fields.{field_values};
 ghost use Rattle.disco_calls.specs.Accept.{begins, form_of, has_word, have_word, takes_json};
 
 use disco_message::{Request, eq_ignore_case};
@@ -29,7 +29,7 @@ fn has_word(value: &[u8], word: &[u8]) -> bool
 
 /// Whether an Accept field has a word in it, in any case.
 fn accepts(request: &Request, word: &[u8]) -> bool
-    ensures { result ≡ have_word word.now (values (codes "accept") request.now.fields) }
+    ensures { result ≡ have_word word.now (field_values (codes "accept") request.now.fields) }
 {
     request.values(b"accept").any(|value| has_word(value, word))
 }

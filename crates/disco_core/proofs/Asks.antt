@@ -22,8 +22,8 @@ use Rattle.disco_history.specs.Registry.{registry_of}
 use Rattle.disco_history.proofs.Keys.{keys_total}
 use Rattle.disco_history.proofs.Restrictions.{held_key}
 use Rattle.disco_history.proofs.Sets.{get-reg, get-said_reg}
-use Rattle.disco_lease.specs.Leases.{Lease, Leases, Sets, counted, extended, lease_at, no_leases}
-use Rattle.disco_registry.specs.Accept.{Limits, accepts, change_asked, if_left, limits_of}
+use Rattle.disco_lease.specs.Leases.{LeaseEntry, Leases, Sets, counted, extended, lease_at, no_leases}
+use Rattle.disco_registry.specs.Accept.{RegistryLimits, accepts, change_asked, if_left, limits_of}
 use Rattle.disco_queue.specs.Queue.{Queue}
 use Rattle.disco_queue.specs.Timed.{Timed}
 use Rattle.disco_registry.specs.Commit as commit
@@ -65,7 +65,7 @@ ok c = Ok c
 abbrev no : Fault → Done
 no e = Err e
 
-left : (limits : Limits) (version : ℕ) (r : Result (Option Entry) Fault) (c : Option Entry) → if_left limits version r ≡ Ok c → r ≡ Ok c
+left : (limits : RegistryLimits) (version : ℕ) (r : Result (Option Entry) Fault) (c : Option Entry) → if_left limits version r ≡ Ok c → r ≡ Ok c
 left limits version (Err e) c is = is
 left limits version (Ok None) c is = is
 left limits version (Ok (Some d)) c is = one (nat_lt version (limits.versions)) is
@@ -123,7 +123,7 @@ adds_metadata (Some r) es now k c held is = record {
   change = done _ c is;
 }
 
-registers : (limits : Limits) (held : FinMap key_cmp Entry) (p : Row) (now : ℕ) (c : Option Entry) → ((r : Row) → record_at held p.key ≡ Some r → r.key ≡ p.key) → change_asked limits (record_at held) (len held) (register p) now ≡ Ok c → Comes p.key c
+registers : (limits : RegistryLimits) (held : FinMap key_cmp Entry) (p : Row) (now : ℕ) (c : Option Entry) → ((r : Row) → record_at held p.key ≡ Some r → r.key ≡ p.key) → change_asked limits (record_at held) (len held) (register p) now ≡ Ok c → Comes p.key c
 registers limits held p now c own is = one (is_none (record_at held p.key) && not (nat_lt (len held) (limits.instances))) is
   where
     one : (b : Bool) → cond b (no TooManyInstances) (ok (Some (settle (record_at held p.key) p now, Added))) ≡ ok c → Comes p.key c
@@ -132,17 +132,17 @@ registers limits held p now c own is = one (is_none (record_at held p.key) && no
 
 -- ---- marks
 
-abbrev mark_of : Option Lease → Option ℕ
+abbrev mark_of : Option LeaseEntry → Option ℕ
 mark_of o = option_map (λ l. l.mark) o
 
-abbrev lasts : Option Lease → Option ℕ
+abbrev lasts : Option LeaseEntry → Option ℕ
 lasts o = option_map (λ l. l.duration_secs) o
 
 abbrev rows_last : Option Row → Option ℕ
 rows_last o = option_map (λ r. r.lease.duration_secs) o
 
 -- leases and marks that agree, once a lease is set and its mark with it
-put_mark : (k : Key) (o : Option Lease) (n : ℕ) (v w : Leases) (m : FinMap key_cmp ℕ) → mark_of o ≡ Some n → Sets k o v w → ((q : Key) → mark_of (lease_at v q) ≡ get m q) → (q : Key) → mark_of (lease_at w q) ≡ get (insert m k n) q
+put_mark : (k : Key) (o : Option LeaseEntry) (n : ℕ) (v w : Leases) (m : FinMap key_cmp ℕ) → mark_of o ≡ Some n → Sets k o v w → ((q : Key) → mark_of (lease_at v q) ≡ get m q) → (q : Key) → mark_of (lease_at w q) ≡ get (insert m k n) q
 put_mark k o n v w m is sets agree q = ap mark_of (sets q) ∙ one (same_key q k) ∙ sym (get-insert keys_total m k n q)
   where
     one : (b : Bool) → mark_of (cond b o (lease_at v q)) ≡ cond b (Some n) (get m q)
@@ -157,11 +157,11 @@ out_mark k v w m sets agree q = ap mark_of (sets q) ∙ one (same_key q k) ∙ s
     one false = agree q
 
 -- a lease of that duration, moved
-extended_mark : (now n : ℕ) (o : Option Lease) → lasts o ≡ Some n → mark_of (option_map (extended now) o) ≡ Some (now + n * 1000)
+extended_mark : (now n : ℕ) (o : Option LeaseEntry) → lasts o ≡ Some n → mark_of (option_map (extended now) o) ≡ Some (now + n * 1000)
 extended_mark now n None is = absurd (cc)
 extended_mark now n (Some l) is = ap (λ d. Some (now + d * 1000)) (same_Some l.duration_secs n is)
 
-has_lease : (n : ℕ) (o : Option Lease) → lasts o ≡ Some n → IsSome o
+has_lease : (n : ℕ) (o : Option LeaseEntry) → lasts o ≡ Some n → IsSome o
 has_lease n None is = absurd (cc)
 has_lease n (Some l) is = refl
 

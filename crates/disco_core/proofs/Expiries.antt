@@ -8,7 +8,7 @@ use Rattle.disco_values.specs.declared.key.Key.{Key}
 use Rattle.disco_history.specs.Registry.{registry_of}
 use Rattle.disco_history.proofs.Sets.{not_there}
 use Rattle.disco_lease.specs.Due.{due_at, due_moment, lets_expire, most_taken, overdue, taken}
-use Rattle.disco_lease.specs.Leases.{Lease, Leases, lease_at}
+use Rattle.disco_lease.specs.Leases.{LeaseEntry, Leases, lease_at}
 use Rattle.disco_lease.proofs.Due.{same_overdue}
 use Rattle.disco_core.specs.Past.{Past, due_in, duration_at, history, taken_in}
 use Rattle.disco_values.specs.declared.fault.Fault.{Fault}
@@ -16,14 +16,14 @@ use Rattle.std.specs.declared.vec.Vec.{Vec}
 use Rattle.std.specs.declared.alloc.Global.{Global}
 use Rattle.disco_core.specs.State.{AreLeasesOf, CoreState, CoreStandsFor}
 
-abbrev lasts : Option Lease → Option ℕ
+abbrev lasts : Option LeaseEntry → Option ℕ
 lasts o = option_map (λ l. l.duration_secs) o
 
 lasting : (o : Option Row) (n : ℕ) → Some n ≡ option_map (λ r. r.lease.duration_secs) o → option_map_or (λ r. r.lease.duration_secs * 1000) o 0 ≡ n * 1000
 lasting None n is = absurd (cc)
 lasting (Some r) n is = ap (λ m. m * 1000) (sym (same_Some n r.lease.duration_secs is))
 
-due_by : (v : Leases) (p : Past) (k : Key) (o : Option Lease) → AreLeasesOf v p → lease_at v k ≡ o → option_map due_moment o ≡ due_in p k
+due_by : (v : Leases) (p : Past) (k : Key) (o : Option LeaseEntry) → AreLeasesOf v p → lease_at v k ≡ o → option_map due_moment o ≡ due_in p k
 due_by v p k None are is = ap (option_map (λ m. m + duration_at p k)) (sym (ap (option_map (λ l. l.mark)) is) ∙ are.marks k)
 due_by v p k (Some l) are is =
     let lasts_so : Some l.duration_secs ≡ option_map (λ r. r.lease.duration_secs) (get (registry_of (history p)) k) = sym (ap lasts is) ∙ are.durations k in

@@ -8,7 +8,7 @@ use Rattle.disco_values.specs.declared.key.Key.{Key}
 use Rattle.disco_history.specs.Change.{Entry, key_of}
 use Rattle.disco_history.specs.Registry.{put_of}
 use Rattle.disco_registry.specs.Commit.{held_after}
-use Rattle.disco_writer.specs.Kept.{AreKept, IsReadyFor, Kept, SetsText}
+use Rattle.disco_writer.specs.Kept.{AreKept, IsReadyFor, StoredTexts, SetsText}
 use Rattle.disco_writer.proofs.KeptLaws.{gone_kept_law, none_kept_law, put_kept_law, same_kept_law}
 use Rattle.disco_core.specs.Written.{AreWritten, HasNoEmptyText, HasText, HasTexts, IsSameWritten, OpensNoText, KeptTexts, kept_in, none_written}
 
@@ -23,7 +23,7 @@ pub in_form_are : (f : Form) (w : KeptTexts) (m : FinMap key_cmp Entry) → AreW
 in_form_are Full w m are = are.full
 in_form_are Compact w m are = are.compact
 
-put_is : (f : Form) (old new : Kept) (e : Entry) (m : FinMap key_cmp Entry) → HasText f old e → ((k : Key) (t : _) → IsReadyFor old k t → SetsText k (Some t) old new) → AreKept f old m → AreKept f new (insert m (key_of e) e)
+put_is : (f : Form) (old new : StoredTexts) (e : Entry) (m : FinMap key_cmp Entry) → HasText f old e → ((k : Key) (t : _) → IsReadyFor old k t → SetsText k (Some t) old new) → AreKept f old m → AreKept f new (insert m (key_of e) e)
 put_is f old new e m has sets kept = put_kept_law f old new m e has.text has.is (sets (key_of e) has.text has.ready) kept
 
 pub put_are : (old new : KeptTexts) (e : Entry) (m : FinMap key_cmp Entry) → HasTexts old (Some e) → ((k : Key) (t : _) → IsReadyFor old.full k t → SetsText k (Some t) old.full new.full) → ((k : Key) (t : _) → IsReadyFor old.compact k t → SetsText k (Some t) old.compact new.compact)

@@ -4,7 +4,7 @@ use Rattle.std.proofs.Math.Seq.{take-length}
 use Rattle.disco_history.specs.Change.{Entry, prefix}
 use Rattle.disco_wire.specs.Documents.{IsWritten, meaning_for, text_for}
 use Rattle.disco_values.specs.Query.{is_delta}
-use Rattle.disco_cache.specs.Payloads.{IsTrue}
+use Rattle.disco_cache.specs.Payloads.{IsTruePayload}
 use Rattle.disco_values.specs.declared.doc_key.DocKey.{DocKey}
 use Rattle.disco_cache.specs.declared.payload.Payload.{Payload}
 
@@ -12,8 +12,8 @@ abbrev pub made : DocKey → ℕ → ℕ → ℕ → List ℕ → Payload
 made k run base version text = record { key = k; run = run; base = base; version = version; text = text }
 
 -- a document of held records, written now
-pub held_true : (k : DocKey) (run v : ℕ) (text : List ℕ) (p : Payload) (h : List Entry) → is_delta k.query ≡ false → v ≡ length h → IsWritten k.form k.query h (length h) (Some text) → p ≡ made k run v v text → IsTrue run p h
-held_true k run v text p h held now written is = subst (λ q. IsTrue run q h) (sym is) (
+pub held_true : (k : DocKey) (run v : ℕ) (text : List ℕ) (p : Payload) (h : List Entry) → is_delta k.query ≡ false → v ≡ length h → IsWritten k.form k.query h (length h) (Some text) → p ≡ made k run v v text → IsTruePayload run p h
+held_true k run v text p h held now written is = subst (λ q. IsTruePayload run q h) (sym is) (
   refl,
   record {
     written = written.1 ∙ (λ i. text_for k.query k.form h (sym now i) (sym now i));
@@ -30,8 +30,8 @@ held_true k run v text p h held now written is = subst (λ q. IsTrue run q h) (s
 )
 
 -- a delta, written now
-pub delta_true : (k : DocKey) (run base v : ℕ) (text : List ℕ) (p : Payload) (h : List Entry) → is_delta k.query ≡ true → base ≤ v → v ≡ length h → IsWritten k.form k.query h base (Some text) → p ≡ made k run base v text → IsTrue run p h
-delta_true k run base v text p h delta start now written is = subst (λ q. IsTrue run q h) (sym is) (
+pub delta_true : (k : DocKey) (run base v : ℕ) (text : List ℕ) (p : Payload) (h : List Entry) → is_delta k.query ≡ true → base ≤ v → v ≡ length h → IsWritten k.form k.query h base (Some text) → p ≡ made k run base v text → IsTruePayload run p h
+delta_true k run base v text p h delta start now written is = subst (λ q. IsTruePayload run q h) (sym is) (
   refl,
   record {
     written = written.1 ∙ (λ i. text_for k.query k.form h base (sym now i));

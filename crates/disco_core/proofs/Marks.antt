@@ -8,7 +8,7 @@ use Rattle.disco_values.specs.Key.{same_key}
 use Rattle.disco_values.specs.declared.fault.Fault.{Fault}
 use Rattle.disco_values.specs.declared.key.Key.{Key}
 use Rattle.disco_history.proofs.Keys.{keys_total, same_is}
-use Rattle.disco_lease.specs.Leases.{Lease, Leases, Sets, extended, lease_at}
+use Rattle.disco_lease.specs.Leases.{LeaseEntry, Leases, Sets, extended, lease_at}
 use Rattle.disco_lease.specs.Leases as leases
 use Rattle.disco_index.specs.Vips as vips
 use Rattle.disco_index.specs.Vips.{VipKeys}
@@ -20,7 +20,7 @@ itself : (k : Key) → same_key k k ≡ true
 itself k = ap is_eq (tied_itself keys_total k)
 
 -- what a key has stays where it is set to that
-stays_as : (k : Key) (v : Leases) (o : Option Lease) → lease_at v k ≡ o → Sets k o v v
+stays_as : (k : Key) (v : Leases) (o : Option LeaseEntry) → lease_at v k ≡ o → Sets k o v v
 stays_as k v o is = λ q. one q (same_key q k) refl
   where
     one : (q : Key) (b : Bool) → same_key q k ≡ b → lease_at v q ≡ cond b o (lease_at v q)
@@ -28,7 +28,7 @@ stays_as k v o is = λ q. one q (same_key q k) refl
     one q false same = refl
 
 -- what is the same as what was set is set
-moved_to : (k : Key) (o : Option Lease) (old v w : Leases) → w ≡ v → Sets k o old v → Sets k o old w
+moved_to : (k : Key) (o : Option LeaseEntry) (old v w : Leases) → w ≡ v → Sets k o old v → Sets k o old w
 moved_to k o old v w same sets = λ q. ap (λ (x : Leases). lease_at x q) same ∙ sets q
 
 -- a lease that ends, or is missing, is gone
@@ -36,7 +36,7 @@ pub ended : {A : Type 0} (r : Result A Fault) (k : Key) (old new : Leases) → O
 ended (Ok x) k old new sets same none = sets
 ended (Err e) k old new sets same none = moved_to k None old old new same (stays_as k old None none)
 
-none_moves : (now : ℕ) (o : Option Lease) → o ≡ None → o ≡ option_map (extended now) o
+none_moves : (now : ℕ) (o : Option LeaseEntry) → o ≡ None → o ≡ option_map (extended now) o
 none_moves now None is = refl
 none_moves now (Some l) is = absurd (cc)
 
@@ -46,12 +46,12 @@ pub went_on : {A : Type 0} (r : Result A Fault) (k : Key) (renewal : Bool) (now 
 went_on (Ok x) k renewal now old new sets same none count closed = record { leases = sets; renewals = λ _. count; closed = closed }
 went_on (Err e) k renewal now old new sets same none count closed = record {
   leases = moved_to k (option_map (extended now) (lease_at old k)) old old new same (stays_as k old _ (none_moves now (lease_at old k) none));
-  renewals = λ some. absurd (let bad = subst (λ (o : Option Lease). IsSome o) none some in cc);
+  renewals = λ some. absurd (let bad = subst (λ (o : Option LeaseEntry). IsSome o) none some in cc);
   closed = closed;
 }
 
 -- a lease that was set is there
-pub is_set : (k : Key) (o : Option Lease) (old new : Leases) → Sets k o old new → lease_at new k ≡ o
+pub is_set : (k : Key) (o : Option LeaseEntry) (old new : Leases) → Sets k o old new → lease_at new k ≡ o
 is_set k o old new sets = sets k ∙ ap (λ b. cond b o (lease_at old k)) (itself k)
 
 pub on_ok : {A : Type 0} (r : Result A Fault) (P : Type 0) → P → OnOk r P
@@ -59,12 +59,12 @@ on_ok (Ok x) P p = p
 on_ok (Err e) P p = tt
 
 -- a sweep leaves what was set
-pub kept_by_sweep : (k : Key) (o : Option Lease) (old mid new : Leases) → leases.IsSameLeases mid new → Sets k o old mid → Sets k o old new
+pub kept_by_sweep : (k : Key) (o : Option LeaseEntry) (old mid new : Leases) → leases.IsSameLeases mid new → Sets k o old mid → Sets k o old new
 kept_by_sweep k o old mid new same sets = λ q. same.leases q ∙ sets q
 
 -- ---- places that are given back
 
-has_outer : (o : Option (Option Lease)) → IsSome (option_flatten o) → IsSome o
+has_outer : (o : Option (Option LeaseEntry)) → IsSome (option_flatten o) → IsSome o
 has_outer None some = absurd (cc)
 has_outer (Some p) some = refl
 
@@ -74,9 +74,9 @@ no_leases_more k old mid new first others then others_then filled q some = one (
     one : (b : Bool) → same_key q k ≡ b → IsSome (get old.places q)
     one true same =
         let there = filled (subst (λ (x : Key). IsSome (get new.places x)) (same_is q k same) some) in
-        let before : IsSome (lease_at old k) = subst (λ (o : Option Lease). IsSome o) (then.leases k ∙ first.leases k) there in
+        let before : IsSome (lease_at old k) = subst (λ (o : Option LeaseEntry). IsSome o) (then.leases k ∙ first.leases k) there in
         subst (λ (x : Key). IsSome (get old.places x)) (sym (same_is q k same)) (has_outer (get old.places k) before)
-    one false apart = subst (λ (o : Option (Option Lease)). IsSome o) (others_then q apart ∙ others q apart) some
+    one false apart = subst (λ (o : Option (Option LeaseEntry)). IsSome o) (others_then q apart ∙ others q apart) some
 
 has_place : (o : Option Bool) → unwrap_or o false ≡ true → IsSome o
 has_place None is = absurd (cc)

@@ -14,7 +14,7 @@ use Rattle.disco_instance.specs.Row.{Row}
 use Rattle.disco_history.specs.Change.{Entry}
 use Rattle.disco_index.specs.Tally.{count_in, tally_in}
 use Rattle.disco_index.proofs.Changes.{held_law}
-use Rattle.disco_lease.specs.Leases.{Lease, Leases, lease_at}
+use Rattle.disco_lease.specs.Leases.{LeaseEntry, Leases, lease_at}
 use Rattle.disco_registry.specs.Accept.{accepts, if_left, limits_of}
 use Rattle.disco_registry.specs.Op.{renew}
 use Rattle.disco_registry.specs.State.{RegistryState}
@@ -43,7 +43,7 @@ module _ (s : RegistryState) (v : Leases) (k : Key) (now : ℕ) (leased : AreLea
   no_lease : get s.held k ≡ None → lease_at v k ≡ None
   no_lease is = empty (lease_at v k) (leased k ∙ ap (λ x. option_map (λ r. r.lease.duration_secs) (option_map (λ e. e.0) x)) is)
     where
-      empty : (l : Option Lease) → option_map (λ x. x.duration_secs) l ≡ None → l ≡ None
+      empty : (l : Option LeaseEntry) → option_map (λ x. x.duration_secs) l ≡ None → l ≡ None
       empty None h = refl
       empty (Some l) h = absurd (cc)
 

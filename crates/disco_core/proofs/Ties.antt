@@ -17,7 +17,7 @@ use Rattle.disco_index.proofs.VipLaws.{gone_vips_law, no_vips_law, put_vips_law,
 use Rattle.disco_index.specs.Vips.{IsIndexOf, VipKeys, no_vips}
 use Rattle.disco_index.specs.Vips as vips
 use Rattle.disco_lease.specs.Leases as leases
-use Rattle.disco_lease.specs.Leases.{Lease, Leases, Sets, extended, lease_at, marked, no_leases}
+use Rattle.disco_lease.specs.Leases.{LeaseEntry, Leases, Sets, extended, lease_at, marked, no_leases}
 use Rattle.disco_queue.specs.Queue as queue
 use Rattle.disco_queue.specs.Queue.{KeepsHistory, Queue, version}
 use Rattle.disco_registry.specs.Commit.{Takes, held_after, version_after}
@@ -32,7 +32,7 @@ use Rattle.disco_core.specs.Tied.{AreLeased, IsTied}
 use Rattle.disco_core.specs.Written.{AreWritten, IsSameWritten, KeptTexts, none_written}
 use Rattle.disco_core.proofs.KeptTexts.{none_are, same_are}
 
-abbrev lasts : Option Lease → Option ℕ
+abbrev lasts : Option LeaseEntry → Option ℕ
 lasts o = option_map (λ l. l.duration_secs) o
 
 abbrev rows_last : Option Row → Option ℕ
@@ -59,7 +59,7 @@ tied_new s t i v q w stands ts is vs keeps none =
 
 -- ---- leases
 
-lasts_extended : (now : ℕ) (o : Option Lease) → lasts (option_map (extended now) o) ≡ lasts o
+lasts_extended : (now : ℕ) (o : Option LeaseEntry) → lasts (option_map (extended now) o) ≡ lasts o
 lasts_extended now None = refl
 lasts_extended now (Some l) = refl
 
@@ -70,7 +70,7 @@ moved k now old new sets q = ap lasts (sets q) ∙ one (same_key q k) refl
     one true same = lasts_extended now (lease_at old k) ∙ ap (λ x. lasts (lease_at old x)) (sym (same_is q k same))
     one false same = refl
 
-leased_put : (r : Row) (a : Action) (o : Option Lease) (old new : Leases) → lasts o ≡ Some r.lease.duration_secs → Sets r.key o old new → (m : FinMap key_cmp Entry) → AreLeased m old → AreLeased (insert m r.key (r, a)) new
+leased_put : (r : Row) (a : Action) (o : Option LeaseEntry) (old new : Leases) → lasts o ≡ Some r.lease.duration_secs → Sets r.key o old new → (m : FinMap key_cmp Entry) → AreLeased m old → AreLeased (insert m r.key (r, a)) new
 leased_put r a o old new same sets m leased = λ q. ap lasts (sets q) ∙ one q (same_key q r.key) ∙ sym (ap entry_lasts (get-insert keys_total m r.key (r, a) q))
   where
     one : (q : Key) (b : Bool) → lasts (cond b o (lease_at old q)) ≡ entry_lasts (cond b (Some (r, a)) (get m q))

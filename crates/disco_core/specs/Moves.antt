@@ -5,10 +5,10 @@ use Rattle.disco_values.specs.declared.key.Key.{Key}
 use Rattle.disco_instance.specs.Row.{Row}
 use Rattle.disco_history.specs.Change.{Entry, key_of}
 use Rattle.disco_index.specs.Vips.{KeepsOtherVips, VipKeys}
-use Rattle.disco_lease.specs.Leases.{Lease, Leases, Sets, counted, extended, lease_at, marked}
+use Rattle.disco_lease.specs.Leases.{LeaseEntry, Leases, Sets, counted, extended, lease_at, marked}
 
 -- the lease that a change at a moment gives
-abbrev pub lease_by : Entry → ℕ → Option Lease
+abbrev pub lease_by : Entry → ℕ → Option LeaseEntry
 lease_by (r, Added) now = Some (marked r.lease.duration_secs now)
 lease_by (r, Modified) now = Some (extended now (marked r.lease.duration_secs now))
 lease_by (r, Deleted) now = None

@@ -14,14 +14,14 @@ use Rattle.disco_values.specs.declared.doc_key.DocKey.{DocKey}
 use Rattle.disco_wire.specs.Documents.{asked_by}
 use Rattle.disco_values.specs.Query.{is_delta}
 use Rattle.disco_values.specs.declared.query.Query.{Query}
-use Rattle.disco_values.specs.declared.query.Query.TheVariants.{Instance}
+use Rattle.disco_values.specs.declared.query.Query.TheVariants as queries
 
 -- why a document isn't served after a history, if it isn't, where deltas are on or off
 abbrev pub refusal_of : Bool → Query → List Entry → Option Fault
 refusal_of on q h = if is_delta q then (if on then None else Some DeltaDisabled) else (if is_absent (registry_of h) (asked_by q) then Some NotFound else None)
 
 abbrev pub doc_of_key : Key → Form → DocKey
-doc_of_key k f = record { query = Instance k; form = f }
+doc_of_key k f = record { query = queries.Instance k; form = f }
 
 -- the document of a key after a history, or why it isn't served, where deltas are on or off
 abbrev pub loaded : Bool → DocKey → List Entry → Result DocKey Fault
@@ -36,7 +36,7 @@ abbrev pub doc_of_id : List ℕ → Form → List Entry → Option DocKey
 doc_of_id id f h = option_map (λ r. doc_of_key r.key f) (by_id (registry_of h) id)
 
 abbrev pub refusal_by : Option Row → List Entry → Option Fault
-refusal_by held h = option_map_or (λ r. refusal_of true (Instance r.key) h) held (Some NotFound)
+refusal_by held h = option_map_or (λ r. refusal_of true (queries.Instance r.key) h) held (Some NotFound)
 
 -- why it isn't served
 abbrev pub refusal_of_id : List ℕ → List Entry → Option Fault

@@ -13,7 +13,7 @@ use Rattle.disco_queue.specs.Queue as queue
 use Rattle.disco_queue.specs.Queue.{HasRoom, KeepsHistory, Queue}
 use Rattle.disco_registry.specs.Commit as commit
 use Rattle.disco_registry.specs.State as registry
-use Rattle.disco_registry.specs.Accept.{Limits, accepts, limits_of}
+use Rattle.disco_registry.specs.Accept.{RegistryLimits, accepts, limits_of}
 use Rattle.disco_registry.specs.Op.{OpView, op_key, renew}
 use Rattle.disco_core.specs.Past.{Past, history}
 use Rattle.disco_core.specs.Written.{HasTextsFor, IsSameWritten, OpensNoText, KeptTexts}
@@ -33,7 +33,7 @@ pub record CoreState : Type 0 where
 
 -- the limits and choices that answers depend on
 pub record Rules : Type 0 where
-  pub limits : Limits
+  pub limits : RegistryLimits
   pub queue : ℕ
   pub retention : ℕ
   pub delta : Bool

@@ -8,16 +8,16 @@ use Rattle.disco_values.specs.declared.key.Key.{Key}
 use Rattle.disco_history.specs.Change.{Entry, key_of}
 use Rattle.disco_history.specs.Mentions.{mention_of}
 use Rattle.disco_history.specs.Registry.{put_of}
-use Rattle.disco_writer.specs.Kept.{AreKept, HasNoEmpty, IsReadyFor, IsSameTexts, IsTextOf, Kept, kept_text_at, none_kept}
+use Rattle.disco_writer.specs.Kept.{AreKept, HasNoEmpty, IsReadyFor, IsSameTexts, IsTextOf, StoredTexts, kept_text_at, none_kept}
 
 pub record KeptTexts : Type 0 where
-  pub full : Kept
-  pub compact : Kept
+  pub full : StoredTexts
+  pub compact : StoredTexts
 
 abbrev pub none_written : KeptTexts
 none_written = record { full = none_kept; compact = none_kept }
 
-abbrev pub kept_in : Form → KeptTexts → Kept
+abbrev pub kept_in : Form → KeptTexts → StoredTexts
 kept_in Full w = w.full
 kept_in Compact w = w.compact
 
@@ -36,7 +36,7 @@ pub record IsSameWritten (old new : KeptTexts) : Type 0 where
   pub compact : IsSameTexts old.compact new.compact
 
 -- the text of that mention in a form can be put without memory
-pub record HasText (f : Form) (v : Kept) (e : Entry) : Type 0 where
+pub record HasText (f : Form) (v : StoredTexts) (e : Entry) : Type 0 where
   pub text : List ℕ
   pub ready : IsReadyFor v (key_of e) text
   pub is : IsTextOf f text (mention_of e)
@@ -56,7 +56,7 @@ abbrev pub HasNoEmptyText : KeptTexts → Type 0
 HasNoEmptyText w = HasNoEmpty w.full.places × HasNoEmpty w.compact.places
 
 -- no place of a text stands empty that did not before
-abbrev pub OpensNone : Kept → Kept → Type 0
+abbrev pub OpensNone : StoredTexts → StoredTexts → Type 0
 OpensNone old new = (q : Key) → get new.places q ≡ Some None → get old.places q ≡ Some None
 
 abbrev pub OpensNoText : KeptTexts → KeptTexts → Type 0

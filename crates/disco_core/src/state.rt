@@ -19,7 +19,7 @@ ghost use Rattle.disco_registry.specs.Op.{OpView, op_view, op_key, register, ren
 ghost use Rattle.disco_registry.specs.State as registry;
 ghost use Rattle.disco_wire.specs.Documents.{IsWritten, asked_by};
 ghost use Rattle.disco_values.specs.Query.{is_delta};
-ghost use Rattle.disco_cache.specs.Payloads.{IsTrue};
+ghost use Rattle.disco_cache.specs.Payloads.{IsTruePayload};
 ghost use Rattle.disco_core.specs.Past.{Past, cleaned, has_run_out, history, minute_closed, nothing, taken_in, with_done};
 ghost use Rattle.disco_core.specs.Refusals.{doc_of_id, doc_of_key, refusal_of, refusal_of_id};
 ghost use Rattle.disco_core.specs.Moves.{Moves, OthersStay};
@@ -572,7 +572,7 @@ impl Core {
         ensures key { IfOk result (λ o. IfSome o (λ d. d.value.key ≡ key.now)) }
         ensures version { IfOk result (λ o. IfSome o (λ d. d.value.version ≡ self.now.registry.version)) }
         ensures base { IfOk result (λ o. IfSome o (λ d. is_delta key.now.query ≡ true → d.value.base ≡ self.now.queue.base)) }
-        ensures true_now { IfOk result (λ o. IfSome o (λ d. (p : Past) → CoreStandsFor self.now p → IsTrue p.run d.value (history p))) }
+        ensures true_now { IfOk result (λ o. IfSome o (λ d. (p : Past) → CoreStandsFor self.now p → IsTruePayload p.run d.value (history p))) }
         ensures absent { IfOk result (λ o. IfNone o ((p : Past) → CoreStandsFor self.now p
             → is_absent (registry_of (history p)) (asked_by key.now.query) ≡ true)) }
         ensures memory { IfErr result (λ e. e ≡ OutOfMemory) }
@@ -606,7 +606,7 @@ impl Core {
         ensures key { IfOk result (λ o. IfSome o (λ d. d.value.key ≡ key.now)) }
         ensures version { IfOk result (λ o. IfSome o (λ d. d.value.version ≡ self.now.registry.version)) }
         ensures base { IfOk result (λ o. IfSome o (λ d. d.value.base ≡ self.now.queue.base)) }
-        ensures true_now { IfOk result (λ o. IfSome o (λ d. (p : Past) → CoreStandsFor self.now p → IsTrue p.run d.value (history p))) }
+        ensures true_now { IfOk result (λ o. IfSome o (λ d. (p : Past) → CoreStandsFor self.now p → IsTruePayload p.run d.value (history p))) }
         ensures absent { IfOk result (λ o. IfNone o ((p : Past) → CoreStandsFor self.now p
             → is_absent (registry_of (history p)) (asked_by key.now.query) ≡ true)) }
         ensures memory { IfErr result (λ e. e ≡ OutOfMemory) }
@@ -625,7 +625,7 @@ impl Core {
         requires { is_delta key.now.query ≡ false }
         ensures key { IfOk result (λ o. IfSome o (λ d. d.value.key ≡ key.now)) }
         ensures version { IfOk result (λ o. IfSome o (λ d. d.value.version ≡ self.now.registry.version)) }
-        ensures true_now { IfOk result (λ o. IfSome o (λ d. (h : List Entry) → registry.StandsFor self.now.registry h → IsTrue self.now.run d.value h)) }
+        ensures true_now { IfOk result (λ o. IfSome o (λ d. (h : List Entry) → registry.StandsFor self.now.registry h → IsTruePayload self.now.run d.value h)) }
         ensures absent { IfOk result (λ o. IfNone o ((h : List Entry) → registry.StandsFor self.now.registry h
             → is_absent (registry_of h) (asked_by key.now.query) ≡ true)) }
         ensures memory { IfErr result (λ e. e ≡ OutOfMemory) }
@@ -644,7 +644,7 @@ impl Core {
     pub fn instance(&self, key: &Key, form: Form) -> Result<Arc<Payload, Global>, Fault>
         ensures key { IfOk result (λ p. p.value.key ≡ doc_of_key key.now form) }
         ensures version { IfOk result (λ p. p.value.version ≡ self.now.registry.version) }
-        ensures true_now { IfOk result (λ p. (h : List Entry) → registry.StandsFor self.now.registry h → IsTrue self.now.run p.value h) }
+        ensures true_now { IfOk result (λ p. (h : List Entry) → registry.StandsFor self.now.registry h → IsTruePayload self.now.run p.value h) }
         ensures allowed { IfOk result (λ _. (h : List Entry) → registry.StandsFor self.now.registry h
             → refusal_of true (doc_of_key key.now form).query h ≡ None) }
         ensures refused { IfErr result (λ e. e ≢ OutOfMemory → (h : List Entry) → registry.StandsFor self.now.registry h
@@ -669,7 +669,7 @@ impl Core {
     pub fn by_id(&self, id: &str, form: Form) -> Result<Arc<Payload, Global>, Fault>
         ensures key { IfOk result (λ p. (h : List Entry) → registry.StandsFor self.now.registry h → doc_of_id id.now form h ≡ Some p.value.key) }
         ensures version { IfOk result (λ p. p.value.version ≡ self.now.registry.version) }
-        ensures true_now { IfOk result (λ p. (h : List Entry) → registry.StandsFor self.now.registry h → IsTrue self.now.run p.value h) }
+        ensures true_now { IfOk result (λ p. (h : List Entry) → registry.StandsFor self.now.registry h → IsTruePayload self.now.run p.value h) }
         ensures allowed { IfOk result (λ _. (h : List Entry) → registry.StandsFor self.now.registry h → refusal_of_id id.now h ≡ None) }
         ensures refused { IfErr result (λ e. e ≢ OutOfMemory → (h : List Entry) → registry.StandsFor self.now.registry h → refusal_of_id id.now h ≡ Some e) }
     {

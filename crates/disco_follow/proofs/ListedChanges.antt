@@ -10,25 +10,25 @@ use Rattle.disco_values.specs.Key.{key_cmp}
 use Rattle.disco_values.specs.declared.key.Key.{Key}
 use Rattle.disco_instance.specs.Row.{Row, row}
 use Rattle.disco_history.specs.declared.held.Held.{Held}
-use Rattle.disco_follow.specs.Changes.{AreToldOf, Change, IsToldOf, gone_of}
+use Rattle.disco_follow.specs.Changes.{AreToldOf, InstanceChange, IsToldOf, gone_of}
 
-told_more : (before : FinMap key_cmp Row) (rs : List Row) (r : Row) (t x : List Change) → AreToldOf before rs t → IsToldOf (get before r.key) r x → AreToldOf before (rs ++ r ∷ []) (t ++ x)
+told_more : (before : FinMap key_cmp Row) (rs : List Row) (r : Row) (t x : List InstanceChange) → AreToldOf before rs t → IsToldOf (get before r.key) r x → AreToldOf before (rs ++ r ∷ []) (t ++ x)
 told_more before [] r t x none one = (x, [], one, refl, ap (λ l. l ++ x) none ∙ sym (append-nil x))
 told_more before (q ∷ qs) r t x all one =
     (all.0, all.1 ++ x, all.2, told_more before qs r all.1 x all.3 one, ap (λ l. l ++ x) all.4 ∙ append_assoc all.0 all.1 x)
 
 -- the changes of these instances are put behind others
-abbrev pub TellsAll : FinMap key_cmp Row → List Row → List Change → List Change → Type 0
-TellsAll before rs old new = (all : List Change) × AreToldOf before rs all × (new ≡ old ++ all)
+abbrev pub TellsAll : FinMap key_cmp Row → List Row → List InstanceChange → List InstanceChange → Type 0
+TellsAll before rs old new = (all : List InstanceChange) × AreToldOf before rs all × (new ≡ old ++ all)
 
-pub tells_none : (before : FinMap key_cmp Row) (o : List Change) → TellsAll before [] o o
+pub tells_none : (before : FinMap key_cmp Row) (o : List InstanceChange) → TellsAll before [] o o
 tells_none before o = ([], refl, sym (append-nil o))
 
 -- one instance's change by what was held of a key is put behind others
-abbrev pub TellsOne : FinMap key_cmp Row → Key → Row → List Change → List Change → Type 0
-TellsOne before k r old new = (one : List Change) × IsToldOf (get before k) r one × (new ≡ old ++ one)
+abbrev pub TellsOne : FinMap key_cmp Row → Key → Row → List InstanceChange → List InstanceChange → Type 0
+TellsOne before k r old new = (one : List InstanceChange) × IsToldOf (get before k) r one × (new ≡ old ++ one)
 
-pub tells_more : (before : FinMap key_cmp Row) (rs : List Row) (r : Row) (o m n : List Change) → TellsAll before rs o m → TellsOne before r.key r m n → TellsAll before (rs ++ r ∷ []) o n
+pub tells_more : (before : FinMap key_cmp Row) (rs : List Row) (r : Row) (o m n : List InstanceChange) → TellsAll before rs o m → TellsOne before r.key r m n → TellsAll before (rs ++ r ∷ []) o n
 tells_more before rs r o m n all one =
     (all.0 ++ one.0, told_more before rs r all.0 one.0 all.1 one.1, one.2 ∙ ap (λ l. l ++ one.0) all.2 ∙ append_assoc o all.0 one.0)
 
@@ -43,13 +43,13 @@ pub rows_whole : (hs : List Held) (i : ℕ) → length hs ≤ i → map row_in (
 rows_whole hs i le = ap (map row_in) (take_all i hs le)
 
 -- what became of the instances that went is put behind others
-abbrev pub TellsGone : FinMap key_cmp Row → List Row → List Change → List Change → Type 0
+abbrev pub TellsGone : FinMap key_cmp Row → List Row → List InstanceChange → List InstanceChange → Type 0
 TellsGone now rs old new = new ≡ old ++ flat_map (λ r. gone_of (get now r.key) r) rs
 
-pub gone_none : (now : FinMap key_cmp Row) (o : List Change) → TellsGone now [] o o
+pub gone_none : (now : FinMap key_cmp Row) (o : List InstanceChange) → TellsGone now [] o o
 gone_none now o = sym (append-nil o)
 
-pub gone_more : (now : FinMap key_cmp Row) (rs : List Row) (r : Row) (o m n : List Change) → TellsGone now rs o m → n ≡ m ++ gone_of (get now r.key) r → TellsGone now (rs ++ r ∷ []) o n
+pub gone_more : (now : FinMap key_cmp Row) (rs : List Row) (r : Row) (o m n : List InstanceChange) → TellsGone now rs o m → n ≡ m ++ gone_of (get now r.key) r → TellsGone now (rs ++ r ∷ []) o n
 gone_more now rs r o m n all one =
     let f = λ (r : Row). gone_of (get now r.key) r in
     let behind = ap (λ l. flat_map f rs ++ l) (sym (append-nil (f r))) ∙ sym (flat_map-append f rs (r ∷ [])) in

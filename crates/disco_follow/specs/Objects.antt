@@ -8,9 +8,9 @@ use Rattle.disco_values.specs.Status.{status_name}
 use Rattle.disco_values.specs.declared.fault.Fault.{Fault}
 use Rattle.disco_values.specs.declared.key.Key.{Key}
 use Rattle.disco_instance.specs.Row.{Row}
-use Rattle.disco_follow.specs.Changes.{Change}
+use Rattle.disco_follow.specs.Changes.{InstanceChange}
 use Rattle.disco_follow.specs.declared.change.What.{What}
-use Rattle.disco_follow.specs.declared.change.What.TheVariants.{Came, Changed, Went}
+use Rattle.disco_follow.specs.declared.change.What.TheVariants as what
 
 -- of an instance that is held
 abbrev pub held_data : List ℕ → Key → List ℕ → Data
@@ -25,11 +25,11 @@ gone_data key =
     (member (codes "id") (string key.id) no_members)))
 
 abbrev pub change_data : What → Row → Data
-change_data Came r = held_data (codes "came") r.key (status_name r.status)
-change_data Changed r = held_data (codes "changed") r.key (status_name r.status)
-change_data Went r = gone_data r.key
+change_data what.Came r = held_data (codes "came") r.key (status_name r.status)
+change_data what.Changed r = held_data (codes "changed") r.key (status_name r.status)
+change_data what.Went r = gone_data r.key
 
-abbrev pub copy_data : ℕ → ℕ → List Change → Data
+abbrev pub copy_data : ℕ → ℕ → List InstanceChange → Data
 copy_data run version changes =
     object (member (codes "changes") (array (items_of (map (λ c. change_data c.0 c.1) changes)))
     (member (codes "run") (number (unsigned run)) (member (codes "version") (number (unsigned version)) no_members)))

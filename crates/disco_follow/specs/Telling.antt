@@ -10,14 +10,14 @@ use Rattle.disco_values.specs.declared.fault.Fault.{Fault}
 use Rattle.disco_instance.specs.Row.{Row}
 use Rattle.disco_client.specs.Copies.{is_up_under}
 use Rattle.disco_client.specs.declared.known.Known.{Known}
-use Rattle.disco_follow.specs.Changes.{AreChanges, Change}
+use Rattle.disco_follow.specs.Changes.{AreChanges, InstanceChange}
 use Rattle.disco_follow.specs.Objects.{copy_data, fault_data, object_line, vip_data}
 use Rattle.disco_follow.specs.Texts.{copy_text, fault_text, vip_text}
 use Rattle.disco_follow.specs.declared.wanted.Wanted.{Wanted}
 use Rattle.disco_reconcile.specs.declared.refreshed.Refreshed.{Refreshed}
 
 -- the line of a copy, as a JSON object or as a text
-abbrev pub copy_line : Bool → ℕ → ℕ → List Change → List ℕ
+abbrev pub copy_line : Bool → ℕ → ℕ → List InstanceChange → List ℕ
 copy_line json run version changes = if json then object_line (copy_data run version changes) else copy_text run version changes
 
 -- the line of a vip under which these instances are UP
@@ -49,7 +49,7 @@ up_line wanted now = option_map_or (λ vip. vip_line wanted.json vip (filter (is
 
 -- this is told of a copy that is a version of a run
 pub record IsToldCopy (wanted : Wanted) (old : Told) (run version : ℕ) (now : FinMap key_cmp Row) (text : List ℕ) (new : Told) : Type 0 where
-  pub changes : List Change
+  pub changes : List InstanceChange
   pub changed : AreChanges old.copy now changes
   pub written : text ≡ (if is_news old (length changes) then copy_line wanted.json run version changes else []) ++ unless_told old.up (up_line wanted now)
   pub told : new ≡ record { begun = true; copy = now; up = up_line wanted now; fault = 0 }

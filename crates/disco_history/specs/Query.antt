@@ -1,6 +1,6 @@
 -- Which records a query asks for (Eureka's REST operations).
-use Rattle.std.specs.Prelude.{ℕ, Bool, true, false, not, ◌==◌, ◌&&◌, ◌||◌, List, length, filter, if◌then◌else◌, Option, Some, None, option_and_then}
-use Rattle.std.specs.List.{find, list_any, slice_split}
+use Rattle.std.specs.Prelude.{ℕ, Bool, true, false, not, ◌==◌, ◌&&◌, ◌||◌, List, length, filter, if◌then◌else◌, Option, Some, None, option_and_then, find}
+use Rattle.std.specs.List.{list_any, slice_split}
 use Rattle.std.specs.Option.{option_map_or}
 use Rattle.std.specs.Str.{bytes_eq}
 use Rattle.std.specs.FinMap.{FinMap, get, keys, len, values}

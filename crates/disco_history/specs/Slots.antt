@@ -1,7 +1,6 @@
 -- Places for keys, which may stand empty. Nothing here is to be believed: it is the invariant of types.
-use Rattle.std.specs.Prelude.{◌≡◌, if◌then◌else◌, Option, Some, option_map}
+use Rattle.std.specs.Prelude.{◌≡◌, if◌then◌else◌, Option, Some, option_map, unwrap_or}
 use Rattle.std.specs.FinMap.{FinMap, get}
-use Rattle.std.specs.Option.{unwrap_or}
 use Rattle.disco_values.specs.Key.{key_cmp, same_key}
 use Rattle.disco_values.specs.declared.key.Key.{Key}
 

@@ -2,7 +2,7 @@
 use Rattle.std.specs.Prelude.{◌≡◌, ℕ, ◌+◌, ◌<◌, ◌≤◌, ◌⊎◌, List, [], ◌∷◌, ◌++◌, length, ⊤}
 use Rattle.std.specs.List.{concat}
 use Rattle.httparse.specs.Ascii.{crlf_bytes}
-use Rattle.httparse.specs.Grammar.{ChunkLine, chunk_size, print_chunk_line, ReadsChunkLine, Field, LineEnd, print_section, ReadsSection}
+use Rattle.httparse.specs.Grammar.{ChunkLine, chunk_size, print_chunk_line, ReadsChunkLine, Field as HeaderField, LineEnd, print_section, ReadsSection}
 use Rattle.disco_values.specs.declared.fault.Fault.{Fault}
 use Rattle.disco_values.specs.declared.fault.Fault.TheVariants.{OutOfMemory, HeadTooLarge, BodyTooLarge, BadRequest, ReadFailed}
 use Rattle.disco_message.specs.declared.limits.Limits.{Limits}
@@ -24,7 +24,7 @@ ReadsPieces limits input (piece ∷ pieces) rest = (next : List ℕ) × ReadsChu
 
 -- the fields behind the last chunk, which are dropped
 abbrev pub ReadsTrailer : Limits → List ℕ → List ℕ → Type 0
-ReadsTrailer limits input rest = (fields : List Field) × (last : LineEnd) × ReadsSection input fields last rest
+ReadsTrailer limits input rest = (fields : List HeaderField) × (last : LineEnd) × ReadsSection input fields last rest
     × (length (print_section fields last) ≤ limits.head) × (length fields ≤ limits.fields)
 
 -- the line of size 0, and the fields behind it

@@ -7,28 +7,28 @@ use Rattle.disco_values.specs.declared.fault.Fault.{Fault}
 use Rattle.disco_values.specs.declared.fault.Fault.TheVariants.{HeadTooLarge, BadRequest, ReadFailed}
 use Rattle.disco_message.specs.declared.limits.Limits.{Limits}
 use Rattle.disco_http.specs.declared.parts.Part.{Part}
-use Rattle.disco_http.specs.declared.parts.Part.TheVariants.{RequestHead, ReplyHead, SizeLine, Trailer}
+use Rattle.disco_http.specs.declared.parts.Part.TheVariants as parts
 
 -- no first bytes are such a part
 abbrev pub HasNo : Part → List ℕ → Type 0
-HasNo RequestHead bytes = HasNoRequest bytes
-HasNo ReplyHead bytes = HasNoResponse bytes
-HasNo SizeLine bytes = HasNoChunkLine bytes
-HasNo Trailer bytes = HasNoSection bytes
+HasNo parts.RequestHead bytes = HasNoRequest bytes
+HasNo parts.ReplyHead bytes = HasNoResponse bytes
+HasNo parts.SizeLine bytes = HasNoChunkLine bytes
+HasNo parts.Trailer bytes = HasNoSection bytes
 
 -- nor can bytes follow that make one
 abbrev pub Never : Part → List ℕ → Type 0
-Never RequestHead bytes = NeverHasRequest bytes
-Never ReplyHead bytes = NeverHasResponse bytes
-Never SizeLine bytes = NeverHasChunkLine bytes
-Never Trailer bytes = NeverHasSection bytes
+Never parts.RequestHead bytes = NeverHasRequest bytes
+Never parts.ReplyHead bytes = NeverHasResponse bytes
+Never parts.SizeLine bytes = NeverHasChunkLine bytes
+Never parts.Trailer bytes = NeverHasSection bytes
 
 -- more fields than so many stand there
 abbrev pub Exceeds : ℕ → Part → List ℕ → Type 0
-Exceeds fields RequestHead bytes = RequestExceeds fields bytes
-Exceeds fields ReplyHead bytes = ResponseExceeds fields bytes
-Exceeds fields SizeLine bytes = ⊥
-Exceeds fields Trailer bytes = SectionExceeds fields bytes
+Exceeds fields parts.RequestHead bytes = RequestExceeds fields bytes
+Exceeds fields parts.ReplyHead bytes = ResponseExceeds fields bytes
+Exceeds fields parts.SizeLine bytes = ⊥
+Exceeds fields parts.Trailer bytes = SectionExceeds fields bytes
 
 -- why bytes are no such part, whatever follows: they can't become one, or have too many fields
 abbrev pub BytesRefused : ℕ → Part → Fault → List ℕ → Type 0
@@ -53,7 +53,7 @@ SomeFront limits part fault stream = (front : List ℕ) × (more : List ℕ) × 
 
 -- the input ends before the part is whole; an end before a request's first byte is none
 abbrev pub EndsInside : Limits → Part → List ℕ → Type 0
-EndsInside limits RequestHead stream = (stream ≢ []) × (length stream < limits.head) × HasNoRequest stream
+EndsInside limits parts.RequestHead stream = (stream ≢ []) × (length stream < limits.head) × HasNoRequest stream
 EndsInside limits part stream = (length stream < limits.head) × HasNo part stream
 
 -- why no such part is read from the stream; of the host nothing is said here

@@ -13,7 +13,8 @@ use Rattle.disco_http.specs.Streams.{Came, ahead, source_of}
 use Rattle.disco_http.specs.declared.reader.Reader.{Reader}
 use Rattle.disco_http.specs.Writes.{AppendsProperFront}
 use Rattle.disco_http.specs.declared.session.End.{End}
-use Rattle.disco_http.specs.declared.session.End.TheVariants.{Closed, Asked, Limit, Fault}
+use Rattle.disco_http.specs.declared.session.End.TheVariants.{Closed, Asked, Limit}
+use Rattle.disco_http.specs.declared.session.End.TheVariants as ends
 use Rattle.disco_http.specs.declared.session.Served.{Served}
 
 -- how a connection ends behind a request, if it does
@@ -33,9 +34,9 @@ abbrev pub EndsStream : Limits → List ℕ → Left → End → Type 0
 EndsStream limits stream left Closed = stream ≡ []
 EndsStream limits stream left Asked = ⊥
 EndsStream limits stream left Limit = ⊥
-EndsStream limits stream left (Fault ReadFailed) = Came (HasNone limits) stream left.source
-EndsStream limits stream left (Fault WriteFailed) = left.ahead ≡ Some stream
-EndsStream limits stream left (Fault f) = Refused limits f stream
+EndsStream limits stream left (ends.Fault ReadFailed) = Came (HasNone limits) stream left.source
+EndsStream limits stream left (ends.Fault WriteFailed) = left.ahead ≡ Some stream
+EndsStream limits stream left (ends.Fault f) = Refused limits f stream
 
 -- what comes behind a request: where it was the last, nothing, and the rest stays ahead
 abbrev pub Behind : Option End → Type 0 → List ℕ → Left → List message.RequestView → End → Type 0
@@ -62,9 +63,9 @@ refused f = record { status = refusal f; allow = None; document = None; cert = N
 
 -- what is written at the end, behind all replies: the refusal of a request, and nothing where a read or a write failed
 abbrev pub end_texts : End → List (List ℕ)
-end_texts (Fault ReadFailed) = []
-end_texts (Fault WriteFailed) = []
-end_texts (Fault f) = reply_text (refused f) true ∷ []
+end_texts (ends.Fault ReadFailed) = []
+end_texts (ends.Fault WriteFailed) = []
+end_texts (ends.Fault f) = reply_text (refused f) true ∷ []
 end_texts _ = []
 
 -- the connection ends behind a reply with no other behind it
@@ -87,13 +88,13 @@ Breaks before after texts =
 -- the connection ends by a reply, and not at the end of its input, nor by a failed read
 abbrev pub ends_by_reply : End → Bool
 ends_by_reply Closed = false
-ends_by_reply (Fault ReadFailed) = false
+ends_by_reply (ends.Fault ReadFailed) = false
 ends_by_reply end = true
 
 -- all texts were written, or the write of the last one failed, which ended the connection
 abbrev pub Written : End → End → Option (List ℕ) → Option (List ℕ) → List (List ℕ) → Type 0
-Written at end before after texts = ((at ≡ end) × (at ≢ Fault WriteFailed) × Appends before after (concat texts))
-    ⊎ ((at ≡ Fault WriteFailed) × IsTrue (ends_by_reply end) × Breaks before after texts)
+Written at end before after texts = ((at ≡ end) × (at ≢ ends.Fault WriteFailed) × Appends before after (concat texts))
+    ⊎ ((at ≡ ends.Fault WriteFailed) × IsTrue (ends_by_reply end) × Breaks before after texts)
 
 -- the connection's replies are exactly the answers to the stream's requests
 abbrev pub AnswersAll : {S : Type 0} → (S → message.RequestView → ReplyView → S → Type 0) → Limits → List ℕ → Left → S → S → Option (List ℕ) → Option (List ℕ)

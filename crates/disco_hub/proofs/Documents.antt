@@ -32,7 +32,7 @@ use Rattle.disco_values.specs.declared.query.Query.TheVariants as query
 use Rattle.disco_wire.proofs.Texts.{same_text}
 use Rattle.disco_cache.specs.Docs.{Docs}
 use Rattle.disco_values.specs.Keys.{doc_cmp, same_doc}
-use Rattle.disco_cache.specs.Payloads.{IsTrue}
+use Rattle.disco_cache.specs.Payloads.{IsTruePayload}
 use Rattle.disco_values.specs.declared.doc_key.DocKey.{DocKey}
 use Rattle.disco_cache.specs.declared.payload.Payload.{Payload}
 use Rattle.disco_values.proofs.Orders.{docs_total, exact_docs}
@@ -130,7 +130,7 @@ none_kept on p = record { keys = λ k d is. absurd (none_there k d is); served =
 pub moved_on : (on : Bool) (docs : FinMap doc_cmp Payload) (p q : Past) → q.run ≡ p.run → history q ≡ history p → p.base ≤ q.base → AreServable on docs p → AreServable on docs q
 moved_on on docs p q run same le kept = record {
   keys = kept.keys;
-  served = λ k d is. let may = kept.served k d is in record { true_now = subst (λ (x : ℕ × List Entry). IsTrue x.0 d x.1) (λ i. (sym run i, sym same i)) may.true_now; start = λ of_delta. omega (arith, may.start of_delta, le) };
+  served = λ k d is. let may = kept.served k d is in record { true_now = subst (λ (x : ℕ × List Entry). IsTruePayload x.0 d x.1) (λ i. (sym run i, sym same i)) may.true_now; start = λ of_delta. omega (arith, may.start of_delta, le) };
 }
 
 -- what is dropped isn't there, and the rest is as it was
@@ -234,7 +234,7 @@ module _ (version base : ℕ) (s : Docs) (k : DocKey) (d : Payload) where
   is_new none of from = subst (λ o. IsKeptOrNew version base o d) (sym none) (of, from)
 
 -- a kept document isn't refused
-pub allowed : (run : ℕ) (on : Bool) (q : Query) (h : List Entry) (d : Payload) → d.key.query ≡ q → IsTrue run d h → (is_delta q ≡ true → on ≡ true) → refusal_of on q h ≡ None
+pub allowed : (run : ℕ) (on : Bool) (q : Query) (h : List Entry) (d : Payload) → d.key.query ≡ q → IsTruePayload run d h → (is_delta q ≡ true → on ≡ true) → refusal_of on q h ≡ None
 allowed run on q h d key true_now deltas = one (is_delta q) refl
   where
     there : is_absent (registry_of h) (asked_by q) ≡ false
@@ -245,5 +245,5 @@ allowed run on q h d key true_now deltas = one (is_delta q) refl
     one false e = ap (λ x. cond x (Some NotFound) None) there
 
 -- a document that is written now
-pub written_now : (s : core.CoreState) (p : Past) (d : Payload) → core.CoreStandsFor s p → IsTrue p.run d (history p) → (is_delta d.key.query ≡ true → d.base ≡ s.queue.base) → MayServe d p
+pub written_now : (s : core.CoreState) (p : Past) (d : Payload) → core.CoreStandsFor s p → IsTruePayload p.run d (history p) → (is_delta d.key.query ≡ true → d.base ≡ s.queue.base) → MayServe d p
 written_now s p d stands true_now base = record { true_now = true_now; start = λ of_delta. omega (arith, base of_delta, stands.queue.base) }

@@ -7,7 +7,7 @@ use Rattle.std.specs.Ordering.{is_eq}
 use Rattle.std.specs.declared.cmp.Ordering.{Ordering}
 use Rattle.std.specs.declared.cmp.Ordering.TheVariants.{Less, Equal, Greater}
 use Rattle.disco_values.specs.Keys.{doc_cmp, same_doc}
-use Rattle.disco_cache.specs.Payloads.{IsTrue}
+use Rattle.disco_cache.specs.Payloads.{IsTruePayload}
 use Rattle.disco_values.specs.declared.doc_key.DocKey.{DocKey}
 use Rattle.disco_cache.specs.declared.payload.Payload.{Payload}
 use Rattle.disco_values.proofs.Orders.{docs_total, exact_docs}
@@ -61,5 +61,5 @@ copied_stands l k d is = elim (found empty l k d is) [ held there none ↦ absur
 pub shown_stands : (l : List Note) (k : DocKey) (d : Payload) → IsPublishable l → get (edition_of l) k ≡ Some d → StandsIn l k d
 shown_stands l k d publishable is = copied_stands l k d (ap (λ (m : Edition). get m k) (sym publishable) ∙ is)
 
-pub true_there : (run : ℕ) (l : List Note) (k : DocKey) (d : Payload) → IsLegal run l → (s : StandsIn l k d) → IsTrue run d (changes_in s.before)
+pub true_there : (run : ℕ) (l : List Note) (k : DocKey) (d : Payload) → IsLegal run l → (s : StandsIn l k d) → IsTruePayload run d (changes_in s.before)
 true_there run l k d legal s = legal s.before (doc d) s.after s.there

@@ -11,7 +11,7 @@ use Rattle.disco_cache.specs.Docs.{Docs, Drops}
 use Rattle.disco_values.specs.declared.doc_key.DocKey.{DocKey}
 use Rattle.disco_cache.specs.declared.payload.Payload.{Payload}
 use Rattle.disco_hub.specs.declared.copied.Copied.{Copied}
-use Rattle.disco_hub.specs.declared.copied.Copied.TheVariants.{Doc, Drop}
+use Rattle.disco_hub.specs.declared.copied.Copied.TheVariants as copied
 use Rattle.disco_hub.specs.State.{is_cached}
 
 -- just the documents that a change names are dropped, if there is one: by the record of its key before it, and by its own
@@ -41,5 +41,5 @@ IsAsKept version base s k d = IsKeptOrNew version base (get s.docs k) d
 
 -- and so is what is copied of it
 abbrev pub IsCopiedAsKept : ℕ → ℕ → Docs → DocKey → Copied → Type 0
-IsCopiedAsKept version base s k (Doc d) = IsAsKept version base s k d.value
-IsCopiedAsKept version base s k (Drop j) = get s.docs k ≡ None
+IsCopiedAsKept version base s k (copied.Doc d) = IsAsKept version base s k d.value
+IsCopiedAsKept version base s k (copied.Drop j) = get s.docs k ≡ None

@@ -8,7 +8,7 @@ use Rattle.disco_history.specs.Query.{is_absent}
 use Rattle.disco_history.specs.Registry.{registry_of}
 use Rattle.disco_wire.specs.Documents.{asked_by}
 use Rattle.disco_values.specs.Keys.{doc_cmp, same_doc}
-use Rattle.disco_cache.specs.Payloads.{IsTrue}
+use Rattle.disco_cache.specs.Payloads.{IsTruePayload}
 use Rattle.disco_values.specs.declared.doc_key.DocKey.{DocKey}
 use Rattle.disco_cache.specs.declared.payload.Payload.{Payload}
 use Rattle.disco_hub.specs.Rounds.{KeySet, Round}
@@ -52,7 +52,7 @@ changes_in l = fold noted [] l
 
 -- a note may stand behind these changes of a run: its document is true of them, or there is none
 abbrev pub Fits : ℕ → List Entry → Note → Type 0
-Fits run h (doc d) = IsTrue run d h
+Fits run h (doc d) = IsTruePayload run d h
 Fits run h (gone k) = is_absent (registry_of h) (asked_by k.query) ≡ true
 Fits run h _ = Unit {0}
 

@@ -9,14 +9,14 @@ use Rattle.disco_values.specs.declared.query.Query.{Query}
 use Rattle.disco_values.specs.declared.query.Query.TheVariants as query
 use Rattle.disco_cache.specs.Docs.{Docs}
 use Rattle.disco_values.specs.Keys.{doc_cmp}
-use Rattle.disco_cache.specs.Payloads.{IsTrue}
+use Rattle.disco_cache.specs.Payloads.{IsTruePayload}
 use Rattle.disco_values.specs.declared.doc_key.DocKey.{DocKey}
 use Rattle.disco_cache.specs.declared.payload.Payload.{Payload}
 use Rattle.disco_core.specs.Past.{Past, history, nothing}
 use Rattle.disco_core.specs.State as core
 use Rattle.disco_hub.specs.Rounds.{Round, Rounds}
 use Rattle.disco_hub.specs.declared.copied.Copied.{Copied}
-use Rattle.disco_hub.specs.declared.copied.Copied.TheVariants.{Doc, Drop}
+use Rattle.disco_hub.specs.declared.copied.Copied.TheVariants as copied
 use Rattle.disco_values.specs.declared.settings.Settings.{Settings}
 
 pub record HubState : Type 0 where
@@ -37,7 +37,7 @@ open_round s = s.rounds.round
 
 -- a document may be served after what has happened: it is of the run and true, and a delta starts no later than the queue does
 pub record MayServe (d : Payload) (p : Past) : Type 0 where
-  pub true_now : IsTrue p.run d (history p)
+  pub true_now : IsTruePayload p.run d (history p)
   pub start : is_delta d.key.query ≡ true → d.base ≤ p.base
 
 -- documents of single instances are cached nowhere, and deltas only where they are served
@@ -71,5 +71,5 @@ pub record IsSameHub (old new : HubState) : Type 0 where
 
 -- what was copied of a key after what has happened: a document that may be served, or that there is none
 abbrev pub IsCopied : DocKey → Copied → Past → Type 0
-IsCopied k (Doc d) p = (d.value.key ≡ k) × MayServe d.value p
-IsCopied k (Drop j) p = (j ≡ k) × (is_absent (registry_of (history p)) (asked_by k.query) ≡ true)
+IsCopied k (copied.Doc d) p = (d.value.key ≡ k) × MayServe d.value p
+IsCopied k (copied.Drop j) p = (j ≡ k) × (is_absent (registry_of (history p)) (asked_by k.query) ≡ true)

@@ -1,7 +1,6 @@
 -- What is kept of vips, and what becomes of places. Nothing here is to be believed: no public contract rests on it.
-use Rattle.std.specs.Prelude.{◌≡◌, ℕ, Bool, true, false, ◌&&◌, List, filter, if◌then◌else◌, Option, Some, None, IsSome}
+use Rattle.std.specs.Prelude.{◌≡◌, ℕ, Bool, true, false, ◌&&◌, List, filter, if◌then◌else◌, Option, Some, None, IsSome, unwrap_or}
 use Rattle.std.specs.FinMap.{get, keys}
-use Rattle.std.specs.Option.{unwrap_or}
 use Rattle.std.specs.List.{list_any}
 use Rattle.std.specs.Str.{bytes_eq}
 use Rattle.disco_values.specs.Key.{same_key}

@@ -11,7 +11,7 @@ use Rattle.disco_values.specs.declared.action.Action.{Action}
 use Rattle.disco_instance.specs.declared.data_center.DataCenter.{DataCenter}
 use Rattle.disco_values.specs.declared.fault.Fault.{Fault}
 use Rattle.disco_values.specs.declared.fault.Fault.TheVariants.{OutOfMemory, MissingField}
-use Rattle.disco_values.specs.declared.fault.Field.TheVariants.{InstanceId, App}
+use Rattle.disco_values.specs.declared.fault.Field.TheVariants as fields
 use Rattle.disco_values.specs.declared.key.Key.{Key}
 use Rattle.disco_instance.specs.declared.lease.Lease.{Lease}
 use Rattle.disco_values.specs.declared.status.Status.TheVariants.{Up}
@@ -38,8 +38,8 @@ app_at within d = option_or (non_empty_at (codes "app") d) (option_and_then not_
 
 -- the key, or the first of its parts that is missing
 abbrev pub key_at : Option (List ℕ) → Data → Result Key Fault
-key_at within d = if_ok (ok_or (id_at d) (MissingField InstanceId)) (λ id.
-    if_ok (ok_or (app_at within d) (MissingField App)) (λ app. Ok (record { app = in_upper_case app; id = id })))
+key_at within d = if_ok (ok_or (id_at d) (MissingField fields.InstanceId)) (λ id.
+    if_ok (ok_or (app_at within d) (MissingField fields.App)) (λ app. Ok (record { app = in_upper_case app; id = id })))
 
 -- ---- the other members
 

@@ -3,7 +3,7 @@ use Rattle.std.specs.Prelude.{ℕ, is_some, Bool, true, false, ◌&&◌, List, [
 use Rattle.std.specs.Prelude.{option_and_then, option_map, unwrap_or}
 use Rattle.std.specs.Str.{bytes_eq}
 use Rattle.serde_json.specs.Data.{Data, null, boolean, number, string}
-use Rattle.serde_json.specs.Find.{get, as_str, as_u64}
+use Rattle.serde_json.specs.Find.{get as member_at, as_str, as_u64}
 use Rattle.disco_values.specs.Digits.{digits_number}
 use Rattle.disco_values.specs.Text.{in_upper_case}
 use Rattle.disco_values.specs.Status.{status_named}
@@ -33,10 +33,10 @@ not_empty s = if length s == 0 then None else Some s
 
 -- what stands at the name, null where nothing does
 abbrev pub inner_at : List ℕ → Data → Data
-inner_at name d = unwrap_or (get name d) null
+inner_at name d = unwrap_or (member_at name d) null
 
 abbrev pub text_at : List ℕ → Data → Option (List ℕ)
-text_at name d = option_and_then as_str (get name d)
+text_at name d = option_and_then as_str (member_at name d)
 
 abbrev pub non_empty_at : List ℕ → Data → Option (List ℕ)
 non_empty_at name d = option_and_then not_empty (text_at name d)
@@ -45,12 +45,12 @@ abbrev pub text_or_empty : List ℕ → Data → List ℕ
 text_or_empty name d = unwrap_or (text_at name d) []
 
 abbrev pub flag_at : List ℕ → Data → Option Bool
-flag_at name d = option_and_then as_flag (get name d)
+flag_at name d = option_and_then as_flag (member_at name d)
 
 -- the whole number at the name where it is in range, else the default
 abbrev pub number_at : List ℕ → ℕ → ℕ → ℕ → Data → ℕ
 number_at name low high default d = unwrap_or (option_and_then (λ n.
-    if nat_le low n && nat_le n high then Some n else None) (option_and_then as_whole (get name d))) default
+    if nat_le low n && nat_le n high then Some n else None) (option_and_then as_whole (member_at name d))) default
 
 -- a port: its number and its flag have each a default of their own
 abbrev pub port_at : List ℕ → ℕ → Bool → Data → Port

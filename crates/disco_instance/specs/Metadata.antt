@@ -3,7 +3,7 @@ use Rattle.std.specs.Prelude.{ℕ, List, [], ◌∷◌, codes, if◌then◌else�
 use Rattle.std.specs.Option.{option_map_or}
 use Rattle.std.specs.Str.{bytes_eq}
 use Rattle.serde_json.specs.Data.{Data, boolean, number, string, Members, no_members, member}
-use Rattle.serde_json.specs.Find.{get, as_u64, as_object}
+use Rattle.serde_json.specs.Find.{get as member_at, as_u64, as_object}
 
 -- the text that an entry is kept as: a text, a whole number as its digits, a truth value as its name
 abbrev pub entry_text : Data → Option (List ℕ)
@@ -23,4 +23,4 @@ kept_entries (member k d ms) = with_entry k (entry_text d) (kept_entries ms)
 
 -- the entries of the object at the name
 abbrev pub entries_at : List ℕ → Data → List (List ℕ × List ℕ)
-entries_at name d = option_map_or kept_entries (option_and_then as_object (get name d)) []
+entries_at name d = option_map_or kept_entries (option_and_then as_object (member_at name d)) []

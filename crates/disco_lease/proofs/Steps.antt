@@ -7,16 +7,16 @@ use Rattle.std.specs.FinMap.{FinMap, get, insert, remove, get-insert, get-remove
 use Rattle.disco_values.specs.Key.{key_cmp, same_key}
 use Rattle.disco_values.specs.declared.key.Key.{Key}
 use Rattle.disco_history.proofs.Keys.{keys_total, same_is}
-use Rattle.disco_lease.specs.Leases.{Lease, extended}
+use Rattle.disco_lease.specs.Leases.{LeaseEntry, extended}
 
 abbrev Places : Type 0
-Places = FinMap key_cmp (Option Lease)
+Places = FinMap key_cmp (Option LeaseEntry)
 
-flat_cond : (b : Bool) (x y : Option (Option Lease)) → option_flatten (cond b x y) ≡ cond b (option_flatten x) (option_flatten y)
+flat_cond : (b : Bool) (x y : Option (Option LeaseEntry)) → option_flatten (cond b x y) ≡ cond b (option_flatten x) (option_flatten y)
 flat_cond true x y = refl
 flat_cond false x y = refl
 
-pub lease-put : (m n : Places) (k : Key) (l : Lease) → n ≡ insert m k (Some l) → (q : Key) → option_flatten (get n q) ≡ cond (same_key q k) (Some l) (option_flatten (get m q))
+pub lease-put : (m n : Places) (k : Key) (l : LeaseEntry) → n ≡ insert m k (Some l) → (q : Key) → option_flatten (get n q) ≡ cond (same_key q k) (Some l) (option_flatten (get m q))
 lease-put m n k l e q = ap (λ p. option_flatten (get p q)) e ∙ ap option_flatten (get-insert keys_total m k (Some l) q) ∙ flat_cond (same_key q k) (Some (Some l)) (get m q)
 
 pub lease-touch : (m n : Places) (k : Key) (now : ℕ) → n ≡ insert m k (option_map (extended now) (option_flatten (get m k))) → (q : Key) → option_flatten (get n q) ≡ cond (same_key q k) (option_map (extended now) (option_flatten (get m k))) (option_flatten (get m q))
@@ -35,24 +35,24 @@ lease-made m n k e q =
     ap (λ p. option_flatten (get p q)) e ∙ ap option_flatten (get-insert keys_total m k (option_flatten (get m k)) q)
     ∙ made m k q (same_key q k) refl
 
-stays : (b : Bool) (v : Option Lease) (o : Option (Option Lease)) → IsSome o → IsSome (cond b (Some v) o)
+stays : (b : Bool) (v : Option LeaseEntry) (o : Option (Option LeaseEntry)) → IsSome o → IsSome (cond b (Some v) o)
 stays true v o h = refl
 stays false v o h = h
 
-pub place-put : (m n : Places) (k : Key) (v : Option Lease) → n ≡ insert m k v → (q : Key) → IsSome (get m q) → IsSome (get n q)
+pub place-put : (m n : Places) (k : Key) (v : Option LeaseEntry) → n ≡ insert m k v → (q : Key) → IsSome (get m q) → IsSome (get n q)
 place-put m n k v e q h =
     let now : get n q ≡ cond (same_key q k) (Some v) (get m q) = ap (λ p. get p q) e ∙ get-insert keys_total m k v q in
-    subst (λ (o : Option (Option Lease)). IsSome o) (sym now) (stays (same_key q k) v (get m q) h)
+    subst (λ (o : Option (Option LeaseEntry)). IsSome o) (sym now) (stays (same_key q k) v (get m q) h)
 
 itself : (k : Key) → same_key k k ≡ true
 itself k = ap is_eq (tied_itself keys_total k)
 
-pub place-open : (m n : Places) (k : Key) (v : Option Lease) → n ≡ insert m k v → IsSome (get n k)
+pub place-open : (m n : Places) (k : Key) (v : Option LeaseEntry) → n ≡ insert m k v → IsSome (get n k)
 place-open m n k v e =
     let now : get n k ≡ Some v = ap (λ p. get p k) e ∙ get-insert keys_total m k v k ∙ ap (λ b. cond b (Some v) (get m k)) (itself k) in
-    subst (λ (o : Option (Option Lease)). IsSome o) (sym now) refl
+    subst (λ (o : Option (Option LeaseEntry)). IsSome o) (sym now) refl
 
-pub others-put : (m n : Places) (k : Key) (v : Option Lease) → n ≡ insert m k v → (q : Key) → same_key q k ≡ false → get n q ≡ get m q
+pub others-put : (m n : Places) (k : Key) (v : Option LeaseEntry) → n ≡ insert m k v → (q : Key) → same_key q k ≡ false → get n q ≡ get m q
 others-put m n k v e q apart = ap (λ p. get p q) e ∙ get-insert keys_total m k v q ∙ ap (λ b. cond b (Some v) (get m q)) apart
 
 pub others-out : (m n : Places) (k : Key) → n ≡ remove m k → (q : Key) → same_key q k ≡ false → get n q ≡ get m q
@@ -62,7 +62,7 @@ others-out m n k e q apart = ap (λ p. get p q) e ∙ get-remove keys_total m k 
 pub none-out : (m n : Places) (k : Key) → n ≡ remove m k → get n k ≡ None
 none-out m n k e = ap (λ p. get p k) e ∙ get-remove keys_total m k k ∙ ap (λ b. cond b None (get m k)) (itself k)
 
-pub no-place : (o : Option (Option Lease)) → o ≡ None → IsSome o → ⊥
+pub no-place : (o : Option (Option LeaseEntry)) → o ≡ None → IsSome o → ⊥
 no-place None is some = absurd (cc)
 no-place (Some v) is some = absurd (cc)
 

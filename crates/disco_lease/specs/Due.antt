@@ -6,11 +6,11 @@ use Rattle.std.specs.Ordering.{nat_cmp, ordering_then}
 use Rattle.std.specs.declared.cmp.Ordering.{Ordering}
 use Rattle.disco_values.specs.Key.{key_cmp}
 use Rattle.disco_values.specs.declared.key.Key.{Key}
-use Rattle.disco_lease.specs.Leases.{Lease, Leases, lease_at}
+use Rattle.disco_lease.specs.Leases.{LeaseEntry, Leases, lease_at}
 use Rattle.disco_lease.specs.declared.minute.Minute.{Minute}
 
 -- when a lease runs out: its duration after its mark
-abbrev pub due_moment : Lease → ℕ
+abbrev pub due_moment : LeaseEntry → ℕ
 due_moment l = l.mark + l.duration_secs * 1000
 
 -- when the lease of a key runs out, if it has one

@@ -7,13 +7,13 @@ use Rattle.disco_values.specs.declared.key.Key.{Key}
 use Rattle.disco_lease.specs.declared.minute.Minute.{Minute}
 
 -- how many seconds a lease lasts, and its mark, in milliseconds
-pub record Lease : Type 0 where
+pub record LeaseEntry : Type 0 where
   pub duration_secs : ℕ
   pub mark : ℕ
 
 -- a place for each of some keys, with a lease or empty, the number of renewals since the last closing of a minute, and what that closing kept
 pub record Leases : Type 0 where
-  pub places : FinMap key_cmp (Option Lease)
+  pub places : FinMap key_cmp (Option LeaseEntry)
   pub renewals : ℕ
   pub closed : Minute
 
@@ -25,7 +25,7 @@ abbrev pub no_leases : Leases
 no_leases = record { places = empty; renewals = 0; closed = no_minute }
 
 -- the lease of a key
-abbrev pub lease_at : Leases → Key → Option Lease
+abbrev pub lease_at : Leases → Key → Option LeaseEntry
 lease_at v k = option_flatten (get v.places k)
 
 -- there is a place for the key's lease
@@ -51,15 +51,15 @@ abbrev pub IsFilled : Key → Leases → Type 0
 IsFilled k v = HasPlace v k → IsSome (lease_at v k)
 
 -- the key has that lease, or none, and each other key what it had
-abbrev pub Sets : Key → Option Lease → Leases → Leases → Type 0
+abbrev pub Sets : Key → Option LeaseEntry → Leases → Leases → Type 0
 Sets k l old new = (q : Key) → lease_at new q ≡ (if same_key q k then l else lease_at old q)
 
 -- the lease of an instance that registers now
-abbrev pub marked : ℕ → ℕ → Lease
+abbrev pub marked : ℕ → ℕ → LeaseEntry
 marked duration_secs now = record { duration_secs = duration_secs; mark = now }
 
 -- the lease with its mark one duration from now. So a renewed lease lasts two durations: Eureka's own quirk, which is kept as it is
-abbrev pub extended : ℕ → Lease → Lease
+abbrev pub extended : ℕ → LeaseEntry → LeaseEntry
 extended now l = record { duration_secs = l.duration_secs; mark = now + l.duration_secs * 1000 }
 
 -- one renewal more, up to the largest number that fits

@@ -1,6 +1,5 @@
 -- Answer lines (this project's own format).
-use Rattle.std.specs.Prelude.{ℕ, List, [], length, ◌++◌, codes, decimal, if◌then◌else◌}
-use Rattle.std.specs.List.{flat_map}
+use Rattle.std.specs.Prelude.{ℕ, List, [], length, ◌++◌, codes, decimal, if◌then◌else◌, flat_map}
 use Rattle.std.specs.Option.{option_map_or}
 use Rattle.std.specs.Arc.{arc_value}
 use Rattle.disco_values.specs.Fault.{fault_number, field_name}
@@ -11,7 +10,8 @@ use Rattle.disco_hub.specs.declared.copied.Copied.TheVariants as copied
 use Rattle.disco_values.specs.Status.{status_name}
 use Rattle.disco_world.specs.declared.instance_summary.InstanceSummary.{InstanceSummary}
 use Rattle.disco_world.specs.declared.event.Reply.{Reply}
-use Rattle.disco_world.specs.declared.event.Reply.TheVariants.{Changed, Same, Doc, Cleaned, Closed, Expired, Begun, Copied, Done, Published, Missed}
+use Rattle.disco_world.specs.declared.event.Reply.TheVariants.{Changed, Same, Cleaned, Closed, Expired, Begun, Done, Published, Missed}
+use Rattle.disco_world.specs.declared.event.Reply.TheVariants as replied
 use Rattle.disco_world.specs.declared.event.Reply.TheVariants.{Taken, Certified, Held, Restarted, Refused}
 
 -- `doc BASE VERSION TEXT`
@@ -31,14 +31,14 @@ summary_text h = codes " " ++ h.key.app ++ codes "/" ++ h.key.id ++ codes "=" ++
 abbrev pub answer_line : Reply → List ℕ
 answer_line (Changed version) = codes "ok " ++ decimal version ++ codes "\n"
 answer_line Same = codes "same\n"
-answer_line (Doc payload) = document_line (arc_value payload)
+answer_line (replied.Doc payload) = document_line (arc_value payload)
 answer_line (Cleaned base) = codes "base " ++ decimal base ++ codes "\n"
 answer_line (Closed minute) = codes "minute " ++ decimal minute.renewals ++ codes " " ++ decimal minute.instances ++ codes "\n"
 answer_line (Expired run) = codes "expired " ++ decimal run.gone
     ++ option_map_or (λ fault. codes " fault " ++ decimal (fault_number fault)) run.stopped [] ++ codes "\n"
 answer_line (Begun keys) = codes "round " ++ decimal keys ++ codes "\n"
-answer_line (Copied (copied.Doc payload)) = codes "copied " ++ decimal (arc_value payload).version ++ codes "\n"
-answer_line (Copied (copied.Drop key)) = codes "dropped\n"
+answer_line (replied.Copied (copied.Doc payload)) = codes "copied " ++ decimal (arc_value payload).version ++ codes "\n"
+answer_line (replied.Copied (copied.Drop key)) = codes "dropped\n"
 answer_line Done = codes "done\n"
 answer_line (Published documents) = codes "published " ++ decimal documents ++ codes "\n"
 answer_line Missed = codes "miss\n"

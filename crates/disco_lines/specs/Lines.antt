@@ -1,14 +1,14 @@
 -- Lines, and the events that they mean (this project's own format).
-use Rattle.std.specs.Prelude.{ℕ, List, [], ◌∷◌, ◌+◌, ◌<◌, ◌≡◌, length, map, Option, Some, None, ◌==◌, if◌then◌else◌, option_and_then, option_map, codes}
+use Rattle.std.specs.Prelude.{ℕ, List, [], ◌∷◌, ◌+◌, ◌<◌, ◌≡◌, length, map, Option, Some, None, ◌==◌, if◌then◌else◌, option_and_then, option_map, codes, is_none}
 use Rattle.std.specs.List.{onto_first, position_or_len}
-use Rattle.std.specs.Option.{is_none}
 use Rattle.std.specs.Str.{bytes_eq}
 use Rattle.disco_values.specs.declared.fault.Fault.{Fault}
 use Rattle.disco_values.specs.declared.fault.Fault.TheVariants.{BadEvent}
 use Rattle.disco_world.specs.declared.event.Event.{Event}
 use Rattle.disco_world.specs.declared.event.Event.TheVariants as event
 use Rattle.disco_world.specs.declared.event.Step.{Step}
-use Rattle.disco_world.specs.declared.event.Step.TheVariants.{Register, Cancel, Renew, SetStatus, DropStatus, Metadata, Clean, Minute, Expire, Begin}
+use Rattle.disco_world.specs.declared.event.Step.TheVariants.{Register, Cancel, Renew, SetStatus, DropStatus, Metadata, Clean, Expire, Begin}
+use Rattle.disco_world.specs.declared.event.Step.TheVariants as steps
 use Rattle.disco_world.specs.declared.event.Step.TheVariants.{Copy, Publish, Show, ShowCertified, Restart}
 use Rattle.disco_lines.specs.Loads.{load_of, look_for, target}
 use Rattle.disco_operations.specs.Query.{entries_of_query}
@@ -55,7 +55,7 @@ abbrev pub step_named : List ℕ → List (List ℕ) → Option Step
 step_named keyword more =
     if bytes_eq keyword (codes "register") then registration more
     else (if bytes_eq keyword (codes "clean") then option_map (λ n. Clean n) (only_moment more)
-    else (if bytes_eq keyword (codes "minute") then alone Minute more
+    else (if bytes_eq keyword (codes "minute") then alone steps.Minute more
     else (if bytes_eq keyword (codes "expire") then option_map (λ n. Expire n) (only_moment more)
     else (if bytes_eq keyword (codes "begin") then alone Begin more
     else (if bytes_eq keyword (codes "copy") then alone Copy more

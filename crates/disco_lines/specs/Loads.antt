@@ -4,7 +4,7 @@ use Rattle.std.specs.Str.{bytes_eq}
 use Rattle.disco_values.specs.declared.form.Form.{Form}
 use Rattle.disco_values.specs.declared.form.Form.TheVariants.{Full, Compact}
 use Rattle.disco_values.specs.declared.query.Query.{Query}
-use Rattle.disco_values.specs.declared.query.Query.TheVariants.{Apps, Delta, App, Vip, Svip, Instance}
+use Rattle.disco_values.specs.declared.query.Query.TheVariants as queries
 use Rattle.disco_world.specs.declared.event.Step.{Step}
 use Rattle.disco_world.specs.declared.event.Step.TheVariants.{Load, LoadById, Look, LookById}
 use Rattle.disco_operations.specs.Decoding.{decoded_text}
@@ -21,20 +21,20 @@ target_by form query = ByKey (record { query = query; form = form })
 
 -- `apps` or `delta`
 abbrev pub whole_target : Form → List ℕ → Option Target
-whole_target form kind = if bytes_eq kind (codes "apps") then Some (target_by form Apps) else
-    (if bytes_eq kind (codes "delta") then Some (target_by form Delta) else None)
+whole_target form kind = if bytes_eq kind (codes "apps") then Some (target_by form queries.Apps) else
+    (if bytes_eq kind (codes "delta") then Some (target_by form queries.Delta) else None)
 
 -- `app NAME`, `vip VIP`, `svip SVIP` or `id ID`
 abbrev pub named : Form → List ℕ → List ℕ → Option Target
 named form kind text =
-    if bytes_eq kind (codes "app") then Some (target_by form (App text))
-    else (if bytes_eq kind (codes "vip") then Some (target_by form (Vip text))
-    else (if bytes_eq kind (codes "svip") then Some (target_by form (Svip text))
+    if bytes_eq kind (codes "app") then Some (target_by form (queries.App text))
+    else (if bytes_eq kind (codes "vip") then Some (target_by form (queries.Vip text))
+    else (if bytes_eq kind (codes "svip") then Some (target_by form (queries.Svip text))
     else (if bytes_eq kind (codes "id") then Some (ById text form) else None)))
 
 -- `one APP ID`
 abbrev pub one_target : Form → List ℕ → List ℕ → List ℕ → Option Target
-one_target form kind app id = if bytes_eq kind (codes "one") then Some (target_by form (Instance (record { app = app; id = id }))) else None
+one_target form kind app id = if bytes_eq kind (codes "one") then Some (target_by form (queries.Instance (record { app = app; id = id }))) else None
 
 -- what a kind of query and the words behind it ask for
 abbrev pub target_of_kind : Form → List ℕ → List (List ℕ) → Option Target

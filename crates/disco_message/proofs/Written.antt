@@ -15,7 +15,7 @@ use Rattle.httparse.proofs.GrammarLemmas.{response_unique}
 use Rattle.httparse.proofs.TrimLemmas.{AllPass-reverse, trim_ows_space}
 use Rattle.disco_values.specs.declared.cert.Cert.{Cert}
 use Rattle.disco_message.specs.Certificate.{cert_spelled, only_cert}
-use Rattle.disco_message.specs.Fields.{eq_ignore_case, values}
+use Rattle.disco_message.specs.Fields.{eq_ignore_case, field_values}
 use Rattle.disco_message.specs.Laws.{CertificateLaw, IsInRange}
 use Rattle.disco_message.specs.ReplyText.{allow_line, body_lines, certificate_line, close_line, content_lines, length_line, number_text, reply_head, type_line}
 use Rattle.disco_message.specs.StatusLine.{allowed, phrase, status_line}
@@ -170,19 +170,19 @@ fields_good s allow size cert last =
 -- ---- what they show
 
 abbrev shown : List Field → List (List ℕ)
-shown fs = values (codes "x-discovery-certificate") (map name_and_value fs)
+shown fs = field_values (codes "x-discovery-certificate") (map name_and_value fs)
 
-values_apart : (name : List ℕ) (xs ys : List (List ℕ × List ℕ)) → values name (xs ++ ys) ≡ values name xs ++ values name ys
+values_apart : (name : List ℕ) (xs ys : List (List ℕ × List ℕ)) → field_values name (xs ++ ys) ≡ field_values name xs ++ field_values name ys
 values_apart name [] ys = refl
 values_apart name (f ∷ fs) ys = by (values_apart name fs ys) (eq_ignore_case f.0 name)
   where
-    by : values name (fs ++ ys) ≡ values name fs ++ values name ys → (t : Bool)
-        → (if t then f.1 ∷ values name (fs ++ ys) else values name (fs ++ ys)) ≡ (if t then f.1 ∷ values name fs else values name fs) ++ values name ys
+    by : field_values name (fs ++ ys) ≡ field_values name fs ++ field_values name ys → (t : Bool)
+        → (if t then f.1 ∷ field_values name (fs ++ ys) else field_values name (fs ++ ys)) ≡ (if t then f.1 ∷ field_values name fs else field_values name fs) ++ field_values name ys
     by later true = ap (λ vs. f.1 ∷ vs) later
     by later false = later
 
 shown_apart : (xs ys : List Field) → shown (xs ++ ys) ≡ shown xs ++ shown ys
-shown_apart xs ys = ap (values (codes "x-discovery-certificate")) (map-append name_and_value xs ys) ∙ values_apart _ (map name_and_value xs) (map name_and_value ys)
+shown_apart xs ys = ap (field_values (codes "x-discovery-certificate")) (map-append name_and_value xs ys) ∙ values_apart _ (map name_and_value xs) (map name_and_value ys)
 
 content_none : (size : Option ℕ) → shown (content_fields size) ≡ []
 unfolding eq_ignore_case

@@ -3,7 +3,7 @@ use Rattle.std.specs.Prelude.{ℕ, Bool, ◌==◌, List, [], ◌∷◌, Option, 
 use Rattle.std.specs.List.{after_first, before_first}
 use Rattle.disco_values.specs.Digits.{digits_number}
 use Rattle.disco_values.specs.declared.cert.Cert.{Cert}
-use Rattle.disco_message.specs.Fields.{values}
+use Rattle.disco_message.specs.Fields.{field_values}
 
 abbrev pub is_blank : ℕ → Bool
 is_blank b = b == 32
@@ -29,4 +29,4 @@ only_cert texts = None
 
 -- the certificate of a head with these fields: none where its field is absent, comes twice or spells none
 abbrev pub certificate_of : List (List ℕ × List ℕ) → Option Cert
-certificate_of fields = only_cert (values (codes "x-discovery-certificate") fields)
+certificate_of fields = only_cert (field_values (codes "x-discovery-certificate") fields)

@@ -9,9 +9,9 @@ unfoldable pub eq_ignore_case : List ℕ → List ℕ → Bool
 eq_ignore_case a b = str_eq_ignore_ascii_case a b
 
 -- the values of the fields of this name, in any case, in their order (RFC 9110, section 5)
-abbrev pub values : List ℕ → List (List ℕ × List ℕ) → List (List ℕ)
-values name [] = []
-values name (f ∷ fs) = if eq_ignore_case f.0 name then f.1 ∷ values name fs else values name fs
+abbrev pub field_values : List ℕ → List (List ℕ × List ℕ) → List (List ℕ)
+field_values name [] = []
+field_values name (f ∷ fs) = if eq_ignore_case f.0 name then f.1 ∷ field_values name fs else field_values name fs
 
 -- one of the elements between the commas of a list is this word, in any case, with spaces and tabs round it or not (RFC 9110, section 5.6.1)
 abbrev pub lists : List ℕ → List ℕ → Bool

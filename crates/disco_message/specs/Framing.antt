@@ -6,7 +6,7 @@ use Rattle.std.specs.Str.{bytes_eq}
 use Rattle.disco_values.specs.Digits.{digits_number}
 use Rattle.disco_values.specs.declared.fault.Fault.{Fault}
 use Rattle.disco_values.specs.declared.fault.Fault.TheVariants.{BadRequest, UnsupportedCoding}
-use Rattle.disco_message.specs.Fields.{eq_ignore_case, values}
+use Rattle.disco_message.specs.Fields.{eq_ignore_case, field_values}
 use Rattle.disco_message.specs.declared.framing.Framing.{Framing}
 use Rattle.disco_message.specs.declared.framing.Framing.TheVariants.{Sized, Chunked}
 
@@ -24,8 +24,8 @@ has_host minor hosts = minor == 0 || length hosts == 1
 -- the framing that the fields state, if the hosts and the framing are as they must be
 abbrev pub stated : ℕ → List (List ℕ × List ℕ) → Option Framing
 stated minor fields =
-    if has_host minor (values (codes "host") fields)
-    then framing_of minor (values (codes "content-length") fields) (values (codes "transfer-encoding") fields)
+    if has_host minor (field_values (codes "host") fields)
+    then framing_of minor (field_values (codes "content-length") fields) (field_values (codes "transfer-encoding") fields)
     else None
 
 -- a body that is coded is not read
@@ -34,4 +34,4 @@ uncoded plain framing = option_map_or (λ f. if plain then Ok f else Err Unsuppo
 
 -- the framing, or what the head is refused for; the one Content-Encoding that is taken is `identity`, byte for byte (this project's own rule)
 abbrev pub framed : ℕ → List (List ℕ × List ℕ) → Result Framing Fault
-framed minor fields = uncoded (list_all (λ v. bytes_eq v (codes "identity")) (values (codes "content-encoding") fields)) (stated minor fields)
+framed minor fields = uncoded (list_all (λ v. bytes_eq v (codes "identity")) (field_values (codes "content-encoding") fields)) (stated minor fields)

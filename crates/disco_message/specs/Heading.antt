@@ -5,7 +5,7 @@ use Rattle.httparse.specs.Grammar.{RequestHead}
 use Rattle.httparse.specs.Spans.{name_and_value}
 use Rattle.disco_values.specs.declared.fault.Fault.{Fault}
 use Rattle.disco_values.specs.declared.fault.Fault.TheVariants.{BadRequest}
-use Rattle.disco_message.specs.Fields.{lists, values}
+use Rattle.disco_message.specs.Fields.{lists, field_values}
 use Rattle.disco_message.specs.Framing.{framed}
 use Rattle.disco_message.specs.Target.{path_of}
 use Rattle.disco_message.specs.declared.framing.Framing.{Framing}
@@ -20,7 +20,7 @@ pub record Heading : Type 0 where
 
 -- the connection ends after HTTP/1.0, and where a Connection field lists `close` (RFC 9112, section 9.6)
 abbrev pub closes : ℕ → List (List ℕ × List ℕ) → Bool
-closes minor fields = minor == 0 || list_any (λ v. lists (codes "close") v) (values (codes "connection") fields)
+closes minor fields = minor == 0 || list_any (λ v. lists (codes "close") v) (field_values (codes "connection") fields)
 
 -- what a head says with this path and this framing
 abbrev pub headed : List ℕ → ℕ → List (List ℕ × List ℕ) → Option (List ℕ) → Result Framing Fault → Result Heading Fault

@@ -4,7 +4,7 @@ use Rattle.httparse.specs.Grammar.{ResponseHead, status_code}
 use Rattle.httparse.specs.Spans.{name_and_value}
 use Rattle.disco_values.specs.declared.fault.Fault.{Fault}
 use Rattle.disco_values.specs.declared.fault.Fault.TheVariants.{BadRequest}
-use Rattle.disco_message.specs.Fields.{values}
+use Rattle.disco_message.specs.Fields.{field_values}
 use Rattle.disco_message.specs.Framing.{framing_of}
 use Rattle.disco_message.specs.Heading.{closes}
 use Rattle.disco_message.specs.declared.framing.Framing.TheVariants.{Sized}
@@ -26,7 +26,7 @@ extent_of minor lengths codings = if length lengths == 0 && length codings == 0 
 -- a reply of status 204 has no body
 abbrev pub body_extent : ℕ → ℕ → List (List ℕ × List ℕ) → Option Extent
 body_extent status minor fields = if status == 204 then Some (Framed (Sized 0)) else
-    extent_of minor (values (codes "content-length") fields) (values (codes "transfer-encoding") fields)
+    extent_of minor (field_values (codes "content-length") fields) (field_values (codes "transfer-encoding") fields)
 
 -- what a head says with a body that ends so
 abbrev pub received_with : ℕ → ℕ → List (List ℕ × List ℕ) → Option Extent → Result Received Fault

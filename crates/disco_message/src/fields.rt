@@ -1,7 +1,7 @@
 //! The fields of a head, by their names.
 ghost use Rattle.std.specs.Prelude.{◌≡◌, ◌<◌, [], ◌∷◌, map, length, All, MatchOption, IfSome};
 ghost use Rattle.httparse.specs.Spans.{IsHeaderWithin, header_bytes};
-ghost use Rattle.disco_message.specs.Fields.{eq_ignore_case, values};
+ghost use Rattle.disco_message.specs.Fields.{eq_ignore_case, field_values};
 ghost use Rattle.disco_message.specs.Few.{FewAre};
 
 use httparse::spans::HeaderSpan;
@@ -24,8 +24,8 @@ pub(crate) fn next_value<'a, 'f>(
     ensures within { IfSome result (λ found. All (IsHeaderWithin (length text.now)) found.1.now) }
     ensures shorter { IfSome result (λ found. length found.1.now < length fields.now) }
     ensures value { MatchOption result
-        (values name.now (map (header_bytes text.now) fields.now) ≡ [])
-        (λ found. values name.now (map (header_bytes text.now) fields.now) ≡ found.0.now ∷ values name.now (map (header_bytes text.now) found.1.now)) }
+        (field_values name.now (map (header_bytes text.now) fields.now) ≡ [])
+        (λ found. field_values name.now (map (header_bytes text.now) fields.now) ≡ found.0.now ∷ field_values name.now (map (header_bytes text.now) found.1.now)) }
 {
     let mut left = fields;
     while let [field, after @ ..] = left {
@@ -47,7 +47,7 @@ pub(crate) enum Few<'a> {
 
 pub(crate) fn few_values<'a>(text: &'a [u8], fields: &[HeaderSpan], name: &[u8]) -> Few<'a>
     requires { All (IsHeaderWithin (length text.now)) fields.now }
-    ensures { FewAre result (values name.now (map (header_bytes text.now) fields.now)) }
+    ensures { FewAre result (field_values name.now (map (header_bytes text.now) fields.now)) }
 {
     match next_value(text, fields, name) {
         None => Few::None,
@@ -72,7 +72,7 @@ impl<'a> Values<'a> {
 
     pub(crate) fn new(text: &'a [u8], fields: &'a [HeaderSpan], name: &'a [u8]) -> Values<'a>
         requires { All (IsHeaderWithin (length text.now)) fields.now }
-        ensures { values_left result ≡ values name.now (map (header_bytes text.now) fields.now) }
+        ensures { values_left result ≡ field_values name.now (map (header_bytes text.now) fields.now) }
     {
         Values { text, fields, name }
     }

@@ -4,7 +4,7 @@ ghost use Rattle.std.specs.List.{list_all};
 ghost use Rattle.std.specs.Str.{bytes_eq};
 ghost use Rattle.httparse.specs.Spans.{IsHeaderWithin, header_bytes};
 ghost use Rattle.disco_values.specs.Digits.{digits_number};
-ghost use Rattle.disco_message.specs.Fields.{values};
+ghost use Rattle.disco_message.specs.Fields.{field_values};
 ghost use Rattle.disco_message.specs.Few.{FewAre};
 ghost use Rattle.disco_message.specs.Framing.{framing_of, has_host, stated, framed};
 
@@ -57,7 +57,7 @@ fn has_host(minor: u8, hosts: Few<'_>) -> bool
 /// Whether a name has no other value, byte for byte.
 fn all_are(text: &[u8], fields: &[HeaderSpan], name: &[u8], wanted: &[u8]) -> bool
     requires { All (IsHeaderWithin (length text.now)) fields.now }
-    ensures { result ≡ list_all (λ v. bytes_eq v wanted.now) (values name.now (map (header_bytes text.now) fields.now)) }
+    ensures { result ≡ list_all (λ v. bytes_eq v wanted.now) (field_values name.now (map (header_bytes text.now) fields.now)) }
 {
     let mut left = fields;
     while let Some((value, after)) = next_value(text, left, name) {

@@ -105,7 +105,7 @@ fn copy(
 }
 
 impl Head {
-    ghost use Rattle.disco_message.specs.Fields.{values};
+    ghost use Rattle.disco_message.specs.Fields.{field_values};
     ghost use Rattle.disco_message.specs.ValuesLeft.{values_left};
 
     /// The head that was found at the front of a buffer, copied into room.
@@ -182,7 +182,7 @@ impl Head {
 
     /// The values of the fields of this name, in any case, in their order.
     pub fn values<'a>(&'a self, name: &'a [u8]) -> Values<'a>
-        ensures { values_left result ≡ values name.now self.now.fields }
+        ensures { values_left result ≡ field_values name.now self.now.fields }
     {
         Values::new(&self.text, &self.spans, name)
     }

@@ -3,7 +3,7 @@ ghost use Rattle.std.specs.Prelude.{◌≡◌, length, map, reverse, All};
 ghost use Rattle.std.specs.List.{list_any};
 ghost use Rattle.httparse.specs.Grammar.{skip_ows, trim_ows};
 ghost use Rattle.httparse.specs.Spans.{IsHeaderWithin, header_bytes};
-ghost use Rattle.disco_message.specs.Fields.{lists, values};
+ghost use Rattle.disco_message.specs.Fields.{lists, field_values};
 
 use crate::fields::{eq_ignore_case, next_value};
 use httparse::is_space_or_tab;
@@ -50,7 +50,7 @@ fn lists(list: &[u8], word: &[u8]) -> bool
 /// Whether any field of the name lists the word.
 pub(crate) fn any_lists(text: &[u8], fields: &[HeaderSpan], name: &[u8], word: &[u8]) -> bool
     requires { All (IsHeaderWithin (length text.now)) fields.now }
-    ensures { result ≡ list_any (λ v. lists word.now v) (values name.now (map (header_bytes text.now) fields.now)) }
+    ensures { result ≡ list_any (λ v. lists word.now v) (field_values name.now (map (header_bytes text.now) fields.now)) }
 {
     let mut left = fields;
     while let Some((value, after)) = next_value(text, left, name) {

@@ -109,7 +109,7 @@ fn copy(
 }
 
 impl ReceivedHead {
-    ghost use Rattle.disco_message.specs.Fields.{values};
+    ghost use Rattle.disco_message.specs.Fields.{field_values};
     ghost use Rattle.disco_message.specs.ValuesLeft.{values_left};
     ghost use Rattle.disco_message.specs.Certificate.{certificate_of};
 
@@ -172,7 +172,7 @@ impl ReceivedHead {
 
     /// The values of the fields of this name, in any case, in their order.
     pub fn values<'a>(&'a self, name: &'a [u8]) -> Values<'a>
-        ensures { values_left result ≡ values name.now self.now.fields }
+        ensures { values_left result ≡ field_values name.now self.now.fields }
     {
         Values::new(&self.text, &self.spans, name)
     }

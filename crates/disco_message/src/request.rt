@@ -24,7 +24,7 @@ impl Model for Request {
 }
 
 impl Request {
-    ghost use Rattle.disco_message.specs.Fields.{values};
+    ghost use Rattle.disco_message.specs.Fields.{field_values};
     ghost use Rattle.disco_message.specs.ValuesLeft.{values_left};
 
     /// A head, and the body behind it. Takes no memory.
@@ -69,7 +69,7 @@ impl Request {
 
     /// The values of the fields of this name, in any case, in their order.
     pub fn values<'a>(&'a self, name: &'a [u8]) -> Values<'a>
-        ensures { values_left result ≡ values name.now self.now.fields }
+        ensures { values_left result ≡ field_values name.now self.now.fields }
     {
         self.head.values(name)
     }

@@ -3,7 +3,7 @@ use Rattle.std.specs.Prelude.{List, [], ◌∷◌, ◌++◌, flat_map, fold}
 use Rattle.disco_history.specs.Change.{change_view}
 use Rattle.disco_hub.specs.Press.{Note, begin, change, note_of}
 use Rattle.disco_press.specs.declared.entry.LogEntry.{LogEntry}
-use Rattle.disco_press.specs.declared.entry.LogEntry.TheVariants.{Begun, Changed, Copied, Published}
+use Rattle.disco_press.specs.declared.entry.LogEntry.TheVariants as entry
 
 -- all that these publications noted, in order
 abbrev pub notes_in : List (List Note) → List Note
@@ -22,10 +22,10 @@ abbrev pub with_note : Logged → Note → Logged
 with_note r n = record r { pending = r.pending ++ n ∷ [] }
 
 abbrev pub log_on : Logged → LogEntry → Logged
-log_on r Begun = with_note r begin
-log_on r (Changed c) = with_note r (change (change_view c))
-log_on r (Copied c) = with_note r (note_of c)
-log_on r Published = record { published = r.published ++ r.pending ∷ []; pending = [] }
+log_on r entry.Begun = with_note r begin
+log_on r (entry.Changed c) = with_note r (change (change_view c))
+log_on r (entry.Copied c) = with_note r (note_of c)
+log_on r entry.Published = record { published = r.published ++ r.pending ∷ []; pending = [] }
 
 abbrev pub logged : List LogEntry → Logged
 logged entries = fold log_on (record { published = []; pending = [] }) entries

@@ -2,14 +2,14 @@
 use Rattle.std.specs.Prelude.{◌≡◌, ℕ, List, Option, ◌++◌, codes, decimal, unwrap_or}
 use Rattle.std.specs.Io.KnownBytes.{Appends}
 use Rattle.std.specs.Borrow.{MutBor}
-use Rattle.clap.specs.Words.{Row, Text}
+use Rattle.clap.specs.Words.{Row as Given, Text}
 use Rattle.disco_options.specs.Options.{AreGiven, AreMatches, number_given, port_in, within}
 use Rattle.disco_options.specs.declared.subcommand.Subcommand.TheVariants.{Serve}
 use Rattle.disco_prog.specs.declared.service.Service.{Service}
 
 -- the settings, of which the run is this one where none is given, the port, the workers (4 where none are given), the connections (0, which is no
 -- end) and how many of them are open at once (16,384) are those given
-pub record IsServicePlan (run : ℕ) (rows : List Row) (s : Service) : Type 0 where
+pub record IsServicePlan (run : ℕ) (rows : List Given) (s : Service) : Type 0 where
   pub settings : AreGiven run rows s.settings
   pub port : s.port ≡ port_in rows
   pub workers : s.workers ≡ within 64 4 (number_given (codes "workers") rows)
@@ -26,4 +26,4 @@ Tells contents lent back text = (back.ghost_name ≡ lent.ghost_name) × Appends
 
 -- the words are `serve` and options, and it is said that connections are taken on the port that these give
 unfoldable pub SaysListening : List Text → Option (List ℕ) → Option (List ℕ) → Type 0
-SaysListening words old new = (rows : List Row) × AreMatches Serve words rows × Appends old new (listening_line (port_in rows))
+SaysListening words old new = (rows : List Given) × AreMatches Serve words rows × Appends old new (listening_line (port_in rows))

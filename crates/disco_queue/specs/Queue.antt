@@ -1,7 +1,6 @@
 -- The recently changed queue as plain data.
-use Rattle.std.specs.Prelude.{◌≡◌, ℕ, ◌+◌, ◌-◌, ◌^◌, ◌<◌, ◌≤◌, List, drop, if◌then◌else◌, is_some, length, nat_lt, IsSome, Some}
+use Rattle.std.specs.Prelude.{◌≡◌, ℕ, ◌+◌, ◌-◌, ◌^◌, ◌<◌, ◌≤◌, List, drop, if◌then◌else◌, is_some, length, nat_lt, IsSome, Some, unwrap_or}
 use Rattle.std.specs.FinMap.{FinMap, get}
-use Rattle.std.specs.Option.{unwrap_or}
 use Rattle.disco_values.specs.Key.{key_cmp, same_key}
 use Rattle.disco_values.specs.declared.key.Key.{Key}
 use Rattle.disco_history.specs.Change.{last}

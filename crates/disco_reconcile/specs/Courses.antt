@@ -17,7 +17,7 @@ use Rattle.disco_reconcile.specs.State.{CopyRows}
 use Rattle.disco_reconcile.specs.Told.{FetchAnswer, ToldDocument, told_in_answer}
 use Rattle.disco_reconcile.specs.declared.fetch.Fetched.{Fetched}
 use Rattle.disco_reconcile.specs.declared.refreshed.Refreshed.{Refreshed}
-use Rattle.disco_reconcile.specs.declared.refreshed.Refreshed.TheVariants.{Full, Delta, DeltaThenFull, Kept}
+use Rattle.disco_reconcile.specs.declared.refreshed.Refreshed.TheVariants as refreshed
 
 -- ---- fetches
 
@@ -77,13 +77,13 @@ pub record IsFull {K : Type 0} (full : OfFull K) (done : Refreshed) (held : Opti
 
 -- after the delta: nothing more where that is all, else a full document
 abbrev pub IsRest : {K : Type 0} → OfFull K → Bool × K → List Exchange → Outcome K → Type 0
-IsRest full (true, k) rest o = (rest ≡ []) × (o ≡ outcome_of (Ok Delta) (Some k))
-IsRest full (false, k) rest o = IsFull full DeltaThenFull (Some k) rest o
+IsRest full (true, k) rest o = (rest ≡ []) × (o ≡ outcome_of (Ok refreshed.Delta) (Some k))
+IsRest full (false, k) rest o = IsFull full refreshed.DeltaThenFull (Some k) rest o
 
 -- after what was told of the delta: nothing more where it was refused, a full document where there is none
 abbrev pub GoesOnAfterDelta : {K : Type 0} → OfDelta K → OfFull K → K → FetchAnswer → List Exchange → Outcome K → Type 0
 GoesOnAfterDelta delta full k (Err e) rest o = (rest ≡ []) × (o ≡ outcome_of (Err e) (Some k))
-GoesOnAfterDelta delta full k (Ok None) rest o = IsFull full Full (Some k) rest o
+GoesOnAfterDelta delta full k (Ok None) rest o = IsFull full refreshed.Full (Some k) rest o
 GoesOnAfterDelta delta full k (Ok (Some m)) rest o = IsRest full (delta k m) rest o
 
 -- the delta is fetched first
@@ -96,7 +96,7 @@ pub record IsDeltaFirst {K : Type 0} (delta : OfDelta K) (full : OfFull K) (k : 
 
 -- a refresh: without a copy all apps are fetched, with one the delta comes first
 abbrev pub IsCourse : {K : Type 0} → OfDelta K → OfFull K → Option K → List Exchange → Outcome K → Type 0
-IsCourse delta full None log o = IsFull full Full None log o
+IsCourse delta full None log o = IsFull full refreshed.Full None log o
 IsCourse delta full (Some k) log o = IsDeltaFirst delta full k log o
 
 -- ---- plain clients (Eureka's)
@@ -134,7 +134,7 @@ is_taken (Some k) c = gives_way c k.known
 
 abbrev pub renewed_by : Form → Refreshed → Option CertifiedCopy → ToldDocument → Option Cert → Outcome CertifiedCopy
 renewed_by f done held m None = outcome_of (Err BadDocument) held
-renewed_by f done held m (Some c) = if is_taken held c then outcome_of (Ok done) (Some (copy_made f m c)) else outcome_of (Ok Kept) held
+renewed_by f done held m (Some c) = if is_taken held c then outcome_of (Ok done) (Some (copy_made f m c)) else outcome_of (Ok refreshed.Kept) held
 
 -- a full document that is certified is the copy, unless the copy doesn't give way to it; one that isn't is refused
 abbrev pub certified_full : Form → OfFull CertifiedCopy

@@ -14,7 +14,7 @@ use Rattle.disco_reconcile.specs.Told.{FetchAnswer, ToldDocument, told_in_answer
 use Rattle.disco_reconcile.specs.declared.document.Document.{Document}
 use Rattle.disco_reconcile.specs.declared.fetch.Fetched.{Fetched}
 use Rattle.disco_reconcile.specs.declared.refreshed.Refreshed.{Refreshed}
-use Rattle.disco_reconcile.specs.declared.refreshed.Refreshed.TheVariants.{Full, DeltaThenFull}
+use Rattle.disco_reconcile.specs.declared.refreshed.Refreshed.TheVariants as refreshed
 
 -- what was read of a document, as plain data
 abbrev pub told_document : Document → ToldDocument
@@ -45,12 +45,12 @@ pub record TakesFull {S K : Type 0} (gives : S → DocKey → Result Fetched Fau
 -- what a full document that follows the delta is answered with, if one follows
 abbrev pub following : Bool → Option Refreshed
 following true = None
-following false = Some DeltaThenFull
+following false = Some refreshed.DeltaThenFull
 
 -- what is kept after what was told of the delta, and what follows
 abbrev pub StepTo : {K : Type 0} → OfDelta K → K → FetchAnswer → Result (Option Refreshed) Fault → K → Type 0
 StepTo delta k (Err e) result l = (result ≡ Err e) × (l ≡ k)
-StepTo delta k (Ok None) result l = (result ≡ Ok (Some Full)) × (l ≡ k)
+StepTo delta k (Ok None) result l = (result ≡ Ok (Some refreshed.Full)) × (l ≡ k)
 StepTo delta k (Ok (Some m)) result l = (result ≡ Ok (following ((delta k m).0))) × (l ≡ (delta k m).1)
 
 -- the delta was fetched

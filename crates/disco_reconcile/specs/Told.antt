@@ -6,7 +6,7 @@ use Rattle.disco_values.specs.declared.fault.Fault.TheVariants.{OutOfMemory, Bad
 use Rattle.disco_wire.specs.Documents.{document_of}
 use Rattle.disco_wire.specs.Meaning.{Meaning}
 use Rattle.disco_wire.specs.declared.wire.Shape.{Shape}
-use Rattle.disco_wire.specs.declared.wire.Shape.TheVariants.{Many, App, One}
+use Rattle.disco_wire.specs.declared.wire.Shape.TheVariants as shapes
 use Rattle.disco_reconcile.specs.declared.fetch.Fetched.{Fetched}
 
 -- a document of many apps, and its certificate, if it has one
@@ -25,9 +25,9 @@ agreed None (Some c) = Some c
 agreed (Some v) (Some c) = if c.version == v then Some c else None
 
 abbrev pub of_shape : Shape → Meaning → Option Cert → FetchAnswer
-of_shape Many m cert = Ok (Some (record { meaning = m; cert = agreed m.version cert }))
-of_shape App m cert = Err BadDocument
-of_shape One m cert = Err BadDocument
+of_shape shapes.Many m cert = Ok (Some (record { meaning = m; cert = agreed m.version cert }))
+of_shape shapes.App m cert = Err BadDocument
+of_shape shapes.One m cert = Err BadDocument
 
 -- a document of many apps with its certificate, or that the bytes are none
 abbrev pub told_of : Option Cert → Result Meaning Fault → FetchAnswer

@@ -14,14 +14,14 @@ use Rattle.disco_values.specs.declared.fault.Fault.{Fault}
 use Rattle.disco_values.specs.declared.fault.Fault.TheVariants.{NotFound, TooManyInstances}
 use Rattle.disco_values.specs.declared.key.Key.{Key}
 use Rattle.disco_history.specs.Change.{Entry}
-use Rattle.disco_registry.specs.Accept.{Limits, accepts, change_asked, if_left, limits_of}
+use Rattle.disco_registry.specs.Accept.{RegistryLimits, accepts, change_asked, if_left, limits_of}
 use Rattle.disco_history.specs.Held.{record_at, seen_record}
 use Rattle.disco_registry.specs.Op.{register}
 use Rattle.disco_registry.specs.Settle.{settle}
 use Rattle.disco_registry.specs.State.{RegistryState}
 
 -- a change that is asked for, with a version left or none
-pub left_version : (limits : Limits) (version : ℕ) (c : Entry) (a : Result (Option Entry) Fault) → a ≡ Ok (Some c) → version < limits.versions → if_left limits version a ≡ Ok (Some c)
+pub left_version : (limits : RegistryLimits) (version : ℕ) (c : Entry) (a : Result (Option Entry) Fault) → a ≡ Ok (Some c) → version < limits.versions → if_left limits version a ≡ Ok (Some c)
 left_version limits version c a e left = ap (if_left limits version) e ∙ grind (arith, nat_tests, left)
 
 pub accepted_new : (s : RegistryState) (p : Row) (now : ℕ) → (is_none (record_at s.held p.key) && not (nat_lt (len s.held) s.instances)) ≡ false → s.version < s.versions

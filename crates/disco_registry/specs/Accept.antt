@@ -20,7 +20,7 @@ use Rattle.disco_registry.specs.Settle.{settle}
 use Rattle.disco_registry.specs.State.{RegistryState}
 
 -- how many versions and how many instances there may be
-pub record Limits : Type 0 where
+pub record RegistryLimits : Type 0 where
   pub versions : ℕ
   pub instances : ℕ
 
@@ -28,7 +28,7 @@ pub record Limits : Type 0 where
 -- the change that is asked for or none, or the first cause against it, by the record of each key and the number of records: a new key needs a place; an
 -- instance of unknown status has no lease to renew; a status is set with its override, and the override is dropped with it; what has more metadata is
 -- registered again
-abbrev pub change_asked : Limits → (Key → Option Row) → ℕ → OpView → ℕ → Result (Option Entry) Fault
+abbrev pub change_asked : RegistryLimits → (Key → Option Row) → ℕ → OpView → ℕ → Result (Option Entry) Fault
 change_asked limits held count (register p) now =
     if is_none (held p.key) && not (nat_lt count (limits.instances)) then Err TooManyInstances else Ok (Some (settle (held p.key) p now, Added))
 change_asked limits held count (cancel k) now = if_ok (ok_or (held k) NotFound) (λ r. Ok (Some (cancelled_at r now, Deleted)))
@@ -41,20 +41,20 @@ change_asked limits held count (add_metadata k entries) now = if_ok (ok_or (held
     Ok (Some (settle (Some r) (record r { metadata = with_entries r.metadata entries }) now, Added)))
 
 -- a change needs a version that is left
-abbrev pub if_left : Limits → ℕ → Result (Option Entry) Fault → Result (Option Entry) Fault
+abbrev pub if_left : RegistryLimits → ℕ → Result (Option Entry) Fault → Result (Option Entry) Fault
 if_left limits version result = if_ok result (λ change.
     option_map_or (λ c. if nat_lt version (limits.versions) then Ok (Some c) else Err VersionsSpent) change (Ok None))
 
 -- what an operation does to these records at a version
-abbrev pub accept : Limits → (Key → Option Row) → ℕ → ℕ → OpView → ℕ → Result (Option Entry) Fault
+abbrev pub accept : RegistryLimits → (Key → Option Row) → ℕ → ℕ → OpView → ℕ → Result (Option Entry) Fault
 accept limits held count version ask now = if_left limits version (change_asked limits held count ask now)
 
 -- what it does after a history: to the history's registry
-abbrev pub accept_after : Limits → List Entry → OpView → ℕ → Result (Option Entry) Fault
+abbrev pub accept_after : RegistryLimits → List Entry → OpView → ℕ → Result (Option Entry) Fault
 accept_after limits h ask now = accept limits (get (registry_of h)) (len (registry_of h)) (length h) ask now
 
 -- the limits of a registry
-abbrev pub limits_of : RegistryState → Limits
+abbrev pub limits_of : RegistryState → RegistryLimits
 limits_of s = record { versions = s.versions; instances = s.instances }
 
 -- what it does to a registry

@@ -14,7 +14,7 @@ use Rattle.disco_press.specs.Desks.{CountsBySeat, DeskState, IsValid, Notes, not
 use Rattle.disco_press.specs.Looks.{Shows}
 use Rattle.disco_press.specs.Logs.{notes_in}
 use Rattle.disco_press.specs.Seats.{SeatState}
-use Rattle.disco_press.specs.declared.look.Looked.TheVariants.{Doc}
+use Rattle.disco_press.specs.declared.look.Looked.TheVariants as looked
 use Rattle.disco_message.specs.ReplyText.{ReplyView}
 use Rattle.disco_calls.specs.Calls.{CallView, loads}
 use Rattle.disco_server.specs.Replies.{IsReply, KeepsAsked, with_document}
@@ -52,7 +52,7 @@ pub record IsLooked (before after : SeatState) (asked : Result CallView Fault) (
   pub key : DocKey
   pub doc : Arc Payload Global
   pub asks : asked ≡ Ok (loads key)
-  pub found : Shows (notes_in after.known) key (Doc doc)
+  pub found : Shows (notes_in after.known) key (looked.Doc doc)
   pub replied : y ≡ with_document doc.value
   pub counted : after.changes ≡ before.changes
   pub heard : after.heard ≡ before.heard

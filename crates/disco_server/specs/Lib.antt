@@ -3,4 +3,4 @@ pub mod Publishing
 pub mod Replies
 pub mod Serving
 pub mod Tasks
-pub mod Timers
+pub mod Moments

@@ -1,7 +1,7 @@
 //! The clock of a running server.
 ghost use Rattle.std.specs.Prelude.{◌≡◌, ◌≤◌, IfOk};
 ghost use Rattle.core.specs.Duration.{as_nanos};
-ghost use Rattle.disco_server.specs.Timers.{moment_of};
+ghost use Rattle.disco_server.specs.Moments.{moment_of};
 
 use crate::clock::Clock;
 use std::time::Duration;

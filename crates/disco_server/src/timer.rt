@@ -1,6 +1,6 @@
 //! When what is done again and again is due.
 ghost use Rattle.std.specs.Prelude.{◌≡◌, ◌≤◌, ◌↔◌, IsFalse, IsTrue};
-ghost use Rattle.disco_server.specs.Timers.{moment_after};
+ghost use Rattle.disco_connections.specs.Timeouts.{moment_after};
 
 /// What is due at a moment, and then one period after each moment at which it was found due.
 #[derive(Clone, Copy, Debug)]

@@ -1,7 +1,7 @@
 -- The numbers of faults, and the names of members that a registration needs.
 use Rattle.std.specs.Prelude.{ℕ, List, codes}
 use Rattle.disco_values.specs.declared.fault.Field.{Field}
-use Rattle.disco_values.specs.declared.fault.Field.TheVariants.{InstanceId, HostName, IpAddr, App, DataCenterInfo}
+use Rattle.disco_values.specs.declared.fault.Field.TheVariants as fields
 use Rattle.disco_values.specs.declared.fault.Fault.{Fault}
 use Rattle.disco_values.specs.declared.fault.Fault.TheVariants.{OutOfMemory, BadJson, MissingField, MismatchedApp, NotFound, BadStatus, VersionsSpent}
 use Rattle.disco_values.specs.declared.fault.Fault.TheVariants.{TooManyInstances, DeltaDisabled, NotAcceptable, HeadTooLarge, BodyTooLarge}
@@ -10,11 +10,11 @@ use Rattle.disco_values.specs.declared.fault.Fault.TheVariants.{ReadFailed, Writ
 
 -- the name of a member, as Eureka writes it
 abbrev pub field_name : Field → List ℕ
-field_name InstanceId = codes "instanceId"
-field_name HostName = codes "hostName"
-field_name IpAddr = codes "ipAddr"
-field_name App = codes "app"
-field_name DataCenterInfo = codes "dataCenterInfo"
+field_name fields.InstanceId = codes "instanceId"
+field_name fields.HostName = codes "hostName"
+field_name fields.IpAddr = codes "ipAddr"
+field_name fields.App = codes "app"
+field_name fields.DataCenterInfo = codes "dataCenterInfo"
 
 -- the number of a fault (this project's own rule)
 abbrev pub fault_number : Fault → ℕ

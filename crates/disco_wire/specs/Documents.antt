@@ -11,7 +11,7 @@ use Rattle.disco_history.specs.Query.{Selector, all, of_app, of_vip, of_secure_v
 use Rattle.disco_history.specs.Registry.{registry_of, mentions_of}
 use Rattle.disco_wire.specs.Meaning.{Meaning, meaning_of}
 use Rattle.disco_wire.specs.declared.wire.Shape.{Shape}
-use Rattle.disco_wire.specs.declared.wire.Shape.TheVariants.{Many, App, One}
+use Rattle.disco_wire.specs.declared.wire.Shape.TheVariants as shapes
 use Rattle.disco_values.specs.Query.{is_delta}
 use Rattle.disco_wire.specs.Written.{tree_of}
 use Rattle.disco_values.specs.declared.query.Query.{Query}
@@ -34,12 +34,12 @@ pub record Kind : Type 0 where
 
 -- the table of queries
 abbrev pub kind : Query → Kind
-kind query.Apps = record { asked = all; shape = Many; kept = false }
-kind query.Delta = record { asked = all; shape = Many; kept = false }
-kind (query.App name) = record { asked = of_app name; shape = App; kept = true }
-kind (query.Vip vip) = record { asked = of_vip vip; shape = Many; kept = true }
-kind (query.Svip vip) = record { asked = of_secure_vip vip; shape = Many; kept = true }
-kind (query.Instance key) = record { asked = of_key key; shape = One; kept = false }
+kind query.Apps = record { asked = all; shape = shapes.Many; kept = false }
+kind query.Delta = record { asked = all; shape = shapes.Many; kept = false }
+kind (query.App name) = record { asked = of_app name; shape = shapes.App; kept = true }
+kind (query.Vip vip) = record { asked = of_vip vip; shape = shapes.Many; kept = true }
+kind (query.Svip vip) = record { asked = of_secure_vip vip; shape = shapes.Many; kept = true }
+kind (query.Instance key) = record { asked = of_key key; shape = shapes.One; kept = false }
 
 -- which records a query asks for; a delta is of all of them
 abbrev pub asked_by : Query → Selector
@@ -47,7 +47,7 @@ asked_by q = (kind q).asked
 
 -- a document of many apps has a hash code and a version, another one neither
 abbrev pub if_many : {X : Type 0} → Shape → X → Option X
-if_many Many x = Some x
+if_many shapes.Many x = Some x
 if_many _ x = None
 
 -- the mentions of the records that are asked for after a history, by app, then id

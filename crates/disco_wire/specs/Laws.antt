@@ -6,7 +6,7 @@ use Rattle.disco_history.specs.Change.{Entry}
 use Rattle.disco_history.specs.Forms.{mention_in}
 use Rattle.disco_history.specs.Mentions.{mention_of}
 use Rattle.disco_wire.specs.Meaning.{told_in, meaning_of, meant}
-use Rattle.disco_wire.specs.declared.wire.Shape.TheVariants.{Many}
+use Rattle.disco_wire.specs.declared.wire.Shape.TheVariants as shapes
 use Rattle.disco_wire.specs.Rows.{AreWellFormed, mentions_in}
 use Rattle.disco_wire.specs.Written.{instance_tree, document_tree}
 use Rattle.serde_json.specs.Data.{Data}
@@ -20,7 +20,7 @@ InstanceLaw = (f : Form) (e : Entry) (app : Option (List ℕ)) → IsWellFormed 
 -- a document's tree in a form tells the instances in that form and in their order, the hash code and the version
 abbrev pub DocumentLaw : Type 0
 DocumentLaw = (f : Form) (es : List Entry) (hash : List ℕ) (version : ℕ) → AreWellFormed es → version < 2 ^ 64
-    → meaning_of (document_tree f es hash version) ≡ Some (meant Many (Some hash) (Some version) (mentions_in f es))
+    → meaning_of (document_tree f es hash version) ≡ Some (meant shapes.Many (Some hash) (Some version) (mentions_in f es))
 
 -- a tree means one thing at most
 abbrev pub OneMeaning : Type 0

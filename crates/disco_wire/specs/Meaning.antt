@@ -3,13 +3,13 @@ use Rattle.std.specs.Prelude.{ℕ, List, [], ◌∷◌, ◌++◌, codes, Option,
 use Rattle.std.specs.Option.{option_map_or}
 use Rattle.std.specs.Result.{result_ok}
 use Rattle.serde_json.specs.Data.{Data, null, array, object, Items, no_items, item}
-use Rattle.serde_json.specs.Find.{get}
+use Rattle.serde_json.specs.Find.{get as member_at}
 use Rattle.disco_instance.specs.Instance.{told_by, action_at}
 use Rattle.disco_instance.specs.Members.{inner_at, text_at, as_whole}
 use Rattle.disco_instance.specs.Mention.{Mention}
 use Rattle.disco_wire.specs.Tree.{as_tree, object_at}
 use Rattle.disco_wire.specs.declared.wire.Shape.{Shape}
-use Rattle.disco_wire.specs.declared.wire.Shape.TheVariants.{Many, App, One}
+use Rattle.disco_wire.specs.declared.wire.Shape.TheVariants as shapes
 
 -- what a document means: its shape, its mentions in the order of the text, its hash code and its version where they are given
 pub record Meaning : Type 0 where
@@ -50,7 +50,7 @@ meant shape hash version ms = record { shape = shape; mentions = ms; hash = hash
 
 -- by the first of the three members that is an object
 unfoldable pub meaning_of : Data → Option Meaning
-meaning_of d = option_map_or (λ a. option_map (meant Many (text_at (codes "apps__hashcode") a)
-    (option_and_then as_whole (get (codes "versions__delta") a))) (told_apps a)) (object_at (codes "applications") d) (
-    option_map_or (λ a. option_map (meant App None None) (told_app a)) (object_at (codes "application") d) (
-    option_and_then (λ i. option_map (meant One None None) (told_in None i)) (object_at (codes "instance") d)))
+meaning_of d = option_map_or (λ a. option_map (meant shapes.Many (text_at (codes "apps__hashcode") a)
+    (option_and_then as_whole (member_at (codes "versions__delta") a))) (told_apps a)) (object_at (codes "applications") d) (
+    option_map_or (λ a. option_map (meant shapes.App None None) (told_app a)) (object_at (codes "application") d) (
+    option_and_then (λ i. option_map (meant shapes.One None None) (told_in None i)) (object_at (codes "instance") d)))

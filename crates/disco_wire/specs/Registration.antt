@@ -8,18 +8,18 @@ use Rattle.disco_instance.specs.Row.{Row}
 use Rattle.disco_values.specs.declared.fault.Fault.{Fault}
 use Rattle.disco_values.specs.declared.fault.Fault.TheVariants.{BadJson, MissingField}
 use Rattle.disco_values.specs.declared.fault.Field.{Field}
-use Rattle.disco_values.specs.declared.fault.Field.TheVariants.{InstanceId, HostName, IpAddr, App, DataCenterInfo}
+use Rattle.disco_values.specs.declared.fault.Field.TheVariants as fields
 use Rattle.disco_wire.specs.Tree.{json_of, object_at}
 
 -- the first required member of an instance that is absent or empty; the host's name may stand for the id
 abbrev pub missing_in : Data → Option Field
 missing_in d =
     let has_host = is_some (non_empty_at (codes "hostName") d) in
-    if not has_host && not (is_some (non_empty_at (codes "instanceId") d)) then Some InstanceId else (
-    if not has_host then Some HostName else (
-    if not (is_some (non_empty_at (codes "ipAddr") d)) then Some IpAddr else (
-    if not (is_some (non_empty_at (codes "app") d)) then Some App else (
-    if not (is_some (non_empty_at (codes "name") (inner_at (codes "dataCenterInfo") d))) then Some DataCenterInfo else None))))
+    if not has_host && not (is_some (non_empty_at (codes "instanceId") d)) then Some fields.InstanceId else (
+    if not has_host then Some fields.HostName else (
+    if not (is_some (non_empty_at (codes "ipAddr") d)) then Some fields.IpAddr else (
+    if not (is_some (non_empty_at (codes "app") d)) then Some fields.App else (
+    if not (is_some (non_empty_at (codes "name") (inner_at (codes "dataCenterInfo") d))) then Some fields.DataCenterInfo else None))))
 
 -- the record of a tree's member `instance`, an object, where nothing is missing
 abbrev pub registration_in : Data → Result Row Fault

@@ -3,7 +3,7 @@ use Rattle.std.specs.Prelude.{ℕ, List, if◌then◌else◌, Option, None, Resu
 use Rattle.std.specs.Option.{ok_or}
 use Rattle.std.specs.Str.{is_utf8}
 use Rattle.serde_json.specs.Data.{Data, object}
-use Rattle.serde_json.specs.Find.{as_object, get}
+use Rattle.serde_json.specs.Find.{as_object, get as member_at}
 use Rattle.serde_json.specs.Read.{read}
 use Rattle.disco_values.specs.declared.fault.Fault.{Fault}
 use Rattle.disco_values.specs.declared.fault.Fault.TheVariants.{BadJson}
@@ -18,4 +18,4 @@ as_tree d = option_map object (as_object d)
 
 -- the member of that name where it is an object
 abbrev pub object_at : List ℕ → Data → Option Data
-object_at name d = option_and_then as_tree (get name d)
+object_at name d = option_and_then as_tree (member_at name d)

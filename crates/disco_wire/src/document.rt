@@ -2,7 +2,7 @@
 ghost use Rattle.std.specs.Prelude.{◌≡◌, [], codes, is_some, map, option_map, option_and_then, unwrap_or, IfOk, Err, None, Some};
 ghost use Rattle.std.specs.Option.{ok_or, option_copied};
 ghost use Rattle.disco_wire.specs.declared.wire.Shape.TheVariants.{App, Many, One};
-ghost use Rattle.serde_json.specs.Find.{get};
+ghost use Rattle.serde_json.specs.Find.{get as member_at};
 ghost use Rattle.serde_json.specs.View.{view};
 ghost use Rattle.disco_instance.specs.Instance.{Gives};
 ghost use Rattle.disco_values.specs.declared.fault.Fault.TheVariants.{BadDocument};
@@ -75,7 +75,7 @@ fn one_instance(alloc: Global, instance: &Value) -> Result<Wire, Fault>
 
 fn many(alloc: Global, applications: &Value) -> Result<Wire, Fault>
     ensures { Gives wire_meaning result (ok_or (option_map (meant Many (text_at (codes "apps__hashcode") (view applications.now))
-        (option_and_then as_whole (get (codes "versions__delta") (view applications.now)))) (told_apps (view applications.now))) BadDocument) }
+        (option_and_then as_whole (member_at (codes "versions__delta") (view applications.now)))) (told_apps (view applications.now))) BadDocument) }
 {
     let hash = text_of_member(alloc, applications, "apps__hashcode")?;
     let version = version_of(applications);
@@ -119,7 +119,7 @@ fn items_in(value: &Value) -> &[Value]
 }
 
 fn version_of(applications: &Value) -> Option<u64>
-    ensures { result ≡ option_and_then as_whole (get (codes "versions__delta") (view applications.now)) }
+    ensures { result ≡ option_and_then as_whole (member_at (codes "versions__delta") (view applications.now)) }
 {
     match applications.get("versions__delta") {
         Some(value) => whole(value),

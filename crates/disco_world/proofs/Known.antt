@@ -22,7 +22,7 @@ use Rattle.disco_values.specs.Query.{is_delta}
 use Rattle.disco_wire.specs.Rows.{mentions_in}
 use Rattle.disco_values.specs.declared.query.Query.{Query}
 use Rattle.disco_values.specs.declared.query.Query.TheVariants as query
-use Rattle.disco_cache.specs.Payloads.{IsTrue, cert_of}
+use Rattle.disco_cache.specs.Payloads.{IsTruePayload, cert_of}
 use Rattle.disco_cache.specs.declared.payload.Payload.{Payload}
 use Rattle.disco_client.specs.Tracks.{Histories, IsVersionIn, known_at, moved}
 use Rattle.disco_client.specs.declared.known.Known.{Known}
@@ -101,7 +101,7 @@ whole_now hs d h here is kind =
       kind = kind;
     }
 
-pub of_now : (hs : Histories) (run : ℕ) (h : List Entry) (d : Payload) → hs run ≡ h → IsTrue run d h → for_clients d.key.query ≡ true → IsOf hs d
+pub of_now : (hs : Histories) (run : ℕ) (h : List Entry) (d : Payload) → hs run ≡ h → IsTruePayload run d h → for_clients d.key.query ≡ true → IsOf hs d
 of_now hs run h d here is kind = whole_now hs d h (ap hs is.0 ∙ here) is.1 kind
 
 -- ---- what such a document means

@@ -17,7 +17,7 @@ use Rattle.disco_world.specs.Events.{loads, looks, bad, effect}
 use Rattle.disco_world.specs.Outcomes.{Cache, history_of, new_cache, outcome, world}
 use Rattle.disco_world.specs.declared.event.Event.{Event}
 use Rattle.disco_world.specs.declared.event.Reply.{Reply}
-use Rattle.disco_world.specs.declared.event.Reply.TheVariants.{Doc}
+use Rattle.disco_world.specs.declared.event.Reply.TheVariants as replied
 
 -- what was kept and copied before each event and after the last one: nothing at first; each reply may be given between what there was before its event
 -- and what there is after it, so no event that is answered can't be run; and what was noted is in step with the rounds
@@ -32,7 +32,7 @@ pub record AreAnswers (most : ℕ) (rules : Rules) (run : ℕ) (events : List Ev
 -- each document that is answered may be served after the first so many events, no earlier than the last published round began, or than the run did
 -- where it published none: to a load of its key after all up to it, and to a look for its key
 abbrev pub AreServed : Rules → ℕ → List Event → List Reply → Type 0
-AreServed rules run events replies = (i : ℕ) (event : Event) (d : Arc Payload Global) → slice_get events i ≡ Some event → slice_get replies i ≡ Some (Doc d)
+AreServed rules run events replies = (i : ℕ) (event : Event) (d : Arc Payload Global) → slice_get events i ≡ Some event → slice_get replies i ≡ Some (replied.Doc d)
     → let w = world rules run events replies in let what = effect rules (w i) event in
     (after : ℕ) × ((w (i + 1)).press.floor ≤ after) × (after ≤ i + 1) × MayServe d.value (w after).past
     × (((what ≡ loads (Ok d.value.key)) × (after ≡ i + 1)) ⊎ (what ≡ looks (Some d.value.key)))

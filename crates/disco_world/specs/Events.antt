@@ -18,11 +18,12 @@ use Rattle.disco_client.specs.declared.certified.CertifiedCopy.{CertifiedCopy}
 use Rattle.disco_world.specs.Rounds.{Press}
 use Rattle.disco_world.specs.declared.clients.Client.{Client}
 use Rattle.disco_world.specs.declared.event.Event.{Event}
-use Rattle.disco_world.specs.declared.event.Event.TheVariants.{Step, Take, Certify}
-use Rattle.disco_world.specs.declared.event.Step.TheVariants.{Register, Cancel, Renew, SetStatus, DropStatus, Metadata, Load, LoadById, Clean, Minute}
+use Rattle.disco_world.specs.declared.event.Event.TheVariants as events
+use Rattle.disco_world.specs.declared.event.Step.TheVariants.{Register, Cancel, Renew, SetStatus, DropStatus, Metadata, Load, LoadById, Clean}
+use Rattle.disco_world.specs.declared.event.Step.TheVariants as steps
 use Rattle.disco_world.specs.declared.event.Step.TheVariants.{Expire, Begin, Copy, Publish, Look, LookById, Show, ShowCertified, Restart}
 use Rattle.disco_world.specs.declared.event.Reply.{Reply}
-use Rattle.disco_world.specs.declared.event.Reply.TheVariants.{Doc}
+use Rattle.disco_world.specs.declared.event.Reply.TheVariants as replied
 
 -- what has happened: to the registry in the run that is running, the histories of the runs that ended, what each event answered, the plain and the
 -- certified clients that have a copy, and what was noted for readers
@@ -69,7 +70,7 @@ for_clients _ = false
 
 -- the document of a reply that a client can take, if it is one
 abbrev pub doc_in : Option Reply → Option Payload
-doc_in (Some (Doc d)) = if for_clients d.value.key.query then Some d.value else None
+doc_in (Some (replied.Doc d)) = if for_clients d.value.key.query then Some d.value else None
 doc_in _ = None
 
 -- the document that the event of that number, from 1, answered
@@ -79,24 +80,24 @@ doc_of_event replies (suc i) = doc_in (slice_get replies i)
 
 -- the table of events: what each is for after what has happened; a client can take an earlier document of all apps or delta alone
 abbrev pub effect : Rules → World → Event → Effect
-effect rules w (Step (Register now app json)) = writes now (registers app (registration_of json))
-effect rules w (Step (Cancel now app id)) = writes now (Ok (cancel (key_named app id)))
-effect rules w (Step (Renew now app id)) = writes now (Ok (renew (key_named app id)))
-effect rules w (Step (SetStatus now app id status)) = writes now (Ok (set_status (key_named app id) status))
-effect rules w (Step (DropStatus now app id status)) = writes now (Ok (drop_status (key_named app id) status))
-effect rules w (Step (Metadata now app id entries)) = writes now (Ok (add_metadata (key_named app id) entries))
-effect rules w (Step (Load key)) = loads (loaded rules.delta (record { query = query_asked key.query; form = key.form }) (history w.past))
-effect rules w (Step (LoadById id form)) = loads (loaded_by_id id form (history w.past))
-effect rules w (Step (Clean now)) = cleans now
-effect rules w (Step Minute) = closes
-effect rules w (Step (Expire now)) = expires now
-effect rules w (Step Begin) = begins
-effect rules w (Step Copy) = copies
-effect rules w (Step Publish) = publishes
-effect rules w (Step (Look key)) = looks (Some (record { query = query_asked key.query; form = key.form }))
-effect rules w (Step (LookById id form)) = looks None
-effect rules w (Step (Show client)) = shows client
-effect rules w (Step (ShowCertified client)) = shows_certified client
-effect rules w (Step (Restart run)) = restarts run
-effect rules w (Take client event) = option_map_or (takes client) (doc_of_event w.replies event) bad
-effect rules w (Certify client event) = option_map_or (certifies client) (doc_of_event w.replies event) bad
+effect rules w (events.Step (Register now app json)) = writes now (registers app (registration_of json))
+effect rules w (events.Step (Cancel now app id)) = writes now (Ok (cancel (key_named app id)))
+effect rules w (events.Step (Renew now app id)) = writes now (Ok (renew (key_named app id)))
+effect rules w (events.Step (SetStatus now app id status)) = writes now (Ok (set_status (key_named app id) status))
+effect rules w (events.Step (DropStatus now app id status)) = writes now (Ok (drop_status (key_named app id) status))
+effect rules w (events.Step (Metadata now app id entries)) = writes now (Ok (add_metadata (key_named app id) entries))
+effect rules w (events.Step (Load key)) = loads (loaded rules.delta (record { query = query_asked key.query; form = key.form }) (history w.past))
+effect rules w (events.Step (LoadById id form)) = loads (loaded_by_id id form (history w.past))
+effect rules w (events.Step (Clean now)) = cleans now
+effect rules w (events.Step steps.Minute) = closes
+effect rules w (events.Step (Expire now)) = expires now
+effect rules w (events.Step Begin) = begins
+effect rules w (events.Step Copy) = copies
+effect rules w (events.Step Publish) = publishes
+effect rules w (events.Step (Look key)) = looks (Some (record { query = query_asked key.query; form = key.form }))
+effect rules w (events.Step (LookById id form)) = looks None
+effect rules w (events.Step (Show client)) = shows client
+effect rules w (events.Step (ShowCertified client)) = shows_certified client
+effect rules w (events.Step (Restart run)) = restarts run
+effect rules w (events.Take client event) = option_map_or (takes client) (doc_of_event w.replies event) bad
+effect rules w (events.Certify client event) = option_map_or (certifies client) (doc_of_event w.replies event) bad

@@ -14,7 +14,8 @@ use Rattle.disco_world.specs.Outcomes.{after, outcome}
 use Rattle.disco_world.specs.Steps.{AreHeld, Holders, cache_of}
 use Rattle.disco_world.specs.declared.event.Event.{Event}
 use Rattle.disco_world.specs.declared.event.Reply.{Reply}
-use Rattle.disco_world.specs.declared.event.Reply.TheVariants.{Doc, Missed, Refused}
+use Rattle.disco_world.specs.declared.event.Reply.TheVariants.{Missed, Refused}
+use Rattle.disco_world.specs.declared.event.Reply.TheVariants as replied
 use Rattle.disco_world.specs.declared.levels.CacheLevels.{CacheLevels}
 
 -- the levels are those of what has happened
@@ -43,7 +44,7 @@ key_looked k = record { query = query_asked k.query; form = k.form }
 
 -- what an edition has at a key is found, or there was no memory
 abbrev pub Looks : Edition → DocKey → Reply → Type 0
-Looks m k (Doc d) = get m k ≡ Some d.value
+Looks m k (replied.Doc d) = get m k ≡ Some d.value
 Looks m k Missed = get m k ≡ None
 Looks m k (Refused e) = e ≡ OutOfMemory
 Looks m k _ = ⊥

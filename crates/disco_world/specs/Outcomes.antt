@@ -23,7 +23,8 @@ use Rattle.disco_world.specs.Events.{shows_certified, restarts, World, effect}
 use Rattle.disco_world.specs.Rounds.{all_of, press_from, seen_at}
 use Rattle.disco_world.specs.declared.event.Event.{Event}
 use Rattle.disco_world.specs.declared.event.Reply.{Reply}
-use Rattle.disco_world.specs.declared.event.Reply.TheVariants.{Changed, Same, Doc, Cleaned, Closed, Expired, Begun, Copied, Done, Published, Missed}
+use Rattle.disco_world.specs.declared.event.Reply.TheVariants.{Changed, Same, Cleaned, Closed, Expired, Begun, Done, Published, Missed}
+use Rattle.disco_world.specs.declared.event.Reply.TheVariants as replied
 use Rattle.disco_world.specs.declared.event.Reply.TheVariants.{Taken, Certified, Held, Restarted, Refused}
 
 -- the documents that are kept, and the rounds in which they are copied
@@ -72,7 +73,7 @@ outcome rules w (writes now (Ok ask)) Same = let result = accept_after rules.lim
     staying (noting w (after_ask rules.queue w.past now ask result)) (λ _. result ≡ Ok None)
 outcome rules w (writes now (Ok ask)) (Refused e) = refused w e (λ _. accept_after rules.limits (history w.past) ask now ≡ Err e)
 outcome rules w (writes now (Err cause)) (Refused e) = refused w e (λ _. cause ≡ e)
-outcome rules w (loads asked) (Doc d) = leads w (λ old new. (asked ≡ Ok d.value.key) × MayServe d.value w.past
+outcome rules w (loads asked) (replied.Doc d) = leads w (λ old new. (asked ≡ Ok d.value.key) × MayServe d.value w.past
     × IsAsKept (length (history w.past)) w.past.base old.docs d.value.key d.value × KeepsAtMost rules.delta d.value old.docs new.docs
     × (new.rounds ≡ old.rounds))
 outcome rules w (loads asked) (Refused e) = refused w e (λ _. asked ≡ Err e)
@@ -85,7 +86,7 @@ outcome rules w begins (Begun n) =
     leads (record w { press = record w.press { pending = w.press.pending ++ press.begin ∷ []; begun = length w.replies + 1 } }) (λ old new.
     Begins (round_keys old.rounds.edition old.docs) n old.rounds new.rounds × (len (edition_of w.press.published) ≤ n) × (new.docs ≡ old.docs))
 outcome rules w begins (Refused e) = refused w e (λ s. (e ≡ RoundOpen) × (s.rounds.round ≢ None))
-outcome rules w copies (Copied c) = leads (record w { press = record w.press { pending = w.press.pending ++ note_of c ∷ [] } }) (λ old new.
+outcome rules w copies (replied.Copied c) = leads (record w { press = record w.press { pending = w.press.pending ++ note_of c ∷ [] } }) (λ old new.
     (m : Advances (is_doc c) old.rounds new.rounds) × IsCopied m.marks.key c w.past
     × IsCopiedAsKept (length (history w.past)) w.past.base old.docs m.marks.key c × (new.docs ≡ old.docs))
 outcome rules w copies Done = staying w (λ s. option_map (λ r. r.left) s.rounds.round ≡ Some [])
@@ -94,7 +95,7 @@ outcome rules w publishes (Published n) =
     leads (record w { press = record w.press { published = all_of w.press; pending = []; floor = w.press.begun } }) (λ old new.
     Ends n old.rounds new.rounds × (n ≡ len (edition_of (all_of w.press))) × (new.docs ≡ old.docs))
 outcome rules w publishes (Refused e) = staying w (λ s. StaysOpen e s.rounds.round)
-outcome rules w (looks key) (Doc d) = staying w (λ _. seen_at w.press key ≡ Some d.value)
+outcome rules w (looks key) (replied.Doc d) = staying w (λ _. seen_at w.press key ≡ Some d.value)
 outcome rules w (looks key) Missed = staying w (λ _. seen_at w.press key ≡ None)
 outcome rules w (looks key) (Refused e) = staying w (λ _. e ≡ OutOfMemory)
 outcome rules w (takes client d) (Taken equal version) = let now = client_after d (w.clients client) in

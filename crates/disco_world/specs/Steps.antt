@@ -12,7 +12,7 @@ use Rattle.disco_registry.specs.declared.op.Applied.{Applied}
 use Rattle.disco_registry.specs.declared.op.Applied.TheVariants as applied
 use Rattle.disco_wire.specs.Documents.{document_of}
 use Rattle.disco_wire.specs.Meaning.{Meaning}
-use Rattle.disco_wire.specs.declared.wire.Shape.TheVariants.{Many}
+use Rattle.disco_wire.specs.declared.wire.Shape.TheVariants as shapes
 use Rattle.disco_cache.specs.declared.payload.Payload.{Payload}
 use Rattle.disco_core.specs.Past.{Past, history}
 use Rattle.disco_core.specs.State.{Rules}
@@ -26,7 +26,8 @@ use Rattle.disco_world.specs.declared.clients.Client.{Client}
 use Rattle.disco_world.specs.declared.clients.Clients.{Clients}
 use Rattle.disco_world.specs.declared.event.Event.{Event}
 use Rattle.disco_world.specs.declared.event.Reply.{Reply}
-use Rattle.disco_world.specs.declared.event.Reply.TheVariants.{Changed, Same, Doc, Begun, Copied, Published, Restarted, Refused}
+use Rattle.disco_world.specs.declared.event.Reply.TheVariants.{Changed, Same, Begun, Published, Restarted, Refused}
+use Rattle.disco_world.specs.declared.event.Reply.TheVariants as replied
 use Rattle.disco_world.specs.declared.event.Reply.TheVariants.{Taken, Certified, Held}
 use Rattle.disco_world.specs.declared.instance_summary.InstanceSummary.{InstanceSummary}
 
@@ -38,7 +39,7 @@ reply_to (Err e) version = Refused e
 
 -- the reply to a load
 abbrev pub reply_of : Result (Arc Payload Global) Fault → Reply
-reply_of (Ok p) = Doc p
+reply_of (Ok p) = replied.Doc p
 reply_of (Err e) = Refused e
 
 -- the reply to a take
@@ -91,7 +92,7 @@ goes_on _ _ = true
 -- it is no step of a round and no restart, so that of readers nothing but changes is noted
 abbrev pub is_plain : Effect → Reply → Bool
 is_plain begins (Begun n) = false
-is_plain copies (Copied c) = false
+is_plain copies (replied.Copied c) = false
 is_plain publishes (Published n) = false
 is_plain (restarts run) (Restarted r) = false
 is_plain _ _ = true
@@ -118,7 +119,7 @@ Performs old new what reply = (w : World) → HubStandsFor old w.past → HubSta
 
 -- the document means that, which is of many apps
 abbrev pub IsMeant : Payload → Meaning → Type 0
-IsMeant d m = (document_of d.text ≡ Ok m) × (m.shape ≡ Many)
+IsMeant d m = (document_of d.text ≡ Ok m) × (m.shape ≡ shapes.Many)
 
 abbrev pub IsReadable : Payload → Type 0
 IsReadable d = (m : Meaning) × IsMeant d m

@@ -14,14 +14,14 @@ use Rattle.disco_history.proofs.Sets.{get-delta}
 use Rattle.disco_history.proofs.Sorted.{Own, own}
 use Rattle.disco_values.specs.declared.action.Action.TheVariants.{Added, Modified, Deleted}
 use Rattle.disco_writer.specs.Joined.{Agrees, AllAgree, AreTextsOf, AreJoinedTexts, texts_by}
-use Rattle.disco_writer.specs.Kept.{AreKept, AreTied, IsTextOf, Kept, kept_text_at}
+use Rattle.disco_writer.specs.Kept.{AreKept, AreTied, IsTextOf, StoredTexts, kept_text_at}
 use Rattle.disco_writer.proofs.KeptLaws.{delta_kept_law}
 
 -- where the texts that are to come are told, all are
-abbrev pub AreSoFar : Form → Kept → List Entry → List Entry → Type 0
+abbrev pub AreSoFar : Form → StoredTexts → List Entry → List Entry → Type 0
 AreSoFar f v rest all = AreJoinedTexts f v rest → AreJoinedTexts f v all
 
-pub told_are : (f : Form) (v : Kept) (es : List Entry) → AreJoinedTexts f v es → AllAgree f v es → AreTextsOf f (texts_by f v es) es
+pub told_are : (f : Form) (v : StoredTexts) (es : List Entry) → AreJoinedTexts f v es → AllAgree f v es → AreTextsOf f (texts_by f v es) es
 told_are f v [] told agree = tt
 told_are f v (e ∷ es) told agree = (refl, told.0 agree.0, told_are f v es told.1 agree.1)
 
@@ -35,10 +35,10 @@ tied_agrees f (Some t) e tied = tied
 abbrev pub AreHeld : FinMap key_cmp Entry → List Entry → Type 0
 AreHeld m es = AllByRecursion (λ e. get m (key_of e) ≡ Some e) es
 
-pub one_agrees : (f : Form) (v : Kept) (m : FinMap key_cmp Entry) (e : Entry) → AreKept f v m → get m (key_of e) ≡ Some e → Agrees f v e
+pub one_agrees : (f : Form) (v : StoredTexts) (m : FinMap key_cmp Entry) (e : Entry) → AreKept f v m → get m (key_of e) ≡ Some e → Agrees f v e
 one_agrees f v m e kept there = tied_agrees f (kept_text_at v (key_of e)) e (subst (λ (o : Option Entry). AreTied f (kept_text_at v (key_of e)) o) there (kept (key_of e)))
 
-pub held_agree : (f : Form) (v : Kept) (m : FinMap key_cmp Entry) (es : List Entry) → AreKept f v m → AreHeld m es → AllAgree f v es
+pub held_agree : (f : Form) (v : StoredTexts) (m : FinMap key_cmp Entry) (es : List Entry) → AreKept f v m → AreHeld m es → AllAgree f v es
 held_agree f v m [] kept held = tt
 held_agree f v m (e ∷ es) kept held = (one_agrees f v m e kept held.0, held_agree f v m es kept held.1)
 
@@ -84,7 +84,7 @@ went_or_put f (Some t) (r, Added) tied = tied
 went_or_put f (Some t) (r, Modified) tied = tied
 went_or_put f (Some t) (r, Deleted) tied = absurd tied
 
-delta_agrees : (f : Form) (v : Kept) (h : List Entry) (base : ℕ) → AreKept f v (mentions_of h (registry_of h)) → (es : List (Key × Entry)) → Own (get (delta h base)) es → AllAgree f v (map (λ p. p.1) es)
+delta_agrees : (f : Form) (v : StoredTexts) (h : List Entry) (base : ℕ) → AreKept f v (mentions_of h (registry_of h)) → (es : List (Key × Entry)) → Own (get (delta h base)) es → AllAgree f v (map (λ p. p.1) es)
 delta_agrees f v h base kept [] all = tt
 delta_agrees f v h base kept (p ∷ es) all =
     let key : p.0 ≡ key_of p.1 = same_is p.0 (key_of p.1) (last_key (drop base h) p.0 p.1 (sym (get-delta h base p.0) ∙ all.0)) in (
@@ -92,7 +92,7 @@ delta_agrees f v h base kept (p ∷ es) all =
       delta_agrees f v h base kept es all.1,
     )
 
-pub delta_agree : (f : Form) (v : Kept) (h : List Entry) (base : ℕ) → AreKept f v (mentions_of h (registry_of h)) → AllAgree f v (values (delta h base))
+pub delta_agree : (f : Form) (v : StoredTexts) (h : List Entry) (base : ℕ) → AreKept f v (mentions_of h (registry_of h)) → AllAgree f v (values (delta h base))
 delta_agree f v h base kept =
     let m = delta h base in
     delta_agrees f v h base kept (entries m) (owned m (entries m) (own (entries m) (entries_sorted m)))

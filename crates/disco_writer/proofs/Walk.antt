@@ -17,7 +17,7 @@ use Rattle.disco_history.proofs.PlaceLemmas.{find_filled, sorted_filled}
 use Rattle.disco_history.proofs.Sorted.{Own, own}
 use Rattle.disco_history.specs.Places.{filled}
 use Rattle.disco_writer.specs.Joined.{AreTextsOf, Shown, text_of_entry, walked}
-use Rattle.disco_writer.specs.Kept.{AreKept, AreTied, IsTextOf, Kept, kept_text_at}
+use Rattle.disco_writer.specs.Kept.{AreKept, AreTied, IsTextOf, StoredTexts, kept_text_at}
 use Rattle.disco_writer.proofs.Told.{owned}
 
 abbrev Text : Type 0
@@ -75,7 +75,7 @@ same_text None = refl
 same_text (Some t) = refl
 
 -- what is kept is the text of each that is held
-same_texts : (f : Form) (v : Kept) (held : FinMap key_cmp Entry) → AreKept f v held → present (entries v.places) ≡ texts_of f (entries held)
+same_texts : (f : Form) (v : StoredTexts) (held : FinMap key_cmp Entry) → AreKept f v held → present (entries v.places) ≡ texts_of f (entries held)
 same_texts f v held kept =
     let ps = present (entries v.places) in
     let ts = texts_of f (entries held) in
@@ -87,7 +87,7 @@ same_texts f v held kept =
     ∙ ap (option_map (text_of_entry f)) (get-entries held q) ∙ sym (find_texts f q (entries held)) ∙ sym (get-from_sorted key_cmp ts q sorted_ts)))
     ∙ entries-from_sorted key_cmp ts sorted_ts
 
-each_is : (f : Form) (v : Kept) (h : List Entry) (held : FinMap key_cmp Entry) → held ≡ mentions_of h (registry_of h) → AreKept f v held → (es : List (Key × Entry)) → Own (get held) es → AreTextsOf f (map with_app (texts_of f es)) (map (λ p. p.1) es)
+each_is : (f : Form) (v : StoredTexts) (h : List Entry) (held : FinMap key_cmp Entry) → held ≡ mentions_of h (registry_of h) → AreKept f v held → (es : List (Key × Entry)) → Own (get held) es → AreTextsOf f (map with_app (texts_of f es)) (map (λ p. p.1) es)
 each_is f v h held stands kept [] all = tt
 each_is f v h held stands kept (p ∷ es) all =
     let key : p.0 ≡ key_of p.1 = held_key h p.0 p.1 (ap (λ (n : FinMap key_cmp Entry). get n p.0) (sym stands) ∙ all.0) in (
@@ -96,7 +96,7 @@ each_is f v h held stands kept (p ∷ es) all =
       each_is f v h held stands kept es all.1,
     )
 
-pub walked_are : (f : Form) (v : Kept) (h : List Entry) (held : FinMap key_cmp Entry) → held ≡ mentions_of h (registry_of h) → AreKept f v held → AreTextsOf f (walked (entries v.places)) (values held)
+pub walked_are : (f : Form) (v : StoredTexts) (h : List Entry) (held : FinMap key_cmp Entry) → held ≡ mentions_of h (registry_of h) → AreKept f v held → AreTextsOf f (walked (entries v.places)) (values held)
 walked_are f v h held stands kept =
     subst (λ (ps : List Shown). AreTextsOf f ps (values held)) (sym (walked_present (entries v.places) ∙ ap (map with_app) (same_texts f v held kept)))
     (each_is f v h held stands kept (entries held) (owned held (entries held) (own (entries held) (entries_sorted held))))

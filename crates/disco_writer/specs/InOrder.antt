@@ -3,7 +3,7 @@ use Rattle.std.specs.Prelude.{◌≡◌, ℕ, List, Option, Some, All, option_ma
 use Rattle.std.specs.Borrow.{Bor}
 use Rattle.std.specs.List.{filter_map}
 use Rattle.disco_values.specs.declared.key.Key.{Key}
-use Rattle.disco_writer.specs.Kept.{Kept, kept_text_at}
+use Rattle.disco_writer.specs.Kept.{StoredTexts, kept_text_at}
 
 -- an app, an id and a text
 abbrev pub KeyedText : Type 0
@@ -13,7 +13,7 @@ abbrev pub keyed_text : KeyedText → Key × List ℕ
 keyed_text e = (record { app = e.0.now; id = e.1.now }, e.2.now)
 
 -- each text is the one that is kept under its key
-abbrev pub AreTheirs : Kept → List KeyedText → Type 0
+abbrev pub AreTheirs : StoredTexts → List KeyedText → Type 0
 AreTheirs v es = All (λ e. kept_text_at v (record { app = e.0.now; id = e.1.now }) ≡ Some e.2.now) es
 
 -- the texts of an app's places that don't stand empty, with their keys

@@ -1,7 +1,6 @@
 -- The text of a document, joined from the texts of its instances. Nothing here need be believed.
-use Rattle.std.specs.Prelude.{◌≡◌, ℕ, Bool, true, false, List, [], ◌∷◌, ◌++◌, codes, decimal, map, if◌then◌else◌, IfSome, Option, Some, None, option_map, ⊤}
+use Rattle.std.specs.Prelude.{◌≡◌, ℕ, Bool, true, false, List, [], ◌∷◌, ◌++◌, codes, decimal, map, if◌then◌else◌, IfSome, Option, Some, None, option_map, ⊤, unwrap_or}
 use Rattle.std.specs.List.{AllByRecursion, filter_map}
-use Rattle.std.specs.Option.{unwrap_or}
 use Rattle.std.specs.Str.{bytes_eq}
 use Rattle.json.specs.Print.{quoted}
 use Rattle.serde_json.specs.Written.{compact_text}
@@ -10,7 +9,7 @@ use Rattle.disco_values.specs.declared.key.Key.{Key}
 use Rattle.disco_history.specs.Change.{Entry, key_of}
 use Rattle.disco_history.specs.Mentions.{mention_of}
 use Rattle.disco_wire.specs.Written.{instance_tree}
-use Rattle.disco_writer.specs.Kept.{IsTextOf, Kept, kept_text_at}
+use Rattle.disco_writer.specs.Kept.{IsTextOf, StoredTexts, kept_text_at}
 use Rattle.disco_writer.specs.declared.piece.Piece.{Piece}
 use Rattle.disco_writer.specs.declared.piece.Source.{Source}
 use Rattle.disco_writer.specs.declared.piece.Source.TheVariants as source
@@ -63,27 +62,27 @@ abbrev pub told_by : Form → Option (List ℕ) → Entry → Shown
 told_by f kept e = (e.0.key.app, told_text f kept e)
 
 -- an instance's app, and its kept text or, where none is, the one that is made
-abbrev pub told_one : Form → Kept → Entry → Shown
+abbrev pub told_one : Form → StoredTexts → Entry → Shown
 told_one f v e = told_by f (kept_text_at v (key_of e)) e
 
-abbrev pub texts_by : Form → Kept → List Entry → List Shown
+abbrev pub texts_by : Form → StoredTexts → List Entry → List Shown
 texts_by f v es = map (told_one f v) es
 
 -- a text that is kept of the instance is its text
-abbrev pub Agrees : Form → Kept → Entry → Type 0
+abbrev pub Agrees : Form → StoredTexts → Entry → Type 0
 Agrees f v e = IfSome (kept_text_at v (key_of e)) (λ t. IsTextOf f t (mention_of e))
 
-abbrev pub AllAgree : Form → Kept → List Entry → Type 0
+abbrev pub AllAgree : Form → StoredTexts → List Entry → Type 0
 AllAgree f v es = AllByRecursion (Agrees f v) es
 
 -- where the kept one is its text, what is told is
 abbrev pub IsToldText : Form → Option (List ℕ) → Entry → Type 0
 IsToldText f kept e = IfSome kept (λ t. IsTextOf f t (mention_of e)) → IsTextOf f (told_text f kept e) (mention_of e)
 
-abbrev pub IsJoinedText : Form → Kept → Entry → Type 0
+abbrev pub IsJoinedText : Form → StoredTexts → Entry → Type 0
 IsJoinedText f v e = IsToldText f (kept_text_at v (key_of e)) e
 
-abbrev pub AreJoinedTexts : Form → Kept → List Entry → Type 0
+abbrev pub AreJoinedTexts : Form → StoredTexts → List Entry → Type 0
 AreJoinedTexts f v es = AllByRecursion (IsJoinedText f v) es
 
 -- ---- what stands round the texts

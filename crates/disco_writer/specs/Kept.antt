@@ -39,19 +39,19 @@ abbrev pub Places : Type 0
 Places = FinMap key_cmp (Option (List ℕ))
 
 -- the places, and what is put next, with its key
-pub record Kept : Type 0 where
+pub record StoredTexts : Type 0 where
   pub places : Places
   pub next : Option (Key × List ℕ)
 
-abbrev pub none_kept : Kept
+abbrev pub none_kept : StoredTexts
 none_kept = record { places = empty; next = None }
 
 -- the text of a key
-abbrev pub kept_text_at : Kept → Key → Option (List ℕ)
+abbrev pub kept_text_at : StoredTexts → Key → Option (List ℕ)
 kept_text_at v k = option_flatten (get v.places k)
 
 -- the same but for empty places and for what is put next, which no answer shows
-abbrev pub IsSameTexts : Kept → Kept → Type 0
+abbrev pub IsSameTexts : StoredTexts → StoredTexts → Type 0
 IsSameTexts old new = (q : Key) → kept_text_at new q ≡ kept_text_at old q
 
 -- no place stands empty
@@ -59,12 +59,12 @@ abbrev pub HasNoEmpty : Places → Type 0
 HasNoEmpty p = (q : Key) → get p q ≡ Some None → ⊥
 
 -- that text can be put under that key without memory
-pub record IsReadyFor (v : Kept) (k : Key) (text : List ℕ) : Type 0 where
+pub record IsReadyFor (v : StoredTexts) (k : Key) (text : List ℕ) : Type 0 where
   pub next : v.next ≡ Some (k, text)
   pub place : IsSome (get v.places k)
 
 -- the key has that text, or none, and each other key what it had
-abbrev pub SetsText : Key → Option (List ℕ) → Kept → Kept → Type 0
+abbrev pub SetsText : Key → Option (List ℕ) → StoredTexts → StoredTexts → Type 0
 SetsText k t old new = (q : Key) → kept_text_at new q ≡ (if same_key q k then t else kept_text_at old q)
 
 -- what is kept under a key, where something is, is the text of the mention that is held
@@ -75,5 +75,5 @@ AreTied f (Some t) None = ⊥
 AreTied f (Some t) (Some e) = IsTextOf f t (mention_of e)
 
 -- exactly the texts in a form of the mentions that are held are kept
-abbrev pub AreKept : Form → Kept → FinMap key_cmp Entry → Type 0
+abbrev pub AreKept : Form → StoredTexts → FinMap key_cmp Entry → Type 0
 AreKept f v held = (k : Key) → AreTied f (kept_text_at v k) (get held k)

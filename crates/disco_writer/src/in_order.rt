@@ -4,7 +4,7 @@
 //! in another order are found too, by searches.
 ghost use Rattle.std.specs.Prelude.{◌≡◌, IfOk, IfSome, Some, option_map};
 ghost use Rattle.disco_writer.specs.InOrder.{AreTheirs};
-ghost use Rattle.disco_writer.specs.Kept.{Kept, kept_text_at};
+ghost use Rattle.disco_writer.specs.Kept.{StoredTexts, kept_text_at};
 
 use crate::texts::Texts;
 use disco_values::Text;
@@ -50,7 +50,7 @@ fn passed(entries: &[KeyedText<'_>], at: usize, app: &Text, id: &Text) -> usize 
 
 /// The text at a place, where it is that of the key of this app and this id.
 fn text_here<'t>(entries: &[KeyedText<'t>], at: usize, app: &Text, id: &Text) -> Option<&'t [u8]>
-    ensures { IfSome result (λ t. (v : Kept) → AreTheirs v entries.now → kept_text_at v (record { app = app.now; id = id.now }) ≡ Some t.now) }
+    ensures { IfSome result (λ t. (v : StoredTexts) → AreTheirs v entries.now → kept_text_at v (record { app = app.now; id = id.now }) ≡ Some t.now) }
 {
     match entries.get(at) {
         Some((found, place, text)) if **found == *app && **place == *id => Some(*text),

@@ -28,11 +28,11 @@ pub struct Texts {
 impl Model for Texts {
     ghost use Rattle.std.specs.Coded.{codes};
     ghost use Rattle.std.specs.FinMap.{code};
-    ghost use Rattle.disco_writer.specs.Kept.{Kept};
+    ghost use Rattle.disco_writer.specs.Kept.{StoredTexts};
     ghost use Rattle.disco_writer.specs.Empty.{OnlyNextIsEmpty};
     ghost use Rattle.disco_writer.specs.Named.{named_text};
 
-    ghost Value = { Kept };
+    ghost Value = { StoredTexts };
 
     ghost coded = { Prim.hlevel (codes, code) };
 

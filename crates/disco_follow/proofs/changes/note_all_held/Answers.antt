@@ -1,7 +1,7 @@
 use Rattle.std.proofs.Common.{◌≡◌, List, map, ◌++◌, take, sym, subst, ◌∙◌}
 use Rattle.disco_instance.specs.Row.{row}
 use Rattle.disco_instance.specs.declared.record.Record.{Record}
-use Rattle.disco_follow.specs.Changes.{Change, IsToldOf}
+use Rattle.disco_follow.specs.Changes.{InstanceChange, IsToldOf}
 use Rattle.disco_follow.specs.Seen.{seen_change}
 use Rattle.disco_follow.proofs.ListedChanges.{TellsAll, TellsOne, rows_step, rows_whole, tells_more, tells_none}
 use Rattle.disco_follow.proofs.changes.note_all_held.Goals as goal
@@ -19,7 +19,7 @@ loop-held-preserved c =
     let m = map seen_change c.loop-held.changes.items in
     let n = map seen_change c.note_held.new.changes.items in
     let told : TellsOne before c.deref.result.now.key (row c.deref-in-loop-held.result.now) m n =
-    subst (λ o. (one : List Change) × IsToldOf o (row c.deref-in-loop-held.result.now) one × (n ≡ m ++ one)) c.get.ensures c.in_ok-note_held.ensures in
+    subst (λ o. (one : List InstanceChange) × IsToldOf o (row c.deref-in-loop-held.result.now) one × (n ≡ m ++ one)) c.get.ensures c.in_ok-note_held.ensures in
     let at_key : TellsOne before h.rec.value.key (row c.deref-in-loop-held.result.now) m n =
     subst (λ (r : Record). TellsOne before r.key (row c.deref-in-loop-held.result.now) m n) c.deref.ensures told in
     let here : TellsOne before h.rec.value.key (row h.rec.value) m n =
