@@ -34,7 +34,7 @@ impl Request {
         Request { head, body }
     }
 
-    /// The room of its head and that of its body, for the next one.
+    /// Gives back the room of its head and that of its body, for the next request.
     pub fn into_room(self) -> (HeadRoom, Vec<u8>) {
         (self.head.into_room(), self.body)
     }

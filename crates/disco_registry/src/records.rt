@@ -18,14 +18,14 @@ use std::alloc::{AllocError, Global};
 use std::collections::BTreeMap;
 use std::marker::Model;
 
-/// The records that are held, and at most one place that stands empty.
+/// The records that are held, and at most one empty place.
 #[derive(Drop)]
 pub(crate) struct Records {
     places: Places<Held>,
-    /// The record that is put next, whose place stands empty.
+    /// The record that is put next, whose place is empty.
     next: Option<Held>,
-    /// The record that was sought last. It is looked at first, so searches may be saved, and nothing
-    /// else depends on it.
+    /// The record that was searched for last. Looking at it first saves searches; nothing else depends
+    /// on it.
     sought: Option<Held>,
 }
 
@@ -71,7 +71,7 @@ fn left_after(next: Option<Held>, key: &Key) -> Option<Held>
     }
 }
 
-/// The same once more, unless there is no memory for it.
+/// A share of the record, unless memory is refused.
 fn shared(held: Option<&Held>) -> Option<Held>
     ensures { IfSome result (λ h. Some (entry_of h) ≡ option_map entry_of (option_copied held.entry)) }
 {
@@ -166,8 +166,8 @@ impl Records {
         }
     }
 
-    /// Seeks the record of a key, so that calls about this key need no search of their own. No
-    /// answer shows it. Answers whether there is one.
+    /// Searches for the record of a key, so that later calls about this key need no search. No answer
+    /// shows it. Answers whether there is one.
     pub(crate) fn seek(&mut self, key: &Key) -> bool
         ensures same { self.new ≡ self.old }
         ensures held { result ≡ is_some (finmap.get self.old.held key.now) }
@@ -239,14 +239,14 @@ impl Records {
         found_under(self.places.apps(), id)
     }
 
-    /// The places of the records, by app and then by id. One of them may stand empty.
+    /// The places of the records, by app and then by id. One of them may be empty.
     pub(crate) fn apps(&self) -> &BTreeMap<Text, IdMap<Option<Held>>>
         ensures { filter_map (λ e. option_map entry_of e.1) (of_apps result.now.entries) ≡ values self.now.held }
     {
         self.places.apps()
     }
 
-    /// Takes out the place that stands empty, if there is one. Takes no memory.
+    /// Removes the empty place, if there is one. Takes no memory.
     pub(crate) fn forget(&mut self)
         ensures { self.new ≡ record self.old { next = None } }
     {
@@ -267,8 +267,8 @@ impl Records {
         Ok(())
     }
 
-    /// Puts a record in, in the place of that of its key or in the one that was made for it. Takes
-    /// no memory.
+    /// Puts a record in: it replaces that of its key, or takes the place that was made for it. Takes no
+    /// memory.
     pub(crate) fn put(&mut self, key: &Key, added: Held)
         requires place { finmap.get self.old.held key.now ≡ None → self.old.next ≡ Some key.now }
         requires same_key { added.rec.value.key ≡ key.now }
@@ -279,7 +279,7 @@ impl Records {
         self.places.put(key, added);
     }
 
-    /// Takes the record of a key out, if there is one. Takes no memory.
+    /// Removes the record of a key, if there is one. Takes no memory.
     pub(crate) fn take(&mut self, key: &Key)
         ensures { self.new.held ≡ finmap.remove self.old.held key.now }
     {
