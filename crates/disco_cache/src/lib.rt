@@ -1,4 +1,5 @@
-//! Documents as they are kept and served.
+//! The two levels of the response cache: documents that are kept until a change names them, and the
+//! edition that readers see.
 #![tactic(auto)]
 
 mod cache;
