@@ -20,8 +20,8 @@ impl Naming for Brand {
     ghost list = { 0 };
 }
 
-/// A beginning of a press list that ends with a publish, with how many entries it has, which stops at
-/// 2^64 - 1 and then says nothing.
+/// A beginning of a press list that ends with a publish, and its length. A length of 2^64 - 1 says
+/// nothing, since it isn't counted further.
 #[derive(Drop)]
 pub struct LogPrefix {
     pub len: u64,
@@ -31,7 +31,7 @@ pub struct LogPrefix {
 }
 
 impl LogPrefix {
-    /// The same once more. Takes no memory.
+    /// A copy. Takes no memory.
     pub fn again(&self) -> LogPrefix
         ensures { result.witness ≡ self.now.witness }
     {
@@ -97,7 +97,7 @@ impl<J: Naming> PublishedLog<J> {
         self.prefix.is_before(&other.prefix)
     }
 
-    /// The same once more. Takes no memory.
+    /// A copy. Takes no memory.
     pub fn again(&self) -> PublishedLog<J>
         ensures { result ≡ self.now }
     {

@@ -1,4 +1,4 @@
--- Which fetches a refresh makes, and what it does with what they tell.
+-- Which fetches a refresh makes, and what it does with their answers.
 use Rattle.std.specs.Prelude.{◌≡◌, Bool, true, false, List, [], ◌∷◌, if◌then◌else◌, Option, Some, None, Result, Ok, Err}
 use Rattle.disco_instance.specs.Instance.{Gives}
 use Rattle.disco_values.specs.declared.cert.Cert.{Cert}

@@ -1,4 +1,4 @@
--- Only what code keeps: nothing here is to be believed.
+-- What private contracts say of fetches: nothing here is to be believed.
 use Rattle.std.specs.Prelude.{◌≡◌, ◌⊎◌, Bool, true, false, List, Option, Some, None, option_map, Result, Ok, Err}
 use Rattle.disco_instance.specs.Instance.{Gives}
 use Rattle.disco_values.specs.declared.fault.Fault.{Fault}

@@ -71,7 +71,7 @@ IsExact hs f (Some k) = (k.known.form ≡ f) × IsVersionIn (hs k.known.run) k.k
 abbrev pub StaysExact : Form → Option CertifiedCopy → List Exchange → Option CertifiedCopy → Type 0
 StaysExact f held log kept = (hs : Histories) → AreCertified hs f log → IsExact hs f held → IsExact hs f kept
 
--- a copy doesn't go, and while its run stays, its version doesn't fall
+-- a client doesn't lose its copy, and while the copy's run stays, its version doesn't decrease
 abbrev pub NeverFalls : Option CertifiedCopy → Option CertifiedCopy → Type 0
 NeverFalls None kept = Unit {0}
 NeverFalls (Some k) None = ⊥

@@ -1,4 +1,4 @@
-//! The client.
+//! A client that keeps a copy of a registry.
 ghost use Rattle.std.specs.Prelude.{◌≡◌, None, option_map};
 ghost use Rattle.disco_reconcile.specs.Refreshes.{Refreshes};
 ghost use Rattle.disco_reconcile.specs.State.{copy_of, known_in};
@@ -105,7 +105,7 @@ impl<F: Fetch> Client<F> {
         }
     }
 
-    /// Goes on with another fetcher, and gives back the one before. Takes no memory.
+    /// Replaces the fetcher, and gives back the old one. Takes no memory.
     pub fn replace_fetcher(&mut self, fetcher: F) -> F
         ensures before { result ≡ self.old.fetcher }
         ensures now { self.new ≡ record self.old { fetcher = fetcher } }

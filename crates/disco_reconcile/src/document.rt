@@ -1,4 +1,4 @@
-//! Asking for a document.
+//! Fetches a document and reads it.
 ghost use Rattle.std.specs.Prelude.{◌≡◌, ◌⊎◌, ◌==◌, ◌||◌, ◌&&◌, option_map};
 ghost use Rattle.disco_instance.specs.Instance.{Gives};
 ghost use Rattle.disco_wire.specs.Documents.{document_of};
@@ -59,7 +59,7 @@ fn read(alloc: Global, fetched: &Fetched) -> Result<Option<Document>, Fault>
     }
 }
 
-/// What an answer tells.
+/// The document of an answer; none where there is no delta.
 fn told(
     alloc: Global,
     delta: bool,
