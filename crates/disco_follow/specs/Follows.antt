@@ -1,4 +1,4 @@
--- Refreshes one after another, and what is told of them.
+-- Refreshes one after another, and what `follow` writes of them.
 use Rattle.std.specs.Prelude.{◌≡◌, ◌==◌, ℕ, false, List, [], ◌∷◌, length, Option, Result, if◌then◌else◌}
 use Rattle.std.specs.FinMap.{empty}
 use Rattle.std.specs.Io.KnownBytes.{Appends}

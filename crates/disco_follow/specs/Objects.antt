@@ -1,4 +1,4 @@
--- The JSON objects in which a client's copy is told (this project's own format).
+-- The output lines on a client's copy, as JSON objects (this project's own format).
 use Rattle.std.specs.Prelude.{ℕ, List, ◌++◌, codes, map}
 use Rattle.serde_json.specs.Data.{Data, array, member, no_members, number, object, string, unsigned}
 use Rattle.serde_json.specs.View.{items_of}

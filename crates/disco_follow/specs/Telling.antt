@@ -1,4 +1,4 @@
--- What is told of a client and its copy, and when (this project's own rule).
+-- What `follow` writes of a client and its copy, and when (this project's own rule).
 use Rattle.std.specs.Prelude.{◌≡◌, ◌==◌, ◌&&◌, ℕ, Bool, true, not, List, [], ◌++◌, length, filter, Option, Some, Result, Ok, Err}
 use Rattle.std.specs.Prelude.{if◌then◌else◌}
 use Rattle.std.specs.FinMap.{FinMap, values}

@@ -1,4 +1,4 @@
--- The lines in which a client's copy is told (this project's own format).
+-- The output lines on a client's copy, as texts (this project's own format).
 use Rattle.std.specs.Prelude.{ℕ, List, ◌++◌, codes, decimal}
 use Rattle.std.specs.List.{flat_map}
 use Rattle.disco_values.specs.Fault.{fault_number}

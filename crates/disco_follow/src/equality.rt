@@ -93,7 +93,7 @@ fn same_addresses(one: &Details, other: &Details) -> bool
         && same_texts(&one.secure_vip_address, &other.secure_vip_address)
 }
 
-/// Whether instances told the same of themselves.
+/// Whether two details are the same.
 fn same_details(one: &Details, other: &Details) -> bool
     ensures { IsTrue result ↔ (one.now ≡ other.now) }
 {

@@ -74,7 +74,7 @@ fn plan_from(alloc: Global, matches: &ArgMatches<'_>) -> Result<Plan, AllocError
     })
 }
 
-/// Refreshes a certified client over a line, and tells what changes.
+/// Refreshes a certified client by a fetcher, and writes what changes.
 fn tell<R, W: Sink>(
     rt: &R,
     alloc: Global,
@@ -116,7 +116,7 @@ where
     tell(rt, alloc, plan, line, out)
 }
 
-/// Follows what the words name, and gives the exit status.
+/// Follows the registry that the words name, and gives the exit status.
 fn carry_out<R, W: Sink, E: Sink>(
     rt: &R,
     alloc: Global,

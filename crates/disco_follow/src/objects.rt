@@ -1,4 +1,4 @@
-//! The lines of a copy as JSON objects.
+//! The output lines on a client's copy, as JSON objects.
 ghost use Rattle.std.specs.Prelude.{◌≡◌, ◌++◌, IfOk, OnOk, false, map};
 ghost use Rattle.serde_json.specs.Data.{array};
 ghost use Rattle.serde_json.specs.View.{items_of, view};

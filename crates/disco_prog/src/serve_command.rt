@@ -38,7 +38,7 @@ fn service_from(matches: &ArgMatches<'_>, run: u64) -> Service
     }
 }
 
-/// Says that connections are taken, in one write where the host takes it whole. Gives the output back.
+/// Writes that it listens, in one write where the host takes it whole. Gives the output back.
 fn say<'o, W: Sink>(alloc: Global, port: u16, out: &'o mut W) -> Result<&'o mut W, Fault>
     ensures { IfOk result (λ said. Tells W.contents out.entry said (listening_line port)) }
 {
@@ -133,7 +133,7 @@ where
     ensures said { OnOk result (Appends (W.contents out.old) (W.contents out.new) (listening_line service.now.port)) }
 {
     let (mut desk, seats) = open::<J, R>(rt, alloc, &service.settings, service.workers, opening)?;
-    // What is lacking of it is taken later.
+    // The desk takes later what is lacking of it.
     let _kept = desk.keep_reserve();
     let desk = Mutex::new(desk);
     let served = run(rt, alloc, service, clock, listener, &desk, seats, out);

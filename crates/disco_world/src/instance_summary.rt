@@ -1,10 +1,10 @@
-//! What is shown of a client's copy.
+//! Summaries of the instances of a client's copy.
 ghost use Rattle.std.specs.Prelude.{◌≡◌};
 
 use disco_values::{Key, Status};
 use std::marker::Model;
 
-/// An instance of a client's copy.
+/// The key and the status of an instance of a client's copy.
 #[derive(Debug, Drop)]
 pub struct InstanceSummary {
     pub key: Key,
