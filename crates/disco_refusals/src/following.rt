@@ -1,4 +1,4 @@
-//! Refreshes that are told as lines.
+//! Refreshes whose results are written as lines.
 ghost use Rattle.std.specs.Prelude.{◌≡◌, ◌≤◌};
 ghost use Rattle.disco_values.specs.declared.fault.Fault.TheVariants.{NotFetched};
 ghost use Rattle.disco_http.specs.Causes.{Raises};

@@ -1,4 +1,4 @@
-//! Kept documents, by the calls that no event reaches alone.
+//! Tries the calls on kept documents that no event makes alone.
 use crate::given::{empty_hub, key, record, registration};
 use disco_cache::{DocCache, Payload};
 use disco_hub::Hub;
