@@ -214,8 +214,9 @@ fn into_key(op: Op) -> Key
     }
 }
 
-/// Makes the places and the texts that a change of what is held needs. Where its key is held, the places
-/// of its lease and of its texts are there, and aren't sought. Refused only as `OutOfMemory`, with places half made.
+/// Makes the places and the texts that a change of what is held needs. Where its key is held, the
+/// places of its lease and of its texts are there without a search. Refused only as `OutOfMemory`, with
+/// places half made.
 fn open_all(
     index: &mut VipIndex,
     book: &mut LeaseBook,

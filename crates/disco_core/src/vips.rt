@@ -17,8 +17,8 @@ use disco_instance::Record;
 use disco_registry::Registry;
 use disco_values::{Action, Fault};
 
-/// Makes the places that a change needs. Where what is held has the same vips they are there, and
-/// aren't sought. Refused only as `OutOfMemory`.
+/// Makes the places that a change needs. Where the held record has the same vips, they are there
+/// without a search. Refused only as `OutOfMemory`.
 pub(crate) fn open(vips: &mut VipIndex, registry: &Registry, change: &Change) -> Result<(), Fault>
     requires { IsIndexOf vips.old registry.now.held }
     ensures same { IsSameVips vips.old vips.new }

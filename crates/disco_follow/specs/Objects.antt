@@ -18,7 +18,7 @@ held_data change key status =
     object (member (codes "app") (string key.app) (member (codes "change") (string change)
     (member (codes "id") (string key.id) (member (codes "status") (string status) no_members))))
 
--- of an instance that went
+-- of an instance that is gone
 abbrev pub gone_data : Key → Data
 gone_data key =
     object (member (codes "app") (string key.app) (member (codes "change") (string (codes "went"))

@@ -10,7 +10,7 @@ use Rattle.disco_follow.specs.Names.{shown_name}
 use Rattle.disco_follow.specs.declared.change.What.{What}
 use Rattle.disco_follow.specs.declared.change.What.TheVariants.{Came, Changed, Went}
 
--- ` +APP/ID=STATUS` of an instance that came, ` ~APP/ID=STATUS` of one that changed, ` -APP/ID` of one that went
+-- ` +APP/ID=STATUS` of an instance that came, ` ~APP/ID=STATUS` of one that changed, ` -APP/ID` of one that is gone
 unfoldable pub change_text : What → Row → List ℕ
 change_text Came r = codes " +" ++ shown_name r.key.app ++ codes "/" ++ shown_name r.key.id ++ codes "=" ++ status_name r.status
 change_text Changed r = codes " ~" ++ shown_name r.key.app ++ codes "/" ++ shown_name r.key.id ++ codes "=" ++ status_name r.status

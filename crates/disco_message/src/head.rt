@@ -152,7 +152,7 @@ impl Head {
         }
     }
 
-    /// The method, as it stands in the request.
+    /// The method, as in the request.
     pub fn method(&self) -> &Method
         ensures { result.now ≡ self.now.method }
     {

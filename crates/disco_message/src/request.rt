@@ -39,7 +39,7 @@ impl Request {
         (self.head.into_room(), self.body)
     }
 
-    /// The method, as it stands in the request: `get` is another one than `GET`.
+    /// The method, as in the request: `get` is another one than `GET`.
     pub fn method(&self) -> &Method
         ensures { result.now ≡ self.now.method }
     {

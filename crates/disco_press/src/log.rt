@@ -126,7 +126,7 @@ impl<J: Naming> PublicationLog<J> {
         Heard::of_witness(self.entries.witness())
     }
 
-    /// What a reader heard was noted here, and is a beginning of what was noted.
+    /// What a reader has been told of was noted here, and is a beginning of what was noted.
     #[tactic(auto, using(crate::proofs::Publications::notes_begin_too))]
     pub fn meet_all(&mut self, heard: &Heard<J>)
         ensures { (self.new ≡ self.old) × IsPrefix heard.now (all_noted self.old) }

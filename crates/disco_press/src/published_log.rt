@@ -79,6 +79,7 @@ impl<J: Naming> Model for PublishedLog<J> {
 impl<J: Naming> PublishedLog<J> {
     ghost use Rattle.disco_press.specs.Logs.{publications};
 
+    /// The publications in a beginning of the press list.
     pub fn of(prefix: LogPrefix) -> PublishedLog<J>
         requires { prefix.witness.name ≡ J.list }
         ensures { result ≡ publications prefix.witness.items }
@@ -104,12 +105,14 @@ impl<J: Naming> PublishedLog<J> {
         PublishedLog::of(self.prefix.again())
     }
 
+    /// The beginning of the press list.
     pub fn prefix(&self) -> &LogPrefix
         ensures { (result.now.witness.name ≡ J.list) × (publications result.now.witness.items ≡ self.now) }
     {
         &self.prefix
     }
 
+    /// The beginning of the press list, owned.
     pub fn into_prefix(self) -> LogPrefix
         ensures { (result.witness.name ≡ J.list) × (publications result.witness.items ≡ self) }
     {

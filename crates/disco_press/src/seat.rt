@@ -97,7 +97,7 @@ impl<J: Naming> Seat<J> {
         self.reader.known()
     }
 
-    /// What this seat has been told was noted.
+    /// The notes that this seat has been told of.
     pub(crate) fn heard(&self) -> &Heard<J>
         ensures { result.now ≡ self.now.heard }
     {

@@ -169,7 +169,7 @@ where
     serve_by::<J, R, SystemClock<&R>, W, E>(rt, alloc, clock, opening, out, errors, words)
 }
 
-/// Runs the command `serve` as [`serve`] does, by a clock that is handed in, or ends with 1 where there
+/// Runs the command `serve` as [`serve`] does, by the clock of its caller, or ends with 1 where there
 /// is none. Where the words name no run, it is the moment that the clock says first.
 pub fn serve_by<J: Naming + Send + Sync, R, C: Clock + Copy + Send, W: Sink, E: Sink>(
     rt: &R,

@@ -47,7 +47,7 @@ abbrev pub following : Bool → Option Refreshed
 following true = None
 following false = Some DeltaThenFull
 
--- what is kept after what was told of the delta, and what follows
+-- what is kept after the answer to the fetch of the delta, and what follows
 abbrev pub StepTo : {K : Type 0} → OfDelta K → K → FetchAnswer → Result (Option Refreshed) Fault → K → Type 0
 StepTo delta k (Err e) result l = (result ≡ Err e) × (l ≡ k)
 StepTo delta k (Ok None) result l = (result ≡ Ok (Some Full)) × (l ≡ k)

@@ -127,10 +127,10 @@ impl<F: Fetch> Client<F> {
     ///
     /// # Errors
     ///
-    /// `NotFetched` where a fetch failed or its status tells nothing, `BadDocument` where a body is
-    /// no document of many apps, or all apps come to a certified client without a certificate, and
-    /// `OutOfMemory`. The copy is then the old one, or a plain client's that after the overlay
-    /// where what followed it was refused.
+    /// `NotFetched` where a fetch failed or its status is neither 200 nor, for the delta, 403 or 404,
+    /// `BadDocument` where a body is no document of many apps, or all apps come to a certified client
+    /// without a certificate, and `OutOfMemory`. The copy is then the old one, or a plain client's that
+    /// after the overlay where what followed it was refused.
     pub fn refresh(&mut self) -> Result<Refreshed, Fault>
         ensures { Refreshes F.gives F.failed self.old result self.new }
     {

@@ -82,9 +82,9 @@ fn told(
     }
 }
 
-/// Asks for all apps or for the delta. None where there is no delta. Refused as `BadDocument` where
-/// the body is no document of many apps, as `NotFetched` where the fetch failed or its status tells
-/// nothing, and as `OutOfMemory`.
+/// Asks for all apps or for the delta. None where there is no delta. Refused as `BadDocument` where the
+/// body is no document of many apps, as `NotFetched` where the fetch failed or its status is neither
+/// 200 nor, for the delta, 403 or 404, and as `OutOfMemory`.
 pub(crate) fn ask<F: Fetch>(
     alloc: Global,
     fetcher: &mut F,

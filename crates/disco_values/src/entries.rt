@@ -58,6 +58,7 @@ impl Entries {
         }
     }
 
+    /// Entries in byte order of their names, each name once, and none `@class`.
     pub fn from_sorted(entries: Vec<(Text, Text)>) -> Entries
         requires { IsTrue (is_by_name entries.items) }
         ensures { result ≡ entries.items }

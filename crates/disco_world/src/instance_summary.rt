@@ -27,12 +27,14 @@ impl Model for InstanceSummaries {
 }
 
 impl InstanceSummaries {
+    /// The summaries of a `Vec`.
     pub fn from_vec(listed: Vec<InstanceSummary>) -> InstanceSummaries
         ensures { result ≡ listed.items }
     {
         InstanceSummaries { listed }
     }
 
+    /// The summaries as a slice.
     pub fn as_slice(&self) -> &[InstanceSummary]
         ensures { result.now ≡ self.now }
     {

@@ -119,7 +119,7 @@ impl Texts {
     }
 
     /// Keeps the text for the next `put` under the key of a record, which is shared until then, as
-    /// [`Texts::ready`] does. Where the key has a text, its place is there and isn't sought.
+    /// [`Texts::ready`] does. Where the key has a text, its place is there without a search.
     ///
     /// # Errors
     ///
