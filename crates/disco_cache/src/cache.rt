@@ -19,8 +19,8 @@ use std::alloc::Global;
 use std::marker::Model;
 use std::sync::Arc;
 
-/// The first cache level, as Eureka's read-write cache: a limited number of documents by key, each kept
-/// until a change names it.
+/// The first cache level, as Eureka's read-write cache: up to so many documents by key, each until a
+/// change names it.
 #[derive(Drop)]
 pub struct DocCache {
     docs: Vec<Arc<Payload, Global>>,

@@ -1,5 +1,4 @@
-//! The two levels of the response cache: documents that are kept until a change names them, and the
-//! edition that readers see.
+//! The two levels of the response cache: kept documents, and the edition that readers see.
 #![tactic(auto)]
 
 mod cache;

@@ -6,7 +6,7 @@ ghost use Rattle.disco_values.specs.Keys.{doc_cmp, kind_of, place_of};
 use disco_values::{DocKey, Form, Key, Query};
 use std::cmp::Ordering;
 
-/// A query that a change names. It borrows its names from a record.
+/// A query that a change names, borrowed from a record.
 #[derive(Clone, Copy, Debug)]
 pub(crate) enum QueryRef<'a> {
     Apps,

@@ -114,7 +114,6 @@ impl Counted {
         }
     }
 
-    /// The record of a key.
     pub(crate) fn get(&self, key: &Key) -> Option<&Record>
         ensures { seen_record result ≡ record_at self.now.held key.now }
     {

@@ -81,7 +81,6 @@ fn unset<V: Drop>(ids: &mut BTreeMap<Text, V>, id: &Text) -> bool
 }
 
 impl<V: Drop> IdMap<V> {
-    /// No ids.
     pub(crate) fn new(alloc: Global) -> IdMap<V>
         ensures { result ≡ finmap.empty }
     {
@@ -90,14 +89,12 @@ impl<V: Drop> IdMap<V> {
         }
     }
 
-    /// Whether there is no id.
     pub(crate) fn is_empty(&self) -> bool
         ensures { IsTrue result ↔ (self.now ≡ finmap.empty) }
     {
         self.ids.is_empty()
     }
 
-    /// The value of an id.
     pub(crate) fn get(&self, id: &Text) -> Option<&V>
         ensures { option_copied result ≡ finmap.get self.now id.now }
     {

@@ -44,7 +44,6 @@ impl Model for Records {
     ghost invariant = { λ r. AreInPlace r.places r.next r.sought };
 }
 
-/// Whether a record is of a key.
 fn is_of(held: &Held, key: &Key) -> bool
     ensures { result ≡ same_key held.now.rec.value.key key.now }
 {
@@ -155,7 +154,6 @@ fn found_under<'a>(apps: &'a BTreeMap<Text, IdMap<Option<Held>>>, id: &Text) -> 
 }
 
 impl Records {
-    /// No records.
     pub(crate) fn new(alloc: Global) -> Records
         ensures { result ≡ record { held = finmap.empty; next = None } }
     {
@@ -192,7 +190,6 @@ impl Records {
         }
     }
 
-    /// The record of a key.
     pub(crate) fn get(&self, key: &Key) -> Option<&Record>
         ensures found { seen_record result ≡ record_at self.now.held key.now }
         ensures same_key { IfSome result (λ r. r.now.key ≡ key.now) }
@@ -203,7 +200,6 @@ impl Records {
         }
     }
 
-    /// How many records there are.
     pub(crate) fn len(&self) -> usize
         ensures { result ≡ finmap.len self.now.held }
     {

@@ -165,7 +165,6 @@ fn status_given(text: &Option<Text>) -> Option<Status>
     }
 }
 
-/// The record of what is held.
 fn record_of(held: Option<&Held>) -> Option<&Record>
     ensures { seen_record result ≡ option_map (λ e. e.0) (option_map (λ h. entry_of h.now) held.entry) }
 {
