@@ -45,7 +45,6 @@ impl Model for Copy {
     ghost view = { λ c. rows_by_key c.counted.held };
 }
 
-/// Whether a document is of many apps.
 fn is_many(shape: Shape) -> bool
     ensures { IsTrue result ↔ (shape ≡ Many) }
 {

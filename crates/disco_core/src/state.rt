@@ -199,7 +199,6 @@ fn accept_other(held: &mut Registry, op: Op, now: u64) -> Result<Ready, Fault>
     with_kept(ready, into_key(op), renewal, now)
 }
 
-/// The key that an operation is about.
 #[inline(always)]
 fn into_key(op: Op) -> Key
     ensures { result ≡ op_key (op_view op) }
@@ -496,8 +495,8 @@ impl Core {
     }
 
     /// The keys that one run of expiry takes at a moment in milliseconds: those whose leases have run
-    /// out, the earliest first, then by key. At least 85 of 100 instances stay. It takes none where too
-    /// few renewals came in the minute that was closed last.
+    /// out, the earliest first, then by key. It leaves at least 85 of 100 instances, rounded down. It
+    /// takes none where too few renewals came in the minute that was closed last.
     ///
     /// # Errors
     ///

@@ -21,7 +21,6 @@ fn held_value(alloc: Global, change: &str, key: &Key, status: &str) -> Result<Va
     json!(in alloc; {"app": app, "change": change, "id": id, "status": status})
 }
 
-/// An instance that is gone.
 fn gone_value(alloc: Global, key: &Key) -> Result<Value, AllocError>
     ensures { IfOk result (λ v. view v ≡ gone_data key.now) }
 {

@@ -48,7 +48,6 @@ impl<'a, R> ReplySource<'a, R> {
         }
     }
 
-    /// Counts a failure.
     fn fail(&mut self) -> Failed
         ensures { Raises self.old.failures self.new.failures }
     {

@@ -173,8 +173,8 @@ impl Hub {
     }
 
     /// The keys that one run of expiry takes at a moment in milliseconds: those whose leases have run
-    /// out, the earliest first, then by key. At least 85 of 100 instances stay. It takes none where too
-    /// few renewals came in the minute that was closed last.
+    /// out, the earliest first, then by key. It leaves at least 85 of 100 instances, rounded down. It
+    /// takes none where too few renewals came in the minute that was closed last.
     ///
     /// # Errors
     ///

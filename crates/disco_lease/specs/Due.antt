@@ -41,7 +41,7 @@ renewals_needed instances = instances * 2 * 85 / 100
 abbrev pub lets_expire : Minute → Bool
 lets_expire m = nat_lt 0 (renewals_needed m.instances) && nat_lt (renewals_needed m.instances) m.renewals
 
--- how many of so many instances one run takes at most: 85 of 100 stay
+-- how many of so many instances one run takes at most: 85 of 100, rounded down, stay
 abbrev pub most_taken : ℕ → ℕ
 most_taken held = held - held * 85 / 100
 

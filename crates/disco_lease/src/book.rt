@@ -188,9 +188,9 @@ impl LeaseBook {
     }
 
     /// The keys that one run of expiry takes at a moment in milliseconds, where `held` instances are
-    /// held: those whose leases have run out, the earliest first, then by key. At least 85 of 100
-    /// instances stay. It takes none where too few renewals came in the minute that was closed last. A
-    /// run costs a pass over all leases, and a second one where it takes any.
+    /// held: those whose leases have run out, the earliest first, then by key. It leaves at least 85 of
+    /// 100 instances, rounded down. It takes none where too few renewals came in the minute that was
+    /// closed last. A run costs a pass over all leases, and a second one where it takes any.
     ///
     /// # Errors
     ///

@@ -1,4 +1,4 @@
-//! Runs the rows in the folders of the current one, and compares every byte with what is wanted.
+//! Runs the rows in the folders of the current folder, and compares every byte with what is wanted.
 //!
 //! It also joins each answered document anew, from texts that are made of the document's own mentions,
 //! and compares the two. It runs each connection four times over a hub and four times over a desk under

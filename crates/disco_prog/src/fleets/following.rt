@@ -55,7 +55,6 @@ fn go_on(client: &mut Follower, connected: Connected) {
     client.replace_fetcher(line.over(connected));
 }
 
-/// Ends the connection of a client.
 fn hang_up(client: &mut Follower) {
     let line = client.replace_fetcher(Line::new());
     client.replace_fetcher(line.hung_up());
