@@ -10,7 +10,7 @@ pub record Docs : Type 0 where
   pub docs : FinMap doc_cmp Payload
   pub max : ℕ
 
--- the keys of which it is asked have no document any more, and each other key what it had
+-- the keys for which `of` is true have no document any more, and each other key has what it had
 pub record Drops (of : DocKey → Bool) (old new : Docs) : Type 0 where
   pub docs : (k : DocKey) → get new.docs k ≡ (if of k then None else get old.docs k)
   pub max : new.max ≡ old.max

@@ -1,4 +1,5 @@
--- Kept documents as they are stored, and what names them. Nothing here is to be believed: no public contract rests on it.
+-- Kept documents as they are stored, and the queries that a change names. Nothing here is to be believed: no public
+-- contract rests on it.
 use Rattle.std.specs.Prelude.{◌≡◌, ℕ, Bool, List, if◌then◌else◌, Option, Some, None}
 use Rattle.disco_instance.specs.Row.{Row}
 use Rattle.std.specs.List.{list_any}
@@ -41,7 +42,7 @@ IsDocAt ds k i = IsAtBy doc_cmp doc_key ds k i
 abbrev pub IsDocGap : Stored → DocKey → ℕ → Type 0
 IsDocGap ds k i = IsGapBy doc_cmp doc_key ds k i
 
--- the query of what is named
+-- a borrowed query as a query
 abbrev pub query_of : QueryRef → Query
 query_of query_ref.Apps = query.Apps
 query_of query_ref.Delta = query.Delta

@@ -1,4 +1,4 @@
-//! The documents that are kept until a change names them.
+//! The first cache level: documents that are kept until a change names them.
 ghost use Rattle.std.specs.Prelude.{◌≡◌, ◌≤◌, ◌||◌, IfErr, IfOk, IfSome, IsTrue, OnErr, false, if◌then◌else◌, length, map, nat_lt, option_map};
 ghost use Rattle.std.specs.Option.{option_map_or};
 ghost use Rattle.std.specs.List as list;
@@ -19,7 +19,8 @@ use std::alloc::Global;
 use std::marker::Model;
 use std::sync::Arc;
 
-/// Documents by key: at most so many, each until a change names it.
+/// The first cache level, as Eureka's read-write cache: up to so many documents by key, each until a
+/// change names it.
 #[derive(Drop)]
 pub struct DocCache {
     docs: Vec<Arc<Payload, Global>>,
@@ -50,7 +51,7 @@ fn place(docs: &[Arc<Payload, Global>], key: &DocKey) -> Result<usize, usize>
     docs.binary_search_by(|doc| doc.key.cmp(key))
 }
 
-/// Where the document of what is named is, in a form, or where it would go.
+/// Where the document of a query is, in a form, or where it would go.
 fn place_of(
     docs: &[Arc<Payload, Global>],
     query_ref: QueryRef<'_>,
@@ -109,7 +110,7 @@ fn are_asked_alike(old: Option<&Record>, new: Option<&Record>) -> bool
 }
 
 impl DocCache {
-    /// No documents, and room for so many (`--entries`).
+    /// An empty cache, for at most so many documents (`--entries`).
     pub fn new(alloc: Global, entries: u64) -> DocCache
         ensures { result ≡ record { docs = finmap.empty; max = entries } }
     {
@@ -137,8 +138,8 @@ impl DocCache {
         }
     }
 
-    /// Keeps a document, in the place of that of its key where there is one. Answers whether it is
-    /// kept: not where there is no room for one more.
+    /// Keeps a document, and replaces that of its key where there is one. Answers whether it is kept:
+    /// it isn't where the cache is full.
     ///
     /// # Errors
     ///
@@ -171,9 +172,9 @@ impl DocCache {
         keys_of(&self.docs, alloc)
     }
 
-    /// Drops each document, in both forms, that a change names: whose query asks for the record
-    /// that was there or for the one that is put. Takes no memory, and costs what the records have
-    /// vips.
+    /// Drops each document, in both forms, that a change names: whose query asks for the record that
+    /// was there or for the one that is put. Takes no memory. The cost grows with the number of the
+    /// records' vips.
     pub fn invalidate(&mut self, old: Option<&Record>, new: Option<&Record>)
         ensures { Drops (λ k. is_named (option_map (λ r. row r.now) old.entry) (option_map (λ r. row r.now) new.entry) (asked_by k.query)) self.old self.new }
     {
@@ -218,7 +219,7 @@ impl DocCache {
         }
     }
 
-    /// Drops the documents of what is named, in both forms.
+    /// Drops the documents of a query, in both forms.
     fn drop_both(&mut self, query_ref: QueryRef<'_>)
         ensures { Drops (is_of (query_of query_ref.entry)) self.old self.new }
     {

@@ -1,4 +1,4 @@
-//! Documents that a publisher shows to readers.
+//! The second cache level: documents that a publisher shows to readers.
 ghost use Rattle.std.specs.Prelude.{◌≡◌, IfErr, IfOk, IfSome, OnErr, OnOk, option_map};
 ghost use Rattle.std.specs.FinMap as finmap;
 ghost use Rattle.disco_values.specs.declared.fault.Fault.TheVariants.{OutOfMemory};
@@ -11,7 +11,7 @@ use std::alloc::Global;
 use std::marker::Model;
 use std::sync::Arc;
 
-/// Documents by key, as many as were copied.
+/// The second cache level, as Eureka's read-only cache: documents by key, as many as were copied.
 #[derive(Drop)]
 pub struct Edition {
     entries: Vec<Entry>,
@@ -43,7 +43,7 @@ fn place(entries: &[Entry], key: &DocKey) -> Result<usize, usize>
 }
 
 impl Edition {
-    /// No documents.
+    /// An empty edition.
     pub fn new(alloc: Global) -> Edition
         ensures { result ≡ finmap.empty }
     {
@@ -70,7 +70,7 @@ impl Edition {
         }
     }
 
-    /// Puts a document in, in the place of that of its key where there is one.
+    /// Puts a document in, and replaces that of its key where there is one.
     ///
     /// # Errors
     ///
@@ -88,7 +88,7 @@ impl Edition {
         Ok(())
     }
 
-    /// Takes the document of a key out, if there is one. Takes no memory.
+    /// Removes the document of a key, if there is one. Takes no memory.
     pub fn remove(&mut self, key: &DocKey)
         ensures { self.new ≡ finmap.remove self.old key.now }
     {

@@ -7,7 +7,7 @@ use disco_values::{DocKey, Fault};
 use std::alloc::Global;
 use std::sync::Arc;
 
-/// A document, and its key beside it: a search reads keys alone, and none of the memory in which other
+/// A document, with a copy of its key: a search reads keys alone, and not the memory in which other
 /// readers count their shares of documents.
 #[derive(Drop)]
 pub(crate) struct Entry {

@@ -1,4 +1,4 @@
-//! Documents as they are kept and served.
+//! The two levels of the response cache: kept documents, and the edition that readers see.
 #![tactic(auto)]
 
 mod cache;

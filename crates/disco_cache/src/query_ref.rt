@@ -1,4 +1,4 @@
-//! What a change names.
+//! Queries that a change names.
 ghost use Rattle.std.specs.Prelude.{◌≡◌};
 ghost use Rattle.disco_cache.specs.Kept.{doc_of, query_cmp, query_of, vip_query};
 ghost use Rattle.disco_values.specs.Keys.{doc_cmp, kind_of, place_of};
@@ -6,7 +6,7 @@ ghost use Rattle.disco_values.specs.Keys.{doc_cmp, kind_of, place_of};
 use disco_values::{DocKey, Form, Key, Query};
 use std::cmp::Ordering;
 
-/// What a change names: a query whose names are borrowed from a record.
+/// A query that a change names, borrowed from a record.
 #[derive(Clone, Copy, Debug)]
 pub(crate) enum QueryRef<'a> {
     Apps,
@@ -56,7 +56,7 @@ fn kind(query: &Query) -> u8
     }
 }
 
-/// The order of a query and of what is named: by kind, then by names.
+/// The order of a query and a borrowed one: by kind, then by names.
 fn order(query: &Query, query_ref: QueryRef<'_>) -> Ordering
     ensures { result ≡ query_cmp query.now (query_of query_ref.entry) }
 {
@@ -78,7 +78,7 @@ fn place(form: Form) -> u8
     }
 }
 
-/// The order of a key and of what is named, in a form.
+/// The order of a key and that of a borrowed query in a form.
 pub(crate) fn compare(key: &DocKey, query_ref: QueryRef<'_>, form: Form) -> Ordering
     ensures { result ≡ doc_cmp key.now (doc_of (query_of query_ref.entry) form) }
 {

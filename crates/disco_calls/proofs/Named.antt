@@ -1,4 +1,4 @@
--- Walks over rows that begin with a parameter: it takes what stands before the next slash.
+-- Walks over rows that begin with a parameter: it takes what is before the next slash.
 use Rattle.std.proofs.Common.{◌≡◌, inl, inr, ℕ, ◌+◌, ◌-◌, List, [], ◌∷◌, length, drop, Option, Some, None, Bool, true, false, cond, ◌&&◌, refl, sym, ◌∙◌, arith, nat_eq, ◌==◌, ltb}
 use Rattle.std.proofs.lemmas.Bool.Decides.{nat_tests}
 use Rattle.std.specs.Cmp.Lexicographic.{pointwise}

@@ -1,4 +1,4 @@
--- What a reader accepts.
+-- Which documents a client accepts, by the fields of its request.
 use Rattle.std.specs.Prelude.{ℕ, Bool, false, not, ◌&&◌, ◌||◌, List, [], ◌∷◌, length, take, nat_le, if◌then◌else◌, codes}
 use Rattle.std.specs.List.{list_any}
 use Rattle.disco_values.specs.declared.form.Form.{Form}
@@ -18,7 +18,8 @@ has_word word (b ∷ bs) = begins word (b ∷ bs) || has_word word bs
 abbrev pub have_word : List ℕ → List (List ℕ) → Bool
 have_word word vs = list_any (λ v. has_word word v) vs
 
--- JSON is not accepted where the Accept fields name XML, and neither JSON nor anything (this project's own rule for RFC 9110, section 12.5.1)
+-- whether JSON may be answered: not where the Accept fields name XML, and neither JSON nor `*/*` (this project's own
+-- rule for RFC 9110, section 12.5.1)
 abbrev pub takes_json : List (List ℕ × List ℕ) → Bool
 takes_json fields =
     let accepted = field_values (codes "accept") fields in

@@ -15,7 +15,7 @@ allow_of (place.Status app id) = allow.PutDelete
 allow_of (place.Metadata app id) = allow.Put
 allow_of _ = allow.Get
 
--- their names
+-- the names of these methods
 abbrev pub names : Allow → List (List ℕ)
 names allow.Get = codes "GET" ∷ []
 names allow.GetPost = codes "GET" ∷ codes "POST" ∷ []

@@ -20,7 +20,7 @@ with_row (Err e) value rows = rows
 abbrev Rows : Type 0
 Rows = RowsOf (RouteOf Route)
 
--- and those of apps and of what changed
+-- the rows with those of apps and of the delta
 unfoldable pub with_apps : Rows → Rows
 with_apps rows =
     with_row (parse_route (codes "/apps/{app}")) App
@@ -28,14 +28,14 @@ with_apps rows =
     (with_row (parse_route (codes "/apps/")) Apps
     (with_row (parse_route (codes "/apps")) Apps rows)))
 
--- and those of an instance of an app
+-- the rows with those of an instance of an app
 unfoldable pub with_instances : Rows → Rows
 with_instances rows =
     with_row (parse_route (codes "/apps/{app}/{id}/metadata")) Metadata
     (with_row (parse_route (codes "/apps/{app}/{id}/status")) Status
     (with_row (parse_route (codes "/apps/{app}/{id}")) Instance rows))
 
--- and those of ids and vips
+-- the rows with those of ids and vips
 unfoldable pub with_vips : Rows → Rows
 with_vips rows =
     with_row (parse_route (codes "/svips/{svip}")) Svip

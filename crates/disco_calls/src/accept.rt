@@ -1,4 +1,4 @@
-//! What a reader accepts.
+//! Which documents a client accepts, by the fields of its request.
 ghost use Rattle.std.specs.Prelude.{◌≡◌, codes};
 ghost use Rattle.disco_message.specs.Fields.{field_values};
 ghost use Rattle.disco_calls.specs.Accept.{begins, form_of, has_word, have_word, takes_json};
@@ -34,8 +34,8 @@ fn accepts(request: &Request, word: &[u8]) -> bool
     request.values(b"accept").any(|value| has_word(value, word))
 }
 
-/// Whether JSON may be answered: not where the Accept fields name XML, and neither JSON nor anything
-/// (this project's own rule for RFC 9110, section 12.5.1).
+/// Whether JSON may be answered: not where the Accept fields name XML, and neither JSON nor `*/*` (this
+/// project's own rule for RFC 9110, section 12.5.1).
 pub(crate) fn takes_json(request: &Request) -> bool
     ensures { result ≡ takes_json request.now.fields }
 {

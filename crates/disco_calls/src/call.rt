@@ -1,10 +1,10 @@
-//! What a request asks for.
+//! Calls: what a request asks for.
 
 use disco_message::Allow;
 use disco_registry::Op;
 use disco_values::{DocKey, Form, Key, Text};
 
-/// What a request asks for.
+/// A call: what a request asks for.
 #[derive(Debug, Drop)]
 pub enum Call {
     /// The document of a query, which readers may share.

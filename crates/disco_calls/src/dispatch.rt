@@ -1,4 +1,4 @@
-//! From a request to what it asks for.
+//! Makes the call of a request.
 ghost use Rattle.disco_instance.specs.Instance.{Gives};
 ghost use Rattle.disco_registry.specs.Op.{op_view};
 ghost use Rattle.disco_calls.specs.Places.{place_view};
@@ -125,8 +125,8 @@ fn call_at(
     }
 }
 
-/// What a request asks for, at the path of its target and with its method. A path that lacks the
-/// method is answered by what it has.
+/// What a request asks for, at the path of its target and with its method. Where the path lacks the
+/// method, the call names the methods that it has.
 ///
 /// # Errors
 ///

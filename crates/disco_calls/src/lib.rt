@@ -1,6 +1,6 @@
 //! What a request to a discovery server asks for, by the paths and methods of Eureka's REST operations
-//! behind `/eureka/v2`: [`Routes`] finds the [`Place`] of a path, and [`call_of`] makes a [`Call`] of a
-//! request, and does nothing.
+//! under `/eureka/v2`: [`Routes`] finds the [`Place`] of a path, and [`call_of`] makes the [`Call`] of
+//! a request.
 #![tactic(auto)]
 
 mod accept;

@@ -1,4 +1,4 @@
-//! Parts of a path.
+//! Splits a path at its first slash.
 ghost use Rattle.std.specs.Prelude.{◌≡◌};
 ghost use Rattle.std.specs.List.{after_first, before_first, position};
 ghost use Rattle.disco_calls.specs.Paths.{is_slash};
@@ -9,8 +9,7 @@ fn first_slash(path: &[u8]) -> Option<usize>
     path.iter().position(|b| *b == b'/')
 }
 
-/// What stands before the first slash, and what stands behind it: all of a path without a slash, and
-/// nothing.
+/// The parts of a path before and behind its first slash. Without a slash: the whole path, and nothing.
 pub(crate) fn split(path: &[u8]) -> (&[u8], &[u8])
     ensures part { result.0.now ≡ before_first is_slash path.now }
     ensures rest { result.1.now ≡ after_first is_slash path.now }

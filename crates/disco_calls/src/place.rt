@@ -1,6 +1,6 @@
-//! What a path names.
+//! Places: what paths name.
 
-/// What a path behind `/eureka/v2` names, with the names in it.
+/// A place: what a path behind `/eureka/v2` names, with the names in it.
 #[derive(Debug, PartialEq, Eq, Drop)]
 pub enum Place<T> {
     /// `/apps` and `/apps/`: all apps.

@@ -10,7 +10,7 @@ use crate::route::Route;
 use matchit::{InsertError, Router};
 use std::alloc::{AllocError, Global};
 
-/// What stands before each path of the table.
+/// The prefix of each path of the table.
 const BASE: &str = "/eureka/v2";
 
 /// The table of paths.

@@ -20,7 +20,7 @@ same_form Full Full = true
 same_form Compact Compact = true
 same_form _ _ = false
 
--- where a document of a form puts a copy
+-- where a copy is known after a document of this form and certificate
 abbrev pub known_at : Form → Cert → Known
 known_at f c = record { form = f; run = c.run; version = c.version }
 

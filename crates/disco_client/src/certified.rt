@@ -1,4 +1,4 @@
-//! A copy that is always known.
+//! The copy of a certified client: its run and its version are always known.
 ghost use Rattle.std.specs.Prelude.{◌≡◌, IfErr, IfOk, OnErr, if◌then◌else◌};
 ghost use Rattle.disco_values.specs.declared.fault.Fault.TheVariants.{OutOfMemory};
 ghost use Rattle.disco_history.specs.Mentions.{copied, overlay};
@@ -12,8 +12,8 @@ use disco_values::{Cert, Fault, Form};
 use disco_wire::Wire;
 use std::alloc::Global;
 
-/// A copy that goes by certificates alone. Where the documents that it is made of are true, it is
-/// exactly the version at which it is known, of the history of the run at which it is known.
+/// A copy that goes by certificates alone. Where its documents are true, it is exactly the version that
+/// it is known at, of the history of its run.
 #[derive(Drop)]
 pub struct CertifiedCopy {
     pub copy: Copy,
@@ -39,7 +39,7 @@ impl CertifiedCopy {
         })
     }
 
-    /// Takes a document of all apps, unless it is of the copy's run and older. Says whether it was
+    /// Takes a document of all apps, unless it is of the copy's run and older. Answers whether it was
     /// taken.
     ///
     /// # Errors
@@ -68,8 +68,8 @@ impl CertifiedCopy {
         Ok(true)
     }
 
-    /// Overlays a delta that reaches the copy, and no other, whatever its hash code. Says whether it
-    /// was overlaid.
+    /// Overlays a delta if it reaches the copy, whatever its hash code. Answers whether it was
+    /// overlaid.
     ///
     /// # Errors
     ///

@@ -1,4 +1,4 @@
-//! The copy.
+//! A client's copy of a registry.
 ghost use Rattle.std.specs.Prelude.{◌≡◌, ◌≢◌, ◌↔◌, Err, IfOk, IfErr, IsTrue, OnOk, OnErr, filter, map};
 ghost use Rattle.std.specs.FinMap.{empty, get, len, values};
 ghost use Rattle.std.specs.Str.{bytes_eq};
@@ -22,8 +22,8 @@ use disco_wire::{Shape, Wire};
 use std::alloc::Global;
 use std::marker::Model;
 
-/// A client's copy of a registry: the records by key. Its hash code takes no time for the number
-/// of instances.
+/// A client's copy of a registry: the records by key. The time for its hash code doesn't depend on the
+/// number of instances.
 #[derive(Drop)]
 pub struct Copy {
     alloc: Global,
@@ -45,7 +45,6 @@ impl Model for Copy {
     ghost view = { λ c. rows_by_key c.counted.held };
 }
 
-/// Whether a document is of many apps.
 fn is_many(shape: Shape) -> bool
     ensures { IsTrue result ↔ (shape ≡ Many) }
 {
@@ -56,7 +55,7 @@ fn is_many(shape: Shape) -> bool
 }
 
 impl Copy {
-    /// No records. What the copy takes of memory it takes from `alloc`.
+    /// An empty copy, which takes its memory from `alloc`.
     pub fn new(alloc: Global) -> Copy
         ensures { result ≡ empty }
     {
@@ -66,8 +65,8 @@ impl Copy {
         }
     }
 
-    /// The copy becomes the records of a full document: of each key its last mention, whatever was
-    /// done to it.
+    /// Replaces the copy by the records of a full document: of each key its last mention, whatever its
+    /// action.
     ///
     /// # Errors
     ///
@@ -90,8 +89,8 @@ impl Copy {
         Ok(())
     }
 
-    /// A delta is overlaid on the copy: of each key its last mention with a known action counts,
-    /// which puts the instance or, where it was deleted, takes it out.
+    /// Overlays a delta on the copy: of each key the last mention with a known action puts the
+    /// instance, or removes it where it was deleted.
     ///
     /// # Errors
     ///
@@ -170,8 +169,7 @@ impl Copy {
         self.counted.get(key)
     }
 
-    /// The same copy once more, which stays as it is while this one goes on. The records are shared,
-    /// not copied.
+    /// A second copy, which stays as it is while this one changes. It shares the records.
     ///
     /// # Errors
     ///

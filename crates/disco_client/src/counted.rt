@@ -37,7 +37,7 @@ impl Model for Counted {
     ghost invariant = { λ c. IsCounted c.records.held c.counts };
 }
 
-/// Counts no more what is held at a key.
+/// Takes the record that is held at a key out of the counts.
 #[tactic(auto, using(disco_index::proofs::Changes::held_law))]
 fn uncount(counts: &mut Counts, records: &RecordList, key: &Key)
     requires { counts.old ≡ tally_in records.now.held }
@@ -67,7 +67,7 @@ impl Counted {
         self.records.reserve_for(records)
     }
 
-    /// Puts a record in, in the place of that of its key or in room that is there.
+    /// Puts a record in: it replaces that of its key, or takes room that is there.
     #[tactic(auto, using(disco_index::proofs::Changes::insert_law))]
     fn put(&mut self, added: Held)
         requires { 0 < self.old.room }
@@ -82,7 +82,7 @@ impl Counted {
         self.counts.add(status);
     }
 
-    /// Takes the record of a key out, if there is one.
+    /// Removes the record of a key, if there is one.
     #[tactic(auto, using(disco_index::proofs::Changes::remove_law))]
     fn take(&mut self, key: &Key)
         ensures held { self.new.held ≡ remove self.old.held key.now }
@@ -92,7 +92,7 @@ impl Counted {
         self.records.take(key);
     }
 
-    /// Puts the record in, or takes that of its key out where it was deleted.
+    /// Puts the record of a change in, or removes that of its key where it was deleted.
     fn follow(&mut self, change: Held)
         requires { 0 < self.old.room }
         ensures held { self.new.held ≡ put_or_taken self.old.held (entry_of change) }
@@ -104,7 +104,7 @@ impl Counted {
         }
     }
 
-    /// Follows one change after another, in room that is there. Takes no memory.
+    /// Applies one change after another, in room that is there. Takes no memory.
     pub(crate) fn follow_all(&mut self, changes: Vec<Held>)
         requires { vec_len changes ≤ self.old.room }
         ensures { self.new.held ≡ after_all self.old.held (map entry_of changes.items) }
@@ -114,14 +114,13 @@ impl Counted {
         }
     }
 
-    /// The record of a key.
     pub(crate) fn get(&self, key: &Key) -> Option<&Record>
         ensures { seen_record result ≡ record_at self.now.held key.now }
     {
         self.records.get(key)
     }
 
-    /// The same once more. The records are shared, not copied.
+    /// A copy. It shares the records.
     pub(crate) fn share(&self, alloc: Global) -> Result<Counted, AllocError>
         ensures { IfOk result (λ c. c.held ≡ self.now.held) }
     {

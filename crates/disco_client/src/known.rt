@@ -1,4 +1,4 @@
-//! Where a copy is known.
+//! The form, run and version at which a copy is known.
 ghost use Rattle.std.specs.Prelude.{◌≡◌};
 ghost use Rattle.disco_client.specs.Tracks.{gives_way, known_at, moved, reaches, same_form};
 
@@ -13,7 +13,7 @@ pub struct Known {
 }
 
 impl Known {
-    /// Where a document of a form puts a copy.
+    /// Where a copy is known after a document of this form and certificate.
     pub fn of(form: Form, cert: Cert) -> Known
         ensures { result ≡ known_at form cert }
     {

@@ -1,8 +1,8 @@
 //! A client's copy of a registry.
 //!
-//! A full document replaces the copy, and a delta is overlaid on it. What the copy holds after
-//! each is said by the document and the copy before it alone, whoever wrote the document. A
-//! `CertifiedCopy` takes only documents after which it is known of which run and version it is.
+//! A full document replaces the copy, and a delta is overlaid on it. What the copy holds after each
+//! depends on the document and the copy before it alone, whoever wrote the document. A `CertifiedCopy`
+//! takes only documents after which its run and version are known.
 #![tactic(auto)]
 
 mod certified;

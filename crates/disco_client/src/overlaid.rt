@@ -1,6 +1,6 @@
-//! What came of a delta.
+//! The result of an overlay.
 
-/// What came of a delta.
+/// The result of the overlay of a delta.
 #[derive(Clone, Copy, Debug, PartialEq, Eq)]
 pub struct Overlaid {
     /// Whether the document has a hash code and it is that of the new copy. If not, Eureka's client

@@ -1,4 +1,4 @@
--- Why a document that was written is true.
+-- A written document is true.
 use Rattle.std.proofs.Common.{◌≡◌, ◌≤◌, ℕ, true, false, List, length, Some, Ok, refl, sym, ap, subst, ◌∙◌, arith}
 use Rattle.std.proofs.Math.Seq.{take-length}
 use Rattle.disco_history.specs.Change.{Entry, prefix}

@@ -85,7 +85,7 @@ abbrev pub AddsAny : Option Entry → VipKeys → VipKeys → Type 0
 AddsAny None old new = vips.IsSameVips old new
 AddsAny (Some e) old new = Adds e.0 old new
 
--- no place of the entry stands empty
+-- no place of the entry is empty
 abbrev pub IsSwept : VipKeys → Option Entry → Type 0
 IsSwept v None = Unit {0}
 IsSwept v (Some e) = HasNoneEmpty v e.0
@@ -100,12 +100,12 @@ abbrev pub HasRoomFor : Queue → Option Entry → Type 0
 HasRoomFor q None = Unit {0}
 HasRoomFor q (Some c) = HasRoom q × queue.HasNumberPlace (key_of c) q
 
--- no place of what a change found, and none of its key's lease, stands empty after it, if there is one
+-- no place of what a change found, and none of its key's lease, is empty after it, if there is one
 abbrev pub IsSweptAfter : FinMap key_cmp Entry → Option Entry → VipKeys → Leases → Type 0
 IsSweptAfter held None v l = Unit {0}
 IsSweptAfter held (Some c) v l = IsSwept v (get held (key_of c)) × IsFilled (key_of c) l
 
--- there is no place of a vip, a lease, a text or a recent change that was not there
+-- there is no new place of a vip, a lease, a text or a recent change
 abbrev pub AddsNoPlaces : CoreState → CoreState → Type 0
 AddsNoPlaces old new = vips.KeepsVipPlaces new.vips old.vips × leases.KeepsPlaces new.leases old.leases × OpensNoText old.texts new.texts
     × (new.queue.places ≡ old.queue.places)

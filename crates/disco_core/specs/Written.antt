@@ -51,11 +51,11 @@ abbrev pub HasTextsFor : KeptTexts → Option Entry → Type 0
 HasTextsFor w None = Unit {0}
 HasTextsFor w (Some c) = HasTexts w (put_of c)
 
--- no place of a text stands empty
+-- no place of a text is empty
 abbrev pub HasNoEmptyText : KeptTexts → Type 0
 HasNoEmptyText w = HasNoEmpty w.full.places × HasNoEmpty w.compact.places
 
--- no place of a text stands empty that did not before
+-- no place of a text is empty that wasn't before
 abbrev pub OpensNone : StoredTexts → StoredTexts → Type 0
 OpensNone old new = (q : Key) → get new.places q ≡ Some None → get old.places q ≡ Some None
 

@@ -10,7 +10,7 @@ use disco_index::Counts;
 use disco_registry::Registry;
 use disco_values::{Action, Key};
 
-/// Counts no more what the registry has at a key.
+/// Takes the record that the registry has at a key out of the counts.
 #[tactic(auto, using(disco_index::proofs::Changes::held_law))]
 fn uncount(counts: &mut Counts, registry: &Registry, key: &Key)
     requires { counts.old ≡ tally_in registry.now.held }

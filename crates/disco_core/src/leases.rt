@@ -102,8 +102,9 @@ pub(crate) fn keep(leases: &mut LeaseBook, key: &Key, renewal: bool, now: u64)
     };
 }
 
-/// Renews the lease of a key, where the registry accepts that. Each instance has a lease, and only one of
-/// unknown status may not renew it: so the record is sought only where some instance is of that status.
+/// Renews the lease of a key, where the registry accepts that. Each instance has a lease, and only one
+/// of unknown status may not renew it: so it searches for the record only where some instance is of
+/// that status.
 pub(crate) fn renew(
     leases: &mut LeaseBook,
     registry: &Registry,

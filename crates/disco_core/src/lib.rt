@@ -1,4 +1,4 @@
-//! One state behind all documents: the registry with what is kept beside it.
+//! The registry with all that follows its changes: counts, vips, leases, texts and recent changes.
 #![tactic(auto)]
 
 mod counts;

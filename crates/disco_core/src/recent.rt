@@ -10,7 +10,7 @@ use disco_history::Change;
 use disco_queue::ChangedQueue;
 use std::alloc::AllocError;
 
-/// The change once more, if there is one. Its record is shared.
+/// A copy of the change, if there is one. It shares the record.
 pub(crate) fn shared(change: Option<&Change>) -> Result<Option<Change>, AllocError>
     requires { IfSome change (λ c. is_proper c.now ≡ true) }
     ensures same { IfOk result (λ o. option_map change_view o ≡ option_map (λ c. change_view c.now) change.entry) }
@@ -22,7 +22,7 @@ pub(crate) fn shared(change: Option<&Change>) -> Result<Option<Change>, AllocErr
     }
 }
 
-/// The queue keeps a change more, if there is one. Takes no memory.
+/// Adds a change to the queue, if there is one. Takes no memory.
 pub(crate) fn remember(queue: &mut ChangedQueue, change: Option<Change>, now: u64)
     requires room { HasRoomFor queue.old (option_map change_view change) }
     requires version { version_after (version queue.old) (option_map change_view change) < 2 ^ 64 }

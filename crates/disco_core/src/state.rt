@@ -95,9 +95,9 @@ pub struct Ready {
     ready: disco_registry::Ready,
     key: Key,
     renewal: bool,
-    /// The change once more, for the queue.
+    /// A copy of the change, for the queue.
     kept: Option<Change>,
-    /// In milliseconds.
+    /// The moment of the operation, in milliseconds.
     moment: u64,
 }
 
@@ -122,7 +122,7 @@ impl Ready {
         self.ready.change()
     }
 
-    /// The change to come once more, where there is one.
+    /// A copy of the change to come, where there is one.
     ///
     /// # Errors
     ///
@@ -136,7 +136,7 @@ impl Ready {
     }
 }
 
-/// What is ready of an operation, with its change once more.
+/// What is ready of an operation, with a copy of its change.
 #[inline(always)]
 fn with_kept(
     ready: disco_registry::Ready,
@@ -199,7 +199,6 @@ fn accept_other(held: &mut Registry, op: Op, now: u64) -> Result<Ready, Fault>
     with_kept(ready, into_key(op), renewal, now)
 }
 
-/// The key that an operation is about.
 #[inline(always)]
 fn into_key(op: Op) -> Key
     ensures { result ≡ op_key (op_view op) }
@@ -214,8 +213,9 @@ fn into_key(op: Op) -> Key
     }
 }
 
-/// Makes the places and the texts that a change of what is held needs. Where its key is held, the places
-/// of its lease and of its texts are there, and aren't sought. Refused only as `OutOfMemory`, with places half made.
+/// Makes the places and the texts that a change of what is held needs. Where its key is held, the
+/// places of its lease and of its texts are there without a search. Refused only as `OutOfMemory`, with
+/// places half made.
 fn open_all(
     index: &mut VipIndex,
     book: &mut LeaseBook,
@@ -246,7 +246,7 @@ fn open_all(
     queue.ready(change.key())
 }
 
-/// Gives back the places of a change that stand empty.
+/// Gives back the empty places of a change.
 fn sweep_all(index: &mut VipIndex, book: &mut LeaseBook, texts: &mut BothTexts, change: &Change)
     ensures vips { vip.IsSameVips index.old index.new }
     ensures other_vips { OthersStay (put_of (change_view change.now)) index.old index.new }
@@ -379,13 +379,13 @@ impl Core {
         self.delta
     }
 
-    /// Makes every growth that an operation at a moment in milliseconds needs, and the texts of what
-    /// it puts, and changes no answer.
+    /// Takes all memory that an operation at a moment in milliseconds needs, makes the texts of what it
+    /// puts, and changes no answer.
     ///
     /// # Errors
     ///
-    /// What the operation is refused as, and `OutOfMemory`. Then no place of a vip, a lease, a text
-    /// or a recent change stays that was not there.
+    /// The fault of the operation, or `OutOfMemory`. Then no new place of a vip, a lease, a text or a
+    /// recent change stays.
     pub fn ready(&mut self, op: Op, now: u64) -> Result<Ready, Fault>
         ensures same { IsSameCore self.old self.new }
         ensures ready { IfOk result (λ r. accepts self.old.registry (op_view op) now ≡ Ok r.change × IsCoreReady self.new r) }
@@ -494,9 +494,9 @@ impl Core {
         }
     }
 
-    /// The keys that one run takes at a moment in milliseconds: those whose leases have run out, the
-    /// earliest first, then by key, as far as 85 of 100 instances stay; none where too few renewals
-    /// came in the minute that was closed last.
+    /// The keys that one run of expiry takes at a moment in milliseconds: those whose leases have run
+    /// out, the earliest first, then by key. It leaves at least 85 of 100 instances, rounded down. It
+    /// takes none where too few renewals came in the minute that was closed last.
     ///
     /// # Errors
     ///
@@ -584,7 +584,7 @@ impl Core {
         }
     }
 
-    /// How much room the document of a key takes, where it names many instances. Nothing rests on it.
+    /// How much room the document of a key takes, where it names many instances. It is a hint.
     pub fn room_for(&self, key: &DocKey) -> Option<Room> {
         room_for(
             self.alloc,

@@ -17,8 +17,8 @@ use disco_instance::Record;
 use disco_registry::Registry;
 use disco_values::{Action, Fault};
 
-/// Makes the places that a change needs. Where what is held has the same vips they are there, and
-/// aren't sought. Refused only as `OutOfMemory`.
+/// Makes the places that a change needs. Where the held record has the same vips, they are there
+/// without a search. Refused only as `OutOfMemory`.
 pub(crate) fn open(vips: &mut VipIndex, registry: &Registry, change: &Change) -> Result<(), Fault>
     requires { IsIndexOf vips.old registry.now.held }
     ensures same { IsSameVips vips.old vips.new }
@@ -38,7 +38,7 @@ pub(crate) fn open(vips: &mut VipIndex, registry: &Registry, change: &Change) ->
     }
 }
 
-/// Gives back the places of what a change puts that stand empty.
+/// Gives back the empty places of what a change puts.
 pub(crate) fn close(vips: &mut VipIndex, change: &Change)
     ensures same { IsSameVips vips.old vips.new }
     ensures others { OthersStay (put_of (change_view change.now)) vips.old vips.new }
@@ -53,7 +53,7 @@ pub(crate) fn close(vips: &mut VipIndex, change: &Change)
     }
 }
 
-/// The instance of a held record has no vip any more.
+/// Removes the instance of a held record from its vips.
 fn take(vips: &mut VipIndex, held: Option<&Held>)
     ensures vips { RemovesAny (option_map (λ h. entry_of h.now) held.entry) vips.old vips.new }
     ensures places { KeepsVipPlaces vips.old vips.new }
@@ -63,7 +63,7 @@ fn take(vips: &mut VipIndex, held: Option<&Held>)
     }
 }
 
-/// The instance has the vips of the record that a change puts.
+/// Adds the instance under the vips of the record that a change puts.
 fn add(vips: &mut VipIndex, change: &Change)
     requires { HasVipPlaces vips.old (put_of (change_view change.now)) }
     ensures { AddsAny (put_of (change_view change.now)) vips.old vips.new }
@@ -78,7 +78,7 @@ fn add(vips: &mut VipIndex, change: &Change)
     }
 }
 
-/// Gives back the places of a held record that stand empty.
+/// Gives back the empty places of a held record.
 fn sweep(vips: &mut VipIndex, held: Option<&Held>)
     ensures same { IsSameVips vips.old vips.new }
     ensures swept { IsSwept vips.new (option_map (λ h. entry_of h.now) held.entry) }

@@ -1,4 +1,4 @@
--- The objects that are told have no float.
+-- The objects that are written have no float.
 use Rattle.std.proofs.Common.{◌≡◌, ℕ, ◌∙◌, ◌||◌, false, List, [], ◌∷◌, map, refl, ap}
 use Rattle.serde_json.specs.Data.{Data}
 use Rattle.serde_json.specs.View.{items_of}

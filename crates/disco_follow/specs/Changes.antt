@@ -26,7 +26,7 @@ abbrev pub gone_of : Option Row → Row → List InstanceChange
 gone_of None r = (what.Went, r) ∷ []
 gone_of (Some _) r = []
 
--- those that came or changed, in the order of their keys, and then those that went
+-- those that came or changed, in the order of their keys, and then those that are gone
 abbrev pub AreChanges : FinMap key_cmp Row → FinMap key_cmp Row → List InstanceChange → Type 0
 AreChanges before now changes =
     (held : List InstanceChange) × AreToldOf before (values now) held × (changes ≡ held ++ flat_map (λ r. gone_of (get now r.key) r) (values before))

@@ -31,7 +31,8 @@ form_in rows = if flag_given (codes "compact") rows then Compact else Full
 abbrev pub times_in : List Given → ℕ
 times_in rows = unwrap_or (number_given (codes "times") rows) 0
 
--- the address, what is told, the form, the pause in milliseconds (30 seconds where none is given) and the number of refreshes (0, which is no end) are those given
+-- the address, what is written, the form, the pause in milliseconds (30 seconds where none is given) and the number of
+-- refreshes (0, which is no end) are those given
 pub record IsFollowPlan (rows : List Given) (p : Plan) : Type 0 where
   pub address : p.address ≡ address_in rows
   pub wanted : p.wanted ≡ wanted_in rows
@@ -39,12 +40,12 @@ pub record IsFollowPlan (rows : List Given) (p : Plan) : Type 0 where
   pub pause : p.pause ≡ within 18446744073709551615 30000 (number_given (codes "every") rows)
   pub times : p.times ≡ times_in rows
 
--- a certified client without a copy is refreshed so many times, by what a server answers, and what is told of it is written; of its fetcher only the
--- number of failures is known
+-- a certified client without a copy is refreshed so many times, by what a server answers, and the lines on it are
+-- written; of its fetcher only the number of failures is known
 abbrev pub Tells : Wanted → Form → ℕ → Option (List ℕ) → Option (List ℕ) → Type 0
 Tells wanted form times old new = (left : ClientState ℕ)
     × Follows (λ _ _ _ _. Unit {0}) (λ l. l) wanted (turns_of times) (record { fetcher = 0; form = form; kept = Certified None }) left old new
 
--- the words are `follow` and options, and what these ask for is told
+-- the words are `follow` and options, and what these ask for is written
 unfoldable pub TellsFor : List Text → Option (List ℕ) → Option (List ℕ) → Type 0
 TellsFor words old new = (rows : List Given) × AreMatches Follow words rows × Tells (wanted_in rows) (form_in rows) (times_in rows) old new

@@ -1,4 +1,4 @@
--- Refreshes one after another, and what is told of them.
+-- Refreshes one after another, and what `follow` writes of them.
 use Rattle.std.specs.Prelude.{◌≡◌, ◌==◌, ℕ, false, List, [], ◌∷◌, length, Option, Result, if◌then◌else◌, flat_map}
 use Rattle.std.specs.FinMap.{empty}
 use Rattle.std.specs.Io.KnownBytes.{Appends}
@@ -11,14 +11,14 @@ use Rattle.disco_reconcile.specs.declared.refreshed.Refreshed.{Refreshed}
 use Rattle.disco_follow.specs.Telling.{IsTold, Told}
 use Rattle.disco_follow.specs.declared.wanted.Wanted.{Wanted}
 
--- a refresh takes the client from the first state to the second, and this is told behind it
+-- a refresh takes the client from the first state to the second, and these lines are written behind it
 pub record IsTurn {S : Type 0} (gives : S → DocKey → Result Fetched Fault → S → Type 0) (failed : S → ℕ) (wanted : Wanted)
     (old : ClientState S) (told : Told) (text : List ℕ) (new : ClientState S) (now : Told) : Type 0 where
   pub result : Result Refreshed Fault
   pub refreshed : Refreshes gives failed old result new
   pub tells : IsTold wanted told result (known_in new.kept) (copy_of new.kept) text now
 
--- these are told of refreshes one after another
+-- these lines are written of refreshes one after another
 abbrev pub AreTurns : {S : Type 0} → (S → DocKey → Result Fetched Fault → S → Type 0) → (S → ℕ) → Wanted → ClientState S → Told → List (List ℕ)
     → ClientState S → Told → Type 0
 AreTurns gives failed wanted old told [] new now = (new ≡ old) × (now ≡ told)
@@ -29,11 +29,11 @@ AreTurns {S = S} gives failed wanted old told (text ∷ texts) new now =
 abbrev pub turns_of : ℕ → ℕ
 turns_of times = if times == 0 then 18446744073709551615 else times
 
--- nothing was told
+-- nothing was written
 abbrev pub nothing_told : Told
 nothing_told = record { begun = false; copy = empty; up = []; fault = 0 }
 
--- so many refreshes take the client from the first state to the second, and what is told of them is written
+-- so many refreshes take the client from the first state to the second, and the lines on them are written
 abbrev pub Follows : {S : Type 0} → (S → DocKey → Result Fetched Fault → S → Type 0) → (S → ℕ) → Wanted → ℕ → ClientState S → ClientState S
     → Option (List ℕ) → Option (List ℕ) → Type 0
 Follows gives failed wanted turns old new written-before written =

@@ -1,4 +1,4 @@
--- The JSON objects in which a client's copy is told (this project's own format).
+-- The output lines on a client's copy, as JSON objects (this project's own format).
 use Rattle.std.specs.Prelude.{ℕ, List, ◌++◌, codes, map}
 use Rattle.serde_json.specs.Data.{Data, array, member, no_members, number, object, string, unsigned}
 use Rattle.serde_json.specs.View.{items_of}
@@ -18,7 +18,7 @@ held_data change key status =
     object (member (codes "app") (string key.app) (member (codes "change") (string change)
     (member (codes "id") (string key.id) (member (codes "status") (string status) no_members))))
 
--- of an instance that went
+-- of an instance that is gone
 abbrev pub gone_data : Key → Data
 gone_data key =
     object (member (codes "app") (string key.app) (member (codes "change") (string (codes "went"))

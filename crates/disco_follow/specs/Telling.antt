@@ -1,4 +1,4 @@
--- What is told of a client and its copy, and when (this project's own rule).
+-- What `follow` writes of a client and its copy, and when (this project's own rule).
 use Rattle.std.specs.Prelude.{◌≡◌, ◌==◌, ◌&&◌, ℕ, Bool, true, not, List, [], ◌++◌, length, filter, Option, Some, Result, Ok, Err}
 use Rattle.std.specs.Prelude.{if◌then◌else◌}
 use Rattle.std.specs.FinMap.{FinMap, values}
@@ -28,18 +28,19 @@ vip_line json vip up = if json then object_line (vip_data vip up) else vip_text 
 abbrev pub fault_line : Bool → Fault → List ℕ
 fault_line json fault = if json then object_line (fault_data fault) else fault_text fault
 
--- what was told last: the copy, none at first; the line of the vip; and the number of a refusal that no copy was told behind, 0 where there is none
+-- what was written last: the copy, none at first; the line of the vip; and the number of a refusal, 0 where there is
+-- none or a copy was written after it
 pub record Told : Type 0 where
   pub begun : Bool
   pub copy : FinMap key_cmp Row
   pub up : List ℕ
   pub fault : ℕ
 
--- a copy is told where so much changed, where none was told before, and behind a refusal
+-- a copy is written where so many instances changed, where none was written before, and behind a refusal
 abbrev pub is_news : Told → ℕ → Bool
 is_news told changed = not (told.begun && (told.fault == 0 && changed == 0))
 
--- a line, where it isn't the one that was told last
+-- a line, where it isn't the one that was written last
 abbrev pub unless_told : List ℕ → List ℕ → List ℕ
 unless_told old line = if bytes_eq line old then [] else line
 
@@ -47,21 +48,21 @@ unless_told old line = if bytes_eq line old then [] else line
 abbrev pub up_line : Wanted → FinMap key_cmp Row → List ℕ
 up_line wanted now = option_map_or (λ vip. vip_line wanted.json vip (filter (is_up_under vip) (values now))) wanted.vip []
 
--- this is told of a copy that is a version of a run
+-- this is written of a copy that is a version of a run
 pub record IsToldCopy (wanted : Wanted) (old : Told) (run version : ℕ) (now : FinMap key_cmp Row) (text : List ℕ) (new : Told) : Type 0 where
   pub changes : List InstanceChange
   pub changed : AreChanges old.copy now changes
   pub written : text ≡ (if is_news old (length changes) then copy_line wanted.json run version changes else []) ++ unless_told old.up (up_line wanted now)
   pub told : new ≡ record { begun = true; copy = now; up = up_line wanted now; fault = 0 }
 
--- this is told of a refusal: nothing where it was told last
+-- whether a refusal was written last
 abbrev pub is_told_last : Told → Fault → Bool
 is_told_last told fault = told.fault == fault_number fault
 
 abbrev pub refusal_text : Bool → Told → Fault → List ℕ
 refusal_text json old fault = if is_told_last old fault then [] else fault_line json fault
 
--- this is told behind a refresh that came to that
+-- this is written after a refresh with that result
 abbrev pub IsTold : Wanted → Told → Result Refreshed Fault → Option Known → Option (FinMap key_cmp Row) → List ℕ → Told → Type 0
 IsTold wanted old (Err fault) known copy text new = (text ≡ refusal_text wanted.json old fault) × (new ≡ record old { fault = fault_number fault })
 IsTold wanted old (Ok _) (Some known) (Some copy) text new = IsToldCopy wanted old known.run known.version copy text new

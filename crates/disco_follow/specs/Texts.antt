@@ -1,4 +1,4 @@
--- The lines in which a client's copy is told (this project's own format).
+-- The output lines on a client's copy, as texts (this project's own format).
 use Rattle.std.specs.Prelude.{ℕ, List, ◌++◌, codes, decimal, flat_map}
 use Rattle.disco_values.specs.Fault.{fault_number}
 use Rattle.disco_values.specs.Status.{status_name}
@@ -9,7 +9,7 @@ use Rattle.disco_follow.specs.Names.{shown_name}
 use Rattle.disco_follow.specs.declared.change.What.{What}
 use Rattle.disco_follow.specs.declared.change.What.TheVariants as what
 
--- ` +APP/ID=STATUS` of an instance that came, ` ~APP/ID=STATUS` of one that changed, ` -APP/ID` of one that went
+-- ` +APP/ID=STATUS` of an instance that came, ` ~APP/ID=STATUS` of one that changed, ` -APP/ID` of one that is gone
 unfoldable pub change_text : What → Row → List ℕ
 change_text what.Came r = codes " +" ++ shown_name r.key.app ++ codes "/" ++ shown_name r.key.id ++ codes "=" ++ status_name r.status
 change_text what.Changed r = codes " ~" ++ shown_name r.key.app ++ codes "/" ++ shown_name r.key.id ++ codes "=" ++ status_name r.status

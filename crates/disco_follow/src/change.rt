@@ -1,4 +1,4 @@
-//! What becomes of instances.
+//! Changes of instances from one copy to the next.
 use disco_instance::Record;
 
 /// What became of an instance from one copy to the next.

@@ -82,7 +82,8 @@ fn note_all_gone<'a>(
     Ok(())
 }
 
-/// What changed from one copy to the next: what came or changed, and then what went.
+/// What changed from one copy to the next: the instances that came or changed, and then those that are
+/// gone.
 pub(crate) fn changes_of<'a>(
     alloc: Global,
     before: &'a Copy,

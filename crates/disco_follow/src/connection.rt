@@ -17,12 +17,12 @@ const PATIENCE: u64 = 60;
 /// Fetches over a connection.
 pub type Connected = HttpFetch<Counted<TcpStream>, Counted<TcpStream>>;
 
-/// A connection to an address or a name, and once more the same. A read of it fails where nothing comes
-/// for a minute.
+/// Opens a connection to an address or a name, as two handles. A read fails where nothing comes for a
+/// minute.
 ///
 /// # Errors
 ///
-/// What the host says where it doesn't find the name or refuses the connection.
+/// The error of the host, where it doesn't find the name or refuses the connection.
 pub fn connect<N: Net<Stream = TcpStream>, A: ToSocketAddrs>(
     rt: &N,
     address: A,

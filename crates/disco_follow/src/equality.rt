@@ -93,7 +93,6 @@ fn same_addresses(one: &Details, other: &Details) -> bool
         && same_texts(&one.secure_vip_address, &other.secure_vip_address)
 }
 
-/// Whether instances told the same of themselves.
 fn same_details(one: &Details, other: &Details) -> bool
     ensures { IsTrue result ↔ (one.now ≡ other.now) }
 {
@@ -127,7 +126,6 @@ fn same_places(one: &Record, other: &Record) -> bool
         && same_ports(one.secure_port, other.secure_port)
 }
 
-/// Whether two records are the same.
 pub(crate) fn same_records(one: &Record, other: &Record) -> bool
     ensures { IsTrue result ↔ (row one.now ≡ row other.now) }
 {

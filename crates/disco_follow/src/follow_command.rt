@@ -74,7 +74,7 @@ fn plan_from(alloc: Global, matches: &ArgMatches<'_>) -> Result<Plan, AllocError
     })
 }
 
-/// Refreshes a certified client over a line, and tells what changes.
+/// Refreshes a certified client by a fetcher, and writes what changes.
 fn tell<R, W: Sink>(
     rt: &R,
     alloc: Global,
@@ -116,7 +116,7 @@ where
     tell(rt, alloc, plan, line, out)
 }
 
-/// Follows what the words name, and gives the exit status.
+/// Follows the registry that the words name, and gives the exit status.
 fn carry_out<R, W: Sink, E: Sink>(
     rt: &R,
     alloc: Global,
@@ -146,12 +146,11 @@ where
 ///
 /// A certified client refreshes its copy of the registry of the server that listens at an address, or
 /// at a port of 127.0.0.1, again and again, with a pause between two refreshes. What changed is written
-/// to `out`:
-/// `copy RUN VERSION` with each instance that came (`+APP/ID=STATUS`), changed (`~APP/ID=STATUS`) or
-/// went (`-APP/ID`); with `--vip V` a line `vip V` with the host and port of each instance that is UP
-/// under it; and `fault N` for a refresh that is refused, after which it goes on, over another
-/// connection where the one before has ended. Names stand in these lines percent-encoded. With `--json`
-/// each line is a JSON object, with names as they are.
+/// to `out`: `copy RUN VERSION` with each instance that came (`+APP/ID=STATUS`), changed
+/// (`~APP/ID=STATUS`) or went (`-APP/ID`); with `--vip V` a line `vip V` with the host and port of each
+/// instance that is UP under it; and `fault N` for a refresh that is refused, after which it goes on,
+/// over another connection where the one before has ended. Names are percent-encoded in these lines.
+/// With `--json` each line is a JSON object, with names as they are.
 ///
 /// The status is 0 where all refreshes that were asked for have been made, and where help was asked
 /// for. It is 2 for words that are refused, with a message on `errors`. Else it is 1, with the line

@@ -1,6 +1,6 @@
-//! The command `follow`: a certified client, which tells what changes in its copy of a server's
-//! registry: a line for each copy that is news, for the instances of a vip that are up, and for what is
-//! refused. [`connect`] and [`fetcher`] make the connections of clients.
+//! The command `follow`: a certified client, which writes what changes in its copy of a server's
+//! registry: a line for each new copy, for the instances of a vip that are up, and for each refusal.
+//! [`connect`] and [`fetcher`] make the connections of clients.
 #![tactic(auto)]
 
 mod change;

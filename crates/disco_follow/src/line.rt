@@ -1,4 +1,4 @@
-//! A client's line to a server.
+//! A fetcher that opens another connection to its server when one has ended.
 ghost use Rattle.std.specs.Prelude.{◌≡◌, ◌≢◌, ◌≤◌, ◌⊎◌, IfOk};
 ghost use Rattle.disco_values.specs.declared.fault.Fault.TheVariants.{OutOfMemory};
 ghost use Rattle.disco_values.specs.declared.query.Query.TheVariants.{Apps, Delta};
@@ -20,7 +20,7 @@ use std::marker::Model;
 use std::net::{Net, TcpStream};
 use std::rt::Clock;
 
-/// A connection, and fetches over it.
+/// A connection, with the fetcher over it.
 #[derive(Drop)]
 struct Connected<'a, N> {
     stream: TcpStream,
@@ -49,7 +49,7 @@ fn fetching<'a, N: Clock>(
     })
 }
 
-/// A connection to a server, and twice more the same.
+/// Opens a connection to a server, as three handles.
 pub(crate) fn connect_thrice<N: Net<Stream = TcpStream>>(
     rt: &N,
     address: &str,
@@ -68,13 +68,13 @@ fn is_silent(stream: &TcpStream) -> bool {
     silent && stream.set_nonblocking(false).is_ok()
 }
 
-/// A client's line to a server: a connection, and after its end another one. Contracts see how many
-/// fetches have failed over all of them.
+/// A fetcher over a connection to a server, and over another one when that has ended. Contracts see how
+/// many fetches have failed over all of them.
 #[derive(Drop)]
 pub(crate) struct Line<'a, N> {
     rt: &'a N,
     alloc: Global,
-    /// The server's, which is looked up for each connection.
+    /// The server's address, which is looked up for each connection.
     address: &'a str,
     pace: &'a Pace,
     connected: Option<Connected<'a, N>>,
@@ -102,7 +102,7 @@ impl<N> Line<'_, N> {
 }
 
 impl<'a, N: Net<Stream = TcpStream> + Clock> Line<'a, N> {
-    /// A line to an address, which has a connection.
+    /// A fetcher for an address, with an open connection.
     pub(crate) fn new(
         rt: &'a N,
         alloc: Global,
@@ -123,7 +123,7 @@ impl<'a, N: Net<Stream = TcpStream> + Clock> Line<'a, N> {
         })
     }
 
-    /// Asks over the connection. What came before it is asked ends it.
+    /// Asks over the connection. Bytes that came before the request end it.
     fn ask(&mut self, key: &DocKey) -> Result<Fetched, Fault>
         requires { (key.now.query ≡ Apps) ⊎ (key.now.query ≡ Delta) }
         ensures { self.new ≡ self.old }
@@ -136,7 +136,7 @@ impl<'a, N: Net<Stream = TcpStream> + Clock> Line<'a, N> {
         }
     }
 
-    /// Takes another connection in place of the one that there was.
+    /// Opens another connection in place of the old one.
     fn connect(&mut self) -> Result<(), Fault>
         ensures { self.new ≡ self.old }
     {

@@ -1,4 +1,4 @@
-//! The lines in which a client's copy is told, each as a text or as a JSON object.
+//! The output lines on a client's copy, each as a text or as a JSON object.
 ghost use Rattle.std.specs.Prelude.{◌≡◌, Ok, IfOk, IfErr, OnOk, map};
 ghost use Rattle.disco_values.specs.declared.fault.Fault.TheVariants.{OutOfMemory};
 ghost use Rattle.disco_instance.specs.Row.{row};

@@ -1,4 +1,4 @@
-//! The lines of a copy as JSON objects.
+//! The output lines on a client's copy, as JSON objects.
 ghost use Rattle.std.specs.Prelude.{◌≡◌, ◌++◌, IfOk, OnOk, false, map};
 ghost use Rattle.serde_json.specs.Data.{array};
 ghost use Rattle.serde_json.specs.View.{items_of, view};
@@ -21,7 +21,6 @@ fn held_value(alloc: Global, change: &str, key: &Key, status: &str) -> Result<Va
     json!(in alloc; {"app": app, "change": change, "id": id, "status": status})
 }
 
-/// An instance that went.
 fn gone_value(alloc: Global, key: &Key) -> Result<Value, AllocError>
     ensures { IfOk result (λ v. view v ≡ gone_data key.now) }
 {

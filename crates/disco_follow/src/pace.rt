@@ -26,7 +26,7 @@ pub(crate) struct Pace {
 }
 
 impl Pace {
-    /// None is awaited.
+    /// No reply is awaited.
     pub(crate) fn new() -> Pace {
         Pace {
             begun: Cell::new(None),

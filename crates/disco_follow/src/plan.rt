@@ -1,13 +1,13 @@
-//! What is followed.
+//! The options of `follow`.
 use crate::wanted::Wanted;
 use disco_values::{Form, Text};
 
-/// What is followed, and how often it is asked for.
+/// The options of `follow`: the server, what is written, and how often the client refreshes.
 #[derive(Debug, Drop)]
 pub(crate) struct Plan {
     /// The server's host, by name or address, and its port: `HOST:PORT`.
     pub(crate) address: Text,
-    /// What is told.
+    /// What is written, and how.
     pub(crate) wanted: Wanted,
     /// The form of the documents that are fetched.
     pub(crate) form: Form,

@@ -31,7 +31,7 @@ fn pause_of(millis: u64) -> Duration
     Duration::from_millis(millis)
 }
 
-/// Refreshes a client once, tells what came of it, and gives what is told last then.
+/// Refreshes a client once, writes what came of it, and gives what was written last.
 fn turn<F: Fetch, W: Sink>(
     alloc: Global,
     client: &mut Client<F>,
@@ -50,7 +50,7 @@ fn turn<F: Fetch, W: Sink>(
 }
 
 /// Refreshes a client so many times, 0 being no end, with a pause in milliseconds between two, and
-/// tells what comes of each: a line for a copy that changed, for a vip whose instances that are up
+/// writes what comes of each: a line for a copy that changed, for a vip whose instances that are up
 /// changed, and for a refusal, after which it goes on.
 ///
 /// # Errors

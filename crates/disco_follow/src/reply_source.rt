@@ -1,4 +1,4 @@
-//! What replies of a server that isn't trusted are read from.
+//! Reads the replies of a server that isn't trusted.
 ghost use Rattle.std.specs.Prelude.{◌≡◌, ◌≤◌, ℕ, List, None, length};
 ghost use Rattle.std.specs.Io.{ReadsAtMost};
 ghost use Rattle.disco_http.specs.Causes.{Raises};
@@ -16,8 +16,8 @@ const TURNS: u64 = 1 << 32;
 /// How many bytes are looked at once, at most.
 const PIECE: usize = 16_384;
 
-/// Reads a stream while a reply may take its time, and no line of it together with the next: so nothing
-/// that the server sends behind a reply is taken together with its end.
+/// Reads a stream while a reply has time left, and never parts of two lines at once. So it reads
+/// nothing that the server sends behind a reply together with the reply's end.
 #[derive(Drop)]
 pub(crate) struct ReplySource<'a, R> {
     rt: &'a R,
@@ -26,7 +26,7 @@ pub(crate) struct ReplySource<'a, R> {
     failures: u64,
 }
 
-/// How many bytes stand up to the end of the first line, and all where none ends.
+/// How many bytes there are up to the end of the first line; all where no line ends.
 fn first_line(bytes: &[u8]) -> usize
     ensures { result ≤ length bytes.now }
 {
@@ -48,7 +48,6 @@ impl<'a, R> ReplySource<'a, R> {
         }
     }
 
-    /// Counts a failure.
     fn fail(&mut self) -> Failed
         ensures { Raises self.old.failures self.new.failures }
     {

@@ -1,4 +1,4 @@
-//! Telling what a refresh brought.
+//! Writes what a refresh brought.
 ghost use Rattle.std.specs.Prelude.{◌≡◌, ◌⊎◌, ◌++◌, ℕ, [], List, IfOk, IfErr, OnOk, if◌then◌else◌, length, map};
 ghost use Rattle.std.specs.Io.KnownBytes.{Appends};
 ghost use Rattle.disco_values.specs.Fault.{fault_number};
@@ -43,7 +43,7 @@ fn lines_of(
     Ok(text)
 }
 
-/// The lines of a copy that is a version of a run, and what is told last then. Refused only as
+/// The lines of a copy that is a version of a run, and what is written last then. Refused only as
 /// `OutOfMemory`.
 fn copy_told(
     alloc: Global,
@@ -69,8 +69,8 @@ fn copy_told(
     Ok((text, Told::of(shared, up)))
 }
 
-/// Tells of a copy that is a version of a run, in one write, and gives what is told last then.
-/// Refused as `OutOfMemory` and as `WriteFailed`.
+/// Writes the lines of a copy that is a version of a run, in one write, and gives what was written
+/// last. Refused as `OutOfMemory` and as `WriteFailed`.
 fn tell_copy<W: Sink>(
     alloc: Global,
     wanted: &Wanted,
@@ -90,7 +90,7 @@ fn tell_copy<W: Sink>(
     Ok(now)
 }
 
-/// The line of a refusal, unless it was told last. Refused only as `OutOfMemory`.
+/// The line of a refusal, unless it was written last. Refused only as `OutOfMemory`.
 fn refusal_of(alloc: Global, json: bool, told: &Told, fault: &Fault) -> Result<Vec<u8>, Fault>
     ensures line { IfOk result (λ v. v.items ≡ refusal_text json told.now fault.now) }
     ensures memory { IfErr result (λ e. e ≡ OutOfMemory) }
@@ -101,8 +101,8 @@ fn refusal_of(alloc: Global, json: bool, told: &Told, fault: &Fault) -> Result<V
     fault_line(alloc, json, fault)
 }
 
-/// Tells of a refusal, unless it was told last, and gives what is told last then. Refused as
-/// `OutOfMemory` and as `WriteFailed`.
+/// Writes the line of a refusal, unless it was written last, and gives what was written last. Refused
+/// as `OutOfMemory` and as `WriteFailed`.
 fn tell_refusal<W: Sink>(
     alloc: Global,
     json: bool,
@@ -121,8 +121,8 @@ fn tell_refusal<W: Sink>(
     Ok(told.refused(fault))
 }
 
-/// Tells what a refresh came to that left the client so: the copy, where it is news, or the refusal.
-/// Gives what is told last then. Refused as `OutOfMemory` and as `WriteFailed`.
+/// Writes the result of a refresh that left the client so: the copy, where it is new, or the refusal.
+/// Gives what was written last. Refused as `OutOfMemory` and as `WriteFailed`.
 pub(crate) fn tell<F: Fetch, W: Sink>(
     alloc: Global,
     client: &Client<F>,

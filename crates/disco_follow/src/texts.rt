@@ -1,4 +1,4 @@
-//! The lines of a copy as texts.
+//! The output lines on a client's copy, as texts.
 ghost use Rattle.std.specs.Prelude.{◌≡◌, ◌++◌, codes, OnOk, map};
 ghost use Rattle.std.specs.Io.KnownBytes.{Appends};
 ghost use Rattle.std.specs.List.{flat_map};

@@ -1,4 +1,4 @@
-//! What was told of a client.
+//! What was written last of a client.
 ghost use Rattle.std.specs.Prelude.{◌≡◌, [], true, false};
 ghost use Rattle.std.specs.FinMap.{empty};
 ghost use Rattle.disco_values.specs.Fault.{fault_number};
@@ -9,8 +9,8 @@ use disco_values::{Bytes, Fault};
 use std::alloc::Global;
 use std::marker::Model;
 
-/// What was told last of a client: its copy, the line of the vip that is asked for, and the refusal
-/// that no copy was told behind.
+/// What was written last of a client: its copy, the line of the vip that is asked for, and the refusal,
+/// if no copy was written after it.
 #[derive(Drop)]
 pub(crate) struct Told {
     begun: bool,
@@ -47,21 +47,21 @@ impl Told {
 }
 
 impl Told {
-    /// Whether a copy in which so much changed is to be told.
+    /// Whether to write a copy in which so many instances changed.
     pub(crate) fn is_news(&self, changed: usize) -> bool
         ensures { result ≡ is_news self.now changed }
     {
         !(self.begun && (self.fault == 0 && changed == 0))
     }
 
-    /// Whether this refusal was told last.
+    /// Whether this refusal was written last.
     pub(crate) fn is_told_last(&self, fault: &Fault) -> bool
         ensures { result ≡ is_told_last self.now fault.now }
     {
         self.fault == fault.number()
     }
 
-    /// What was told last where that is a copy, and the line of its vip.
+    /// What was written last where that is a copy, and the line of its vip.
     pub(crate) fn of(copy: Copy, up: Bytes) -> Told
         ensures { result ≡ record { begun = true; copy = copy; up = up; fault = 0 } }
     {
@@ -73,7 +73,7 @@ impl Told {
         }
     }
 
-    /// A refusal was told.
+    /// What was written last once a refusal was written.
     pub(crate) fn refused(self, fault: &Fault) -> Told
         ensures { result ≡ record self { fault = fault_number fault.now } }
     {

@@ -1,11 +1,11 @@
-//! What is told.
+//! What `follow` writes.
 use disco_values::Text;
 
-/// What is told of a client's copies, and how.
+/// What `follow` writes of a client's copies, and how.
 #[derive(Debug, Drop)]
 pub struct Wanted {
-    /// The vip of which it is told where its instances that are UP are reached.
+    /// The vip whose UP instances are written, each with its host and port.
     pub vip: Option<Text>,
-    /// A line is a JSON object.
+    /// Whether each line is a JSON object.
     pub json: bool,
 }

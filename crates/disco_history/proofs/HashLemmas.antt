@@ -1,4 +1,4 @@
--- Equal hash codes say equal numbers.
+-- Equal hash codes mean equal numbers of each status.
 use Rattle.std.proofs.Common.{◌≡◌, ℕ, ◌+◌, ◌<◌, ◌==◌, Bool, true, false, cond, List, [], ◌∷◌, ◌++◌, map, codes, get_or, refl, sym, ap, ◌∙◌, arith}
 use Rattle.std.specs.List.{AllByRecursion}
 use Rattle.std.specs.Int.Digits.{digits_of}

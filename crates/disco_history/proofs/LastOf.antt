@@ -1,4 +1,4 @@
--- The place of the last change of a key, one change on.
+-- The place of the last change of a key, after one more change.
 use Rattle.std.proofs.Common.{◌≡◌, ℕ, ◌+◌, ◌<◌, Bool, true, false, ◌&&◌, cond, List, [], ◌∷◌, ◌++◌, map, drop, take, length, Option, Some, None, option_map, MatchOption, slice_get, get_or, sym, ap, ◌∙◌, arith}
 use Rattle.disco_values.specs.Key.{same_key}
 use Rattle.disco_values.specs.declared.key.Key.{Key}

@@ -1,4 +1,4 @@
--- Lists of held records that show the same.
+-- Lists of held records with equal views.
 use Rattle.std.proofs.Common.{◌≡◌, refl, sym, ap, subst, ◌∙◌, List, [], ◌∷◌, T, map}
 use Rattle.std.specs.FinMap.{from_sorted}
 use Rattle.std.specs.FinMap.Entries.{is_sorted}

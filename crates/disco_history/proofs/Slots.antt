@@ -1,4 +1,4 @@
--- What a change of a tree's entries does to the places that they stand for.
+-- What a change of a tree's entries does to the places that they represent.
 use Rattle.std.proofs.Common.{◌≡◌, Bool, true, false, cond, List, [], ◌∷◌, Option, Some, None, is_some, IsSome, refl, sym, ap, subst, ◌∙◌}
 use Rattle.std.specs.BTreeMap.{is_at}
 use Rattle.std.specs.FinMap.{FinMap, find, from_entries, get, get-from_entries}

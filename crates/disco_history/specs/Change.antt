@@ -9,7 +9,7 @@ use Rattle.disco_values.specs.declared.key.Key.{Key}
 use Rattle.disco_history.specs.declared.change.Change.{Change}
 use Rattle.disco_history.specs.declared.change.Change.TheVariants.{Put, Gone}
 
--- a change: its record, and what it did to it; DELETED is that the record went
+-- a change: its record, and what it did to it; DELETED where the record was removed
 abbrev pub Entry : Type 0
 Entry = Row × Action
 
@@ -18,7 +18,7 @@ abbrev pub change_view : Change → Entry
 change_view (Put action rec) = (row rec.value, action)
 change_view (Gone rec) = (row rec.value, Deleted)
 
--- a put isn't DELETED: a record that went is told as gone
+-- a put doesn't have the action DELETED
 abbrev pub is_proper : Change → Bool
 is_proper (Put Deleted rec) = false
 is_proper _ = true

@@ -9,7 +9,7 @@ use Rattle.disco_instance.specs.declared.lease.Lease.{Lease}
 use Rattle.disco_history.specs.MapAt.{map_at}
 use Rattle.disco_instance.specs.Mention.{Mention}
 
--- the lease of an instance that says nothing of it
+-- the lease of an instance that names none
 abbrev pub default_lease : Lease
 default_lease = record { duration_secs = 90; renewal_interval_secs = 30; eviction = 0; last_renewal = 0; registration = 0; service_up = 0 }
 

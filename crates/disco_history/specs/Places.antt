@@ -1,4 +1,4 @@
--- What is shown of places by key that may stand empty. Nothing here is to be believed: it is the view of types.
+-- Views of places by key, which may be empty. Nothing here is to be believed: it is the view of types.
 use Rattle.std.specs.Prelude.{List, Option, option_map}
 use Rattle.std.specs.FinMap.{FinMap, entries, from_entries}
 use Rattle.std.specs.List.{filter_map}

@@ -29,7 +29,7 @@ asks_for (of_vip vip) r = list_any (bytes_eq vip) (vips r.vip_address)
 asks_for (of_secure_vip vip) r = list_any (bytes_eq vip) (vips r.secure_vip_address)
 asks_for (of_key k) r = same_key r.key k
 
--- what asks for the record of a key before a change or for the one after it, where they are there, is named by the change; so all apps always are
+-- a change names what asks for the record of its key before it or after it; so it always names all apps
 abbrev pub is_named : Option Row → Option Row → Selector → Bool
 is_named old new a = option_map_or (asks_for a) old false || option_map_or (asks_for a) new false
 

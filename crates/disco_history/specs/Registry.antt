@@ -21,7 +21,7 @@ put_of e = kept_by e.1 e
 abbrev pub registry_of : List Entry → FinMap key_cmp Row
 registry_of h = map_at (λ k. option_map (λ e. e.0) (option_and_then put_of (last h k))) (map key_of h)
 
--- the mentions of records s of the registry of h: each with what its key's last change did. It says so where s is a part of that registry alone, as
--- it is wherever this is used
+-- the mentions of records s of the registry of h: each with the action of its key's last change. It means that only
+-- where s is a part of that registry, as it is wherever this is used
 abbrev pub mentions_of : List Entry → FinMap key_cmp Row → FinMap key_cmp Entry
 mentions_of h s = map_at (λ k. option_and_then put_of (last h k)) (keys s)

@@ -1,4 +1,4 @@
--- Held records as plain data.
+-- A list of held records and its spare room, as plain data.
 use Rattle.std.specs.Prelude.{ℕ}
 use Rattle.std.specs.FinMap.{FinMap}
 use Rattle.disco_values.specs.Key.{key_cmp}

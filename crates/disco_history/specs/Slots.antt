@@ -1,10 +1,10 @@
--- Places for keys, which may stand empty. Nothing here is to be believed: it is the invariant of types.
+-- Places for keys, which may be empty. Nothing here is to be believed: it is the invariant of types.
 use Rattle.std.specs.Prelude.{◌≡◌, if◌then◌else◌, Option, Some, option_map, unwrap_or}
 use Rattle.std.specs.FinMap.{FinMap, get}
 use Rattle.disco_values.specs.Key.{key_cmp, same_key}
 use Rattle.disco_values.specs.declared.key.Key.{Key}
 
--- a place that is there, with what stands for an empty one where there was none
+-- the place, or a new one with the value for empty where there was none
 abbrev pub opened : {V : Type 0} → V → Option V → Option V
 opened empty place = Some (unwrap_or place empty)
 

@@ -15,7 +15,7 @@ pub enum Change {
         action: Action,
         rec: Arc<Record, Global>,
     },
-    /// The record went. This is its last state.
+    /// The record was removed. This is its last state.
     Gone {
         rec: Arc<Record, Global>,
     },
@@ -32,7 +32,7 @@ impl Change {
         }
     }
 
-    /// The same once more. The record is shared, not copied.
+    /// A copy of the change. It shares the record.
     ///
     /// # Errors
     ///

@@ -17,7 +17,7 @@ pub struct Held {
 }
 
 impl Held {
-    /// What a change did, and to which record. The record is shared, not copied.
+    /// The record and the action of a change. It shares the record.
     ///
     /// # Errors
     ///
@@ -37,7 +37,7 @@ impl Held {
         }
     }
 
-    /// The same once more. The record is shared, not copied.
+    /// A copy. It shares the record.
     ///
     /// # Errors
     ///

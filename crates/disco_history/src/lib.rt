@@ -1,7 +1,7 @@
-//! The history of a registry, and the definitions that every layer above speaks in.
+//! The history of a registry, and the definitions that every layer above uses.
 //!
-//! A history is the list of the changes that were accepted. Version v of the registry is what the
-//! first v of them leave. Nothing keeps a whole history: it stands in contracts alone.
+//! A history is the list of the changes that were accepted. Version v of the registry is what the first
+//! v of them leave. No code keeps a whole history: only contracts speak of it.
 #![tactic(auto)]
 
 mod change;

@@ -78,7 +78,7 @@ impl RecordList {
         &self.records
     }
 
-    /// The same records once more. They are shared, not copied.
+    /// A copy of the list. It shares the records.
     ///
     /// # Errors
     ///
@@ -105,7 +105,7 @@ impl RecordList {
         self.records.reserve(records)
     }
 
-    /// Puts a record in, in the place of that of its key or in room that is there. Takes no memory.
+    /// Puts a record in: it replaces that of its key, or takes room that is there. Takes no memory.
     pub fn put(&mut self, added: Held)
         requires { finmap.get self.old.held added.rec.value.key ≡ None → 0 < self.old.room }
         ensures held { self.new.held ≡ finmap.insert self.old.held added.rec.value.key (entry_of added) }
@@ -117,7 +117,7 @@ impl RecordList {
         }
     }
 
-    /// Takes the record of a key out, if there is one. Takes no memory.
+    /// Removes the record of a key, if there is one. Takes no memory.
     pub fn take(&mut self, key: &Key)
         ensures held { self.new.held ≡ finmap.remove self.old.held key.now }
         ensures room { self.old.room ≤ self.new.room }

@@ -1,4 +1,4 @@
--- What stays in step, and what readers may see of it.
+-- A press list that stays in step with the rounds, and what readers may see of it.
 use Rattle.std.specs.Prelude.{◌≡◌, Bool, true, false, cond, List, [], ◌∷◌, ◌++◌, flat_map, fold, map, Option, Some, None, is_some}
 use Rattle.std.proofs.Common.{append-nil, append_assoc, refl, sym, ap, subst, ◌∙◌}
 use Rattle.std.proofs.lemmas.List.Sums.{fold-append}

@@ -1,4 +1,4 @@
--- A hub and what a publisher keeps beside it, one event on.
+-- A hub and what a publisher keeps beside it, after one more event.
 use Rattle.std.proofs.Common.{◌≡◌, ℕ, Bool, true, false, List, [], ◌∷◌, ◌++◌, map, Option, Some, None, IfSome, is_some, slice_get, refl, sym, ap, subst, ◌∙◌, append-nil, append_assoc}
 use Rattle.std.specs.FinMap.{empty, insert, len, remove}
 use Rattle.disco_history.specs.Change.{Entry}

@@ -1,4 +1,4 @@
--- A press list, one note on.
+-- A press list after one more note.
 use Rattle.std.proofs.Common.{◌≡◌, ℕ, Bool, List, [], ◌∷◌, ◌++◌, map, Option, Some, None, refl, sym, ap, subst, ◌∙◌, append-nil, append_assoc}
 use Rattle.std.specs.FinMap.{empty}
 use Rattle.disco_history.specs.Change.{Entry}

@@ -1,4 +1,4 @@
--- What stays, over one step and over many.
+-- What stays the same over one step and over many.
 use Rattle.std.proofs.Common.{◌≡◌, Bool, Option, Some, None, Result, Ok, Err, IfErr, IfOk, OnErr, inl, inr, refl, ap, sym, subst, ◌∙◌}
 use Rattle.std.specs.declared.alloc.Global.{Global}
 use Rattle.std.specs.declared.sync.Arc.{Arc}

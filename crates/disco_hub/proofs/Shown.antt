@@ -1,4 +1,4 @@
--- A document that readers see stands in the list behind the beginning of the last round, and was true there.
+-- A document that readers see was noted after the beginning of the last round, and was true there.
 use Rattle.std.proofs.Common.{◌≡◌, ℕ, Bool, true, false, cond, List, [], ◌∷◌, fold, Some, None, refl, sym, ap, ◌∙◌}
 use Rattle.std.proofs.lemmas.Option.{same_Some}
 use Rattle.std.specs.List.{list_any}

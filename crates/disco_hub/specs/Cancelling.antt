@@ -17,7 +17,7 @@ abbrev pub Cancels : HubState → HubState → ℕ → Key → Type 0
 Cancels old new now k = (p : Past) → HubStandsFor old p → (c : Option Entry) × (cancel_of (rules_of old) p now k ≡ Ok c)
     × HubStandsFor new (with_done (rules_of old).queue p now (cancel k) c) × Forgets (get (registry_of (history p))) c old.docs new.docs
 
--- one cancel is refused, the hub stands for what it stood for, and what was kept is
+-- one cancel is refused, the hub stands for what it stood for, and keeps the same documents
 abbrev pub CancelsNone : HubState → HubState → ℕ → Key → Fault → Type 0
 CancelsNone old new now k e = (p : Past) → HubStandsFor old p → HubStandsFor new p × (e ≢ OutOfMemory → cancel_of (rules_of old) p now k ≡ Err e)
     × (new.docs ≡ old.docs)

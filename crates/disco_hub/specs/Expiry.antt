@@ -48,7 +48,7 @@ pub record ForgetsNext (rules : Rules) (p : Past) (now : ℕ) (next : Option Key
   pub accepted : cancel_of rules p now key ≡ Ok change
   pub docs : Forgets (get (registry_of (history p))) change old new
 
--- and so of the first i of these keys, one after the other
+-- the first i of these keys are cancelled so, one after the other
 unfoldable pub ForgetsEach : Rules → Past → ℕ → List Key → ℕ → Docs → Docs → Type 0
 ForgetsEach rules p now ks zero old new = new ≡ old
 ForgetsEach rules p now ks (suc i) old new = (mid : Docs) × ForgetsEach rules p now ks i old mid

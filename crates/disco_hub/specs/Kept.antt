@@ -19,14 +19,14 @@ abbrev pub Forgets : (Key → Option Row) → Option Entry → Docs → Docs →
 Forgets held None old new = new ≡ old
 Forgets held (Some c) old new = Drops (λ k. is_named (held (key_of c)) (Some c.0) (asked_by k.query)) old new
 
--- a document is kept that was not, and had room
+-- a document is kept that wasn't, and there was room for it
 pub record Keeps (on : Bool) (d : Payload) (old new : Docs) : Type 0 where
   pub cached : is_cached on d.key.query ≡ true
   pub absent : get old.docs d.key ≡ None
   pub room : len old.docs < old.max
   pub kept : new ≡ record old { docs = insert old.docs d.key d }
 
--- all that was kept is, and at most that document more
+-- all kept documents stay, and at most that document is added
 abbrev pub KeepsAtMost : Bool → Payload → Docs → Docs → Type 0
 KeepsAtMost on d old new = (new ≡ old) ⊎ Keeps on d old new
 

@@ -50,7 +50,7 @@ noted h _ = h
 abbrev pub changes_in : List Note → List Entry
 changes_in l = fold noted [] l
 
--- a note may stand behind these changes of a run: its document is true of them, or there is none
+-- a note may come behind these changes of a run: its document is true of them, or it has none
 abbrev pub Fits : ℕ → List Entry → Note → Type 0
 Fits run h (doc d) = IsTruePayload run d h
 Fits run h (gone k) = is_absent (registry_of h) (asked_by k.query) ≡ true

@@ -10,7 +10,7 @@ abbrev pub is_begin : Note → Bool
 is_begin begin = true
 is_begin _ = false
 
--- the document of the key stands there, and no round begins behind it
+-- the document of the key is noted there, and no round begins behind it
 pub record StandsIn (l : List Note) (k : DocKey) (d : Payload) : Type 0 where
   pub before : List Note
   pub after : List Note

@@ -34,7 +34,7 @@ pub record Writes (old new : HubState) (ask : OpView) (now : ℕ) (change : Opti
   pub docs : (p : Past) → HubStandsFor old p → Forgets (get (registry_of (history p))) change old.docs new.docs
   pub history : (p : Past) → HubStandsFor old p → HubStandsFor new (with_done (rules_of old).queue p now ask change)
 
--- an operation is refused at a moment: nothing has happened, and what was kept is
+-- an operation is refused at a moment: nothing has happened, and the same documents are kept
 pub record Declines (old new : HubState) (ask : OpView) (now : ℕ) (e : Fault) : Type 0 where
   pub cause : MayRefuse old.core.registry ask now e
   pub history : (p : Past) → HubStandsFor old p → HubStandsFor new p

@@ -1,4 +1,4 @@
-//! Cancels of instances, one by one.
+//! Cancels instances one by one.
 ghost use Rattle.std.specs.Prelude.{IfErr, OnErr, OnOk};
 ghost use Rattle.disco_core.specs.Past.{Past};
 ghost use Rattle.disco_hub.specs.Expiry.{Expires, cancelled};
@@ -24,7 +24,7 @@ pub trait Cancel {
     ///
     /// # Errors
     ///
-    /// What the registry refuses it as, and `OutOfMemory`.
+    /// The fault of the registry, or `OutOfMemory`.
     fn cancel(&mut self, key: &Key, now: u64) -> Result<(), Fault>
         ensures done { OnOk result (Cancels (hub self.old) (hub self.new) now key.now) }
         ensures noted { OnOk result (NotesOneMore hub noted now key.now self.old self.new) }

@@ -1,4 +1,4 @@
-//! What a publisher copies.
+//! The copy of a document in a round.
 ghost use Rattle.std.specs.Prelude.{◌≡◌, IfErr, OnErr, OnOk};
 ghost use Rattle.disco_values.specs.declared.fault.Fault.TheVariants.{OutOfMemory};
 ghost use Rattle.disco_hub.specs.Press.{is_doc, put_copy};
@@ -8,12 +8,12 @@ use disco_values::{DocKey, Fault};
 use std::alloc::Global;
 use std::sync::Arc;
 
-/// What was copied of a key.
+/// The copy of a key: its document, or that there is none.
 #[derive(Debug, Drop)]
 pub enum Copied {
     /// The document.
     Doc(Arc<Payload, Global>),
-    /// There is none now: the edition will have none of this key.
+    /// There is no document now: the edition will have none of this key.
     Drop(DocKey),
 }
 
@@ -25,7 +25,7 @@ impl Copied {
         matches!(self, Copied::Doc(_))
     }
 
-    /// Puts it into an edition: its document, shared, or that there is none.
+    /// Puts the document into an edition, shared; where there is none, removes that of the key.
     ///
     /// # Errors
     ///

@@ -1,4 +1,4 @@
-//! Runs that cancel the instances whose leases ran out.
+//! Runs of expiry, which cancel instances whose leases ran out.
 ghost use Rattle.disco_hub.specs.Expiry.{Expires};
 ghost use Rattle.disco_core.specs.Past.{taken_in};
 ghost use Rattle.disco_hub.specs.Transitions.{KeepsRest};
@@ -7,12 +7,12 @@ use crate::cancel::cancel_all;
 use crate::hub::Hub;
 use disco_values::Fault;
 
-/// What a run did that cancels instances whose leases ran out.
+/// The result of a run of expiry.
 #[derive(Debug, Drop)]
 pub struct Expired {
-    /// How many instances are gone.
+    /// How many instances it cancelled.
     pub gone: u64,
-    /// Why it stopped before the last one that it takes, if it did.
+    /// Why it stopped before its last instance, if it did.
     pub stopped: Option<Fault>,
 }
 

@@ -1,4 +1,4 @@
-//! The hub: one state behind all documents, with the documents that are kept.
+//! The hub: the registry with its response cache.
 ghost use Rattle.std.specs.Prelude.{◌≡◌, ◌≢◌, ◌<◌, [], IfErr, IfNone, IfOk, IfSome, OnErr, OnOk, Ok, None, Some, is_some, length, map, option_map};
 ghost use Rattle.std.specs.Prelude.{slice_get, true};
 ghost use Rattle.disco_values.specs.declared.fault.Fault.TheVariants.{NoRound, OutOfMemory};
@@ -33,8 +33,8 @@ use std::alloc::Global;
 use std::marker::Model;
 use std::sync::Arc;
 
-/// The registered instances with all that is kept beside them, and the documents that were asked
-/// for since a change named them.
+/// The registry with its response cache: the core, the documents that are kept until a change names
+/// them, and the rounds of a publisher.
 #[derive(Drop)]
 pub struct Hub {
     alloc: Global,
@@ -83,12 +83,11 @@ impl Hub {
         self.core.version()
     }
 
-    /// Makes every growth that an operation at a moment in milliseconds needs, and changes no
-    /// answer.
+    /// Takes all memory that an operation at a moment in milliseconds needs, and changes no answer.
     ///
     /// # Errors
     ///
-    /// What the operation is refused as, and `OutOfMemory`.
+    /// The fault of the operation, or `OutOfMemory`.
     pub fn ready(&mut self, op: Op, now: u64) -> Result<Ready, Fault>
         ensures same { IsSameHub self.old self.new }
         ensures ready { IfOk result (λ r. accepts self.old.core.registry (op_view op) now ≡ Ok r.change × IsCoreReady self.new.core r) }
@@ -99,8 +98,8 @@ impl Hub {
         self.core.ready(op, now)
     }
 
-    /// Does what is ready, which has to be of this hub as it is. Takes no memory. Just the kept
-    /// documents that the change names are dropped.
+    /// Does what is ready, which has to be of this hub as it is. Takes no memory. Drops exactly the
+    /// kept documents that the change names.
     pub fn commit(&mut self, ready: Ready) -> Applied
         requires { IsCoreReady self.old.core ready }
         ensures change { done_by result ≡ ready.change }
@@ -119,7 +118,7 @@ impl Hub {
     ///
     /// # Errors
     ///
-    /// What the registry refuses the operation as, and `OutOfMemory`.
+    /// The fault of the registry, or `OutOfMemory`.
     pub fn write(&mut self, op: Op, now: u64) -> Result<Applied, Fault>
         ensures done { IfOk result (λ a. Writes self.old self.new (op_view op) now (done_by a)) }
         ensures proper { IfOk result (λ a. changes_properly a ≡ true) }
@@ -173,9 +172,9 @@ impl Hub {
         self.core.close_minute()
     }
 
-    /// The keys that one run takes at a moment in milliseconds: those whose leases have run out, the
-    /// earliest first, then by key, as far as 85 of 100 instances stay; none where too few renewals
-    /// came in the minute that was closed last.
+    /// The keys that one run of expiry takes at a moment in milliseconds: those whose leases have run
+    /// out, the earliest first, then by key. It leaves at least 85 of 100 instances, rounded down. It
+    /// takes none where too few renewals came in the minute that was closed last.
     ///
     /// # Errors
     ///
@@ -206,9 +205,9 @@ impl Hub {
         expire(self, now)
     }
 
-    /// The document that is asked for, shared: the kept one where it is kept, and else one that is
-    /// written now, which is kept at most. That it is kept where there is memory and room is shown by
-    /// rows, and said by no clause. An app's name has to be in upper case.
+    /// The document that is asked for, shared: the kept one, or else one that is written now, which may
+    /// then be kept. Rows show that it is kept where there is memory and room; no clause says so. An
+    /// app's name has to be in upper case.
     ///
     /// # Errors
     ///
@@ -303,8 +302,8 @@ impl Hub {
         }
     }
 
-    /// How much room the document of the first key takes that is left of the open round, where it
-    /// is to be written and names many instances. Nothing rests on it.
+    /// How much room the document of the first key takes that is left of the open round, where it is to
+    /// be written and names many instances. It is a hint.
     pub fn next_room(&self) -> Option<Room> {
         let key = self.rounds.first().ok()??;
         if self.cache.get(key).is_some() {
@@ -328,8 +327,8 @@ impl Hub {
         }
     }
 
-    /// Takes out the first key that is left of the open round; when the round is finished it is a
-    /// key of the edition exactly where it was kept. Takes no memory.
+    /// Removes the first key that is left of the open round. When the round is finished, it is a key of
+    /// the edition exactly where `kept` is true. Takes no memory.
     ///
     /// # Errors
     ///

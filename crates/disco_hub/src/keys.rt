@@ -10,7 +10,7 @@ use disco_cache::DocCache;
 use disco_values::{DocKey, Fault};
 use std::alloc::{AllocError, Global};
 
-/// Keys of documents in their order, of which another is the owner.
+/// Borrowed keys of documents, in their order.
 type Keys<'a> = Vec<&'a DocKey>;
 
 /// Where a key is, or where it would go.
@@ -44,7 +44,7 @@ fn take(keys: &mut Keys<'_>, key: &DocKey)
     }
 }
 
-/// Puts in a key that had a document, and takes out one that had none.
+/// Adds a key that had a document, and removes one that had none.
 fn note<'a>(keys: &mut Keys<'a>, copied: &'a CopiedKey) -> Result<(), AllocError>
     requires { AreInOrder keys.old.items }
     ensures order { OnOk result (AreInOrder keys.new.items) }
@@ -70,7 +70,7 @@ fn of_edition(alloc: Global, copied: &[CopiedKey]) -> Result<Keys<'_>, AllocErro
     Ok(keys)
 }
 
-/// Puts in a key, while there are fewer than so many.
+/// Adds a key, while there are fewer than `most`.
 fn add<'a>(keys: &mut Keys<'a>, key: &'a DocKey, most: u64) -> Result<(), AllocError>
     requires { AreInOrder keys.old.items }
     ensures order { OnOk result (AreInOrder keys.new.items) }

@@ -1,7 +1,6 @@
-//! One state behind all documents, with the documents that are kept until a change names them, and the
-//! rounds of a publisher: the keys of the edition that readers see, and the open round, in which
-//! documents are copied anew. Beside them, as plain data, the press list: what a publisher and the
-//! writers noted.
+//! The registry with its response cache: the documents that are kept until a change names them, and the
+//! rounds in which a publisher copies documents for readers. Defines the press list too, as plain data:
+//! what a publisher and the writers noted.
 #![tactic(auto)]
 
 mod cancel;

@@ -102,7 +102,7 @@ impl Round {
         self.left.front()
     }
 
-    /// Takes out the first key that is left, if there is one. Takes no memory.
+    /// Removes the first key that is left, if there is one. Takes no memory.
     pub(crate) fn mark(&mut self, kept: bool) -> bool
         ensures marked { result ≡ true → Marks kept self.old self.new }
         ensures none { result ≡ false → (self.old.left ≡ []) × (self.new ≡ self.old) }

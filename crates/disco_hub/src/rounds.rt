@@ -11,7 +11,7 @@ use disco_values::{DocKey, Fault};
 use std::alloc::Global;
 use std::marker::Model;
 
-/// What a hub keeps for its publisher.
+/// The keys of the edition, and the open round, if there is one.
 #[derive(Drop)]
 pub struct Rounds {
     /// The keys that the last finished round copied.
@@ -91,7 +91,7 @@ impl Rounds {
         }
     }
 
-    /// Takes the first key that is left out of the open round.
+    /// Removes the first key that is left of the open round.
     ///
     /// # Errors
     ///

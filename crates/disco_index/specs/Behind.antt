@@ -1,4 +1,4 @@
--- What stands behind a text in another one. Nothing here is to be believed: no public contract rests on it.
+-- The rest of a text behind another one. Nothing here is to be believed: no public contract rests on it.
 use Rattle.std.specs.Prelude.{ℕ, List, [], ◌∷◌, ◌==◌, if◌then◌else◌, Option, Some, None}
 
 -- what follows the first text in the second, where the second begins with it

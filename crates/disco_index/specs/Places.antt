@@ -1,4 +1,5 @@
--- What is kept of vips, and what becomes of places. Nothing here is to be believed: no public contract rests on it.
+-- What the index keeps of vips, and how its places change. Nothing here is to be believed: no public contract rests on
+-- it.
 use Rattle.std.specs.Prelude.{◌≡◌, ℕ, Bool, true, false, ◌&&◌, List, filter, if◌then◌else◌, Option, Some, None, IsSome, unwrap_or}
 use Rattle.std.specs.FinMap.{get, keys}
 use Rattle.std.specs.List.{list_any}
@@ -21,11 +22,11 @@ has_in m q k = unwrap_or (place_in m q k) false
 abbrev pub under_in : KeysByVip → List ℕ → List Key
 under_in m q = filter (has_in m q) (keys (keys_at m q))
 
--- a place that is there, empty where there was none
+-- the place, or a new empty one where there was none
 abbrev pub opened_vip : Option Bool → Option Bool
 opened_vip place = slots.opened false place
 
--- no place where it stands empty
+-- the place, unless it is empty
 abbrev pub swept : Option Bool → Option Bool
 swept None = None
 swept (Some true) = Some true

@@ -14,7 +14,7 @@ pub data Vip : Type 0 where
   plain : List ℕ → Vip
   secure : List ℕ → Vip
 
--- what asks for the records that have it
+-- the query for the records that have the vip
 abbrev pub asked : Vip → Selector
 asked (plain q) = of_vip q
 asked (secure q) = of_secure_vip q
@@ -61,7 +61,7 @@ is_under r q k = asks_for (asked q) r && same_key k r.key
 abbrev pub HasPlaces : VipKeys → Row → Type 0
 HasPlaces v r = (q : Vip) (k : Key) → is_under r q k ≡ true → IsSome (place_at v q k)
 
--- none of these places stands empty
+-- none of these places is empty
 abbrev pub HasNoneEmpty : VipKeys → Row → Type 0
 HasNoneEmpty v r = (q : Vip) (k : Key) → is_under r q k ≡ true → place_at v q k ≡ Some false → ⊥
 
@@ -77,7 +77,7 @@ KeepsVipPlaces old new = (q : Vip) (k : Key) → IsSome (place_at old q k) → I
 abbrev pub KeepsOtherVips : Row → VipKeys → VipKeys → Type 0
 KeepsOtherVips r old new = (q : Vip) (k : Key) → is_under r q k ≡ false → place_at new q k ≡ place_at old q k
 
--- the row's instance has the row's vips too
+-- the row's instance has the row's vips too, and nothing else changes
 abbrev pub Adds : Row → VipKeys → VipKeys → Type 0
 Adds r old new = (q : Vip) (k : Key) → has new q k ≡ (is_under r q k || has old q k)
 

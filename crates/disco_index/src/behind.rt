@@ -1,4 +1,4 @@
-//! What stands behind the pieces of a hash code.
+//! Takes the pieces of a hash code off the front of a text.
 ghost use Rattle.std.specs.Prelude.{◌≡◌, ◌∷◌, []};
 ghost use Rattle.std.specs.Option.{option_copied};
 ghost use Rattle.disco_values.specs.Status.{status_name};
@@ -8,7 +8,7 @@ ghost use Rattle.disco_index.specs.Behind.{behind};
 
 use disco_values::Status;
 
-/// What stands behind a byte, where a text begins with it.
+/// The rest of a text behind a byte, where the text begins with it.
 fn behind_byte(text: &[u8], byte: u8) -> Option<&[u8]>
     ensures { option_copied result ≡ behind (byte ∷ []) text.now }
 {
@@ -16,14 +16,15 @@ fn behind_byte(text: &[u8], byte: u8) -> Option<&[u8]>
     if *first == byte { Some(rest) } else { None }
 }
 
-/// What stands behind a name, where a text begins with it.
+/// The rest of a text behind a name, where the text begins with it.
 fn behind_name<'a>(text: &'a [u8], name: &str) -> Option<&'a [u8]>
     ensures { option_copied result ≡ behind name.now text.now }
 {
     text.strip_prefix(name.as_bytes())
 }
 
-/// What stands behind a number in decimal digits, where a text begins with it; 0 has no digits.
+/// The rest of a text behind a number in decimal digits, where the text begins with it; 0 has no
+/// digits.
 fn behind_digits(text: &[u8], number: u64) -> Option<&[u8]>
     ensures { option_copied result ≡ behind (digits number) text.now }
 {
@@ -34,7 +35,7 @@ fn behind_digits(text: &[u8], number: u64) -> Option<&[u8]>
     behind_byte(rest, 48 + (number % 10) as u8)
 }
 
-/// What stands behind the piece of a status, where a text begins with it.
+/// The rest of a text behind the piece of a status, where the text begins with it.
 pub(crate) fn behind_piece(text: &[u8], status: Status, count: u64) -> Option<&[u8]>
     ensures { option_copied result ≡ behind (then_piece (status_name status) count []) text.now }
 {

@@ -1,4 +1,4 @@
-//! Some places that follow one another.
+//! A chunk of the index: places that follow one another.
 ghost use Rattle.std.specs.Prelude.{◌≡◌, ◌∷◌, ◌++◌, [], ◌<◌, ◌≤◌, IfErr, IfOk, OnErr, OnOk, length, map, set, slice_index_or, take, drop};
 ghost use Rattle.std.specs.List as list;
 ghost use Rattle.disco_index.specs.ChunkedBy.{ends_before};
@@ -85,7 +85,7 @@ impl Chunk {
         self.places[i].is_there()
     }
 
-    /// Says of a place whether its instance is there.
+    /// Sets whether the instance of a place is there.
     pub(crate) fn write(&mut self, i: usize, there: bool)
         requires { i < length self.old }
         ensures { (d : Placed) → self.new ≡ set self.old i ((slice_index_or self.old i d).0, there) }
@@ -110,7 +110,7 @@ impl Chunk {
         self.places[i].renew(place);
     }
 
-    /// Takes a place out, and gives memory back where over an eighth is unused.
+    /// Removes a place, and gives memory back where over an eighth is unused.
     pub(crate) fn remove(&mut self, i: usize)
         requires { i < length self.old }
         ensures { self.new ≡ list.remove self.old i }
@@ -121,7 +121,7 @@ impl Chunk {
         }
     }
 
-    /// Takes the places from `i` on out.
+    /// Splits off the places from `i` on.
     pub(crate) fn split_off(&mut self, i: usize) -> Result<Chunk, AllocError>
         requires { i ≤ length self.old }
         ensures front { OnOk result (self.new ≡ take i self.old) }

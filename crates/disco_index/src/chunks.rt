@@ -11,7 +11,7 @@ use crate::place::Place;
 use disco_values::{Key, Text};
 use std::alloc::{AllocError, Global};
 
-/// A chunk of so many places is split.
+/// How many places a chunk has when it is split.
 const MOST: usize = 256;
 
 /// Which chunk the place of a key under a vip is in, or would go to.
@@ -29,7 +29,7 @@ fn chunk_of(chunks: &[Chunk], vip: &[u8], key: &Key) -> usize
     }
 }
 
-/// Says whether the instance is there, where its key has a place under the vip.
+/// Sets whether the instance is there, where its key has a place under the vip.
 pub(crate) fn write(chunks: &mut Vec<Chunk>, vip: &[u8], key: &Key, there: bool)
     requires { AreChunks chunks.old.items }
     ensures chunks { AreChunks chunks.new.items }
@@ -45,7 +45,7 @@ pub(crate) fn write(chunks: &mut Vec<Chunk>, vip: &[u8], key: &Key, there: bool)
     }
 }
 
-/// Takes a chunk out, and gives memory back where most is unused.
+/// Removes a chunk, and gives memory back where most is unused.
 fn remove_chunk(chunks: &mut Vec<Chunk>, n: usize)
     requires { n < length chunks.old.items }
     ensures { chunks.new.items ≡ list.remove chunks.old.items n }
@@ -56,7 +56,7 @@ fn remove_chunk(chunks: &mut Vec<Chunk>, n: usize)
     }
 }
 
-/// Takes a place out, and its chunk with the last one.
+/// Removes a place, and the chunk with its last place.
 fn take_out(chunks: &mut Vec<Chunk>, n: usize, i: usize)
     requires chunk { n < length chunks.old.items }
     requires place { (d : _) → i < length (slice_index_or chunks.old.items n d) }
@@ -70,7 +70,7 @@ fn take_out(chunks: &mut Vec<Chunk>, n: usize, i: usize)
     }
 }
 
-/// Takes the place of a key under a vip out, where it stands empty.
+/// Removes the place of a key under a vip, where it is empty.
 pub(crate) fn close(chunks: &mut Vec<Chunk>, vip: &[u8], key: &Key)
     requires { AreChunks chunks.old.items }
     ensures chunks { AreChunks chunks.new.items }

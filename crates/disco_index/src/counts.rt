@@ -64,7 +64,7 @@ impl Counts {
         }
     }
 
-    /// The same numbers once more. Takes no memory.
+    /// A copy of the counts. Takes no memory.
     pub fn again(&self) -> Counts
         ensures { result ≡ self.now }
     {
@@ -77,7 +77,7 @@ impl Counts {
         }
     }
 
-    /// One more instance has the status. Takes no memory.
+    /// Counts one more instance of the status. Takes no memory.
     pub fn add(&mut self, status: Status)
         requires { count_in self.old status < 2 ^ 64 - 1 }
         ensures more { self.new ≡ more self.old status }
@@ -87,7 +87,7 @@ impl Counts {
         self.count(status);
     }
 
-    /// One instance fewer has the status. Takes no memory.
+    /// Counts one instance of the status fewer. Takes no memory.
     pub fn take(&mut self, status: Status)
         requires { 0 < count_in self.old status }
         ensures fewer { self.new ≡ fewer self.old status }
@@ -170,7 +170,7 @@ impl Counts {
         }
     }
 
-    /// What stands behind the hash code, where a text begins with it.
+    /// The rest of a text behind the hash code, where the text begins with it.
     fn behind_text<'a>(&self, text: &'a [u8]) -> Option<&'a [u8]>
         ensures { option_copied result ≡ behind (hash_by (count_in self.now)) text.now }
     {

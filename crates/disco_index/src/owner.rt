@@ -1,4 +1,4 @@
-//! Whose places they are.
+//! Owners of places: instances, each with one of its addresses.
 ghost use Rattle.std.specs.Prelude.{◌≡◌, IfOk};
 
 use disco_values::{Key, Text};

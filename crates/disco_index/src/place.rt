@@ -14,8 +14,8 @@ use std::cmp::Ordering;
 use std::marker::Model;
 use std::mem;
 
-/// The place of an instance under a vip of its address, `there` where the instance is. It has no
-/// text of its own.
+/// The place of an instance under a vip of its address. `there` says whether the instance is there. It
+/// has no text of its own.
 #[derive(Drop)]
 pub(crate) struct Place {
     owner: SharedOwner,
@@ -131,7 +131,7 @@ impl Place {
         self.there
     }
 
-    /// Says whether the instance is there.
+    /// Sets whether the instance is there.
     pub(crate) fn write(&mut self, there: bool)
         ensures { self.new ≡ (self.old.0, there) }
     {

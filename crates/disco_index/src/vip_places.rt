@@ -15,7 +15,7 @@ use disco_values::{Key, Text};
 use std::alloc::{AllocError, Global};
 use std::marker::Model;
 
-/// For each vip of some addresses of one kind the places of keys.
+/// The places of keys under each vip of the addresses of one kind.
 #[derive(Drop)]
 pub(crate) struct VipPlaces {
     alloc: Global,
@@ -48,7 +48,7 @@ impl VipPlaces {
     }
 
     /// Makes an empty place for a key under each vip of an address, where there is none. Places that
-    /// are there take the address for their text.
+    /// are there take this address as their own.
     pub(crate) fn ready(&mut self, address: &Text, key: &Key) -> Result<(), AllocError>
         ensures ok { OnOk result (Alters opened_vip (vips address.now) key.now self.old self.new) }
         ensures same { IsSameIn self.old self.new }
@@ -62,7 +62,7 @@ impl VipPlaces {
         Ok(self.open_all(&owner)?)
     }
 
-    /// Says under each vip of an address whether the key's instance is there, where it has a place.
+    /// Sets under each vip of an address whether the key's instance is there, where it has a place.
     pub(crate) fn write(&mut self, address: &str, key: &Key, there: bool)
         ensures { Alters (written there) (vips address.now) key.now self.old self.new }
     {
@@ -73,7 +73,7 @@ impl VipPlaces {
         }
     }
 
-    /// Takes the places of a key under the vips of an address out that stand empty.
+    /// Removes the empty places of a key under the vips of an address.
     pub(crate) fn sweep(&mut self, address: &str, key: &Key)
         ensures { Alters swept (vips address.now) key.now self.old self.new }
     {
@@ -137,14 +137,14 @@ impl VipPlaces {
         Ok(chunks::open(self.alloc, &mut self.chunks, place)?)
     }
 
-    /// Says whether the instance is there, where its key has a place under the vip.
+    /// Sets whether the instance is there, where its key has a place under the vip.
     fn write_one(&mut self, vip: &str, key: &Key, there: bool)
         ensures { Alters (written there) (vip.now ∷ []) key.now self.old self.new }
     {
         chunks::write(&mut self.chunks, vip.as_bytes(), key, there);
     }
 
-    /// Takes the place of a key under a vip out, where it stands empty.
+    /// Removes the place of a key under a vip, where it is empty.
     fn close(&mut self, vip: &str, key: &Key)
         ensures { Alters swept (vip.now ∷ []) key.now self.old self.new }
     {

@@ -1,4 +1,4 @@
-//! Which instances have a vip, and which a secure vip.
+//! The index of vips: which instances have a vip, and which a secure vip.
 ghost use Rattle.std.specs.Prelude.{◌≡◌, IfErr, IfOk, None, OnErr, OnOk, Some, map, option_map};
 ghost use Rattle.std.specs.FinMap.{FinMap, get, insert, keys, remove};
 ghost use Rattle.disco_values.specs.Key.{key_cmp};
@@ -18,8 +18,8 @@ use disco_values::{Fault, Key};
 use std::alloc::{AllocError, Global};
 use std::marker::Model;
 
-/// For each vip the keys of the instances that have it, and for each secure vip those that have
-/// that one. A vip's keys cost nothing for other instances.
+/// The index of vips: the keys of the instances that have a vip, and of those that have a secure vip.
+/// To list them costs nothing for other instances.
 ///
 /// For a change of an instance: `ready` with its new record, `take` with the old one, `add` with
 /// the new one, and `sweep` with the old one.
@@ -52,8 +52,8 @@ impl VipIndex {
         }
     }
 
-    /// Makes a place for the record under each of its vips and secure vips, so that it can be added.
-    /// No answer shows a place that stands empty.
+    /// Makes a place for the record under each of its vips and secure vips, so that it can be added. No
+    /// answer shows an empty place.
     ///
     /// # Errors
     ///
@@ -68,7 +68,7 @@ impl VipIndex {
         Ok(self.open_all(rec)?)
     }
 
-    /// The record's instance has the record's vips, beside those that it has. Takes no memory.
+    /// Adds the record's instance under the record's vips. Takes no memory.
     pub fn add(&mut self, rec: &Record)
         requires { HasPlaces self.old (row rec.now) }
         ensures vips { Adds (row rec.now) self.old self.new }
@@ -79,7 +79,7 @@ impl VipIndex {
         self.place(rec);
     }
 
-    /// The record's instance has the record's vips no more. Their places stay, and stand empty.
+    /// Removes the record's instance from the record's vips. Its places there stay, and are empty.
     /// Takes no memory.
     pub fn take(&mut self, rec: &Record)
         ensures vips { Removes (row rec.now) self.old self.new }
@@ -90,7 +90,7 @@ impl VipIndex {
         self.displace(rec);
     }
 
-    /// Gives back the places under the record's vips that stand empty. Takes no memory.
+    /// Gives back the empty places under the record's vips. Takes no memory.
     pub fn sweep(&mut self, rec: &Record)
         ensures same { IsSameVips self.old self.new }
         ensures swept { HasNoneEmpty self.new (row rec.now) }
@@ -171,7 +171,7 @@ impl VipIndex {
         )
     }
 
-    /// Says under each of the record's vips whether its instance is there, where it has a place.
+    /// Sets under each of the record's vips whether its instance is there, where it has a place.
     fn write_all(&mut self, rec: &Record, there: bool)
         ensures { AltersRow (written there) (row rec.now) self.old self.new }
     {
@@ -182,7 +182,7 @@ impl VipIndex {
             .write(details.secure_vip_address.as_str(), &rec.key, there);
     }
 
-    /// Takes the places under the record's vips out that stand empty.
+    /// Removes the empty places under the record's vips.
     fn close_all(&mut self, rec: &Record)
         ensures { AltersRow swept (row rec.now) self.old self.new }
     {

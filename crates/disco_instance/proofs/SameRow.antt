@@ -1,4 +1,4 @@
--- Records of the same row are one.
+-- Records with the same row are the same.
 use Rattle.std.proofs.Common.{◌≡◌, ◌≢◌, ℕ, ◌<◌, ◌^◌, List, [], ap}
 use mathlib.Core.HLevel.{Σ_prop_path}
 use Rattle.std.specs.Coded.{Coded-set, coded_list, coded_ℕ, le_prop}

@@ -16,7 +16,7 @@ use Rattle.disco_values.specs.declared.key.Key.{Key}
 use Rattle.disco_instance.specs.declared.lease.Lease.{Lease}
 use Rattle.disco_values.specs.declared.status.Status.TheVariants.{Up}
 
--- what a call gave, seen by a function, is this, unless memory ran out
+-- the result of a call, seen by a function, is this, unless memory ran out
 abbrev pub Gives : {X Y : Type 0} → (X → Y) → Result X Fault → Result Y Fault → Type 0
 Gives view (Ok x) wanted = wanted ≡ Ok (view x)
 Gives view (Err e) wanted = e ≢ OutOfMemory → wanted ≡ Err e
@@ -28,11 +28,11 @@ if_ok (Err e) f = Err e
 
 -- ---- the key
 
--- the id, which is the host's name where none is given
+-- the id, or the host's name where no id is given
 abbrev pub id_at : Data → Option (List ℕ)
 id_at d = option_or (non_empty_at (codes "instanceId") d) (non_empty_at (codes "hostName") d)
 
--- the app's name, which is that of the application round it where none is given
+-- the app's name, or that of the enclosing application where none is given
 abbrev pub app_at : Option (List ℕ) → Data → Option (List ℕ)
 app_at within d = option_or (non_empty_at (codes "app") d) (option_and_then not_empty within)
 
@@ -87,6 +87,6 @@ row_at d k = record {
 abbrev pub told_by : Option (List ℕ) → Data → Result Row Fault
 told_by within d = if_ok (key_at within d) (λ k. Ok (row_at d k))
 
--- what was done to the instance, where the tree says so
+-- the action that the tree names, if any
 abbrev pub action_at : Data → Option Action
 action_at d = option_and_then action_named (text_at (codes "actionType") d)

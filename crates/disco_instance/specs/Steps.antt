@@ -1,4 +1,4 @@
--- What steps inside this crate say of a record. Nothing here is to be believed: no public contract rests on it.
+-- What private contracts say of a record. Nothing here is to be believed: no public contract rests on it.
 use Rattle.std.specs.Prelude.{[], codes, false, true, unwrap_or, ◌<◌, ◌≡◌, ◌≢◌, ◌^◌}
 use Rattle.serde_json.specs.Data.{Data}
 use Rattle.disco_instance.specs.Members.{flag_at, inner_at, number_at, override_at, port_at, status_at, text_or_empty}

@@ -1,4 +1,4 @@
-//! What an instance told of itself.
+//! The details of an instance: the parts of a record that own memory, but for its key.
 ghost use Rattle.std.specs.Prelude.{◌≡◌, IfOk, IfErr};
 ghost use Rattle.disco_values.specs.Entries.{with_entries};
 ghost use Rattle.disco_values.specs.declared.fault.Fault.TheVariants.{OutOfMemory};
@@ -7,8 +7,8 @@ use crate::data_center::DataCenter;
 use disco_values::{Entries, Fault, Text};
 use std::alloc::AllocError;
 
-/// What an instance told of itself that owns memory. Records of it that differ in status, lease or
-/// moments alone share it.
+/// The parts of a record that own memory, but for its key: data centre, pages, addresses and metadata.
+/// Records that differ only in status, lease or moments share them.
 #[derive(Debug, Drop)]
 pub struct Details {
     pub data_center: DataCenter,

@@ -54,14 +54,14 @@ fn lease_from_value(value: &Value) -> Lease
     }
 }
 
-/// What was done to an instance, where its value says so: the member `actionType`.
+/// The action that an instance's value names, if any: the member `actionType`.
 pub fn action_from_value(value: &Value) -> Option<Action>
     ensures { result ≡ action_at (view value.now) }
 {
     action_of(text_member(value, "actionType")?)
 }
 
-/// The record that the value says, of whose rest and details this is so.
+/// The record that the value describes, with this rest and these details.
 fn with_parts(value: &Value, rest: Rest, details: SharedDetails) -> Record
     requires key { IsRecordKey rest.key }
     requires rest { IsRestOf (view value.now) rest }
@@ -84,7 +84,7 @@ fn with_parts(value: &Value, rest: Rest, details: SharedDetails) -> Record
     }
 }
 
-/// The record that the value says, but for its details, which are given.
+/// The record that the value describes, with these details.
 fn read_record(
     alloc: Global,
     value: &Value,
@@ -100,7 +100,7 @@ fn read_record(
 }
 
 impl Record {
-    /// The record that a JSON value says, within an application of that name.
+    /// The record that a JSON value describes, within an application of that name.
     ///
     /// # Errors
     ///

@@ -1,4 +1,4 @@
-//! What is known of every record.
+//! What holds of every record.
 ghost use Rattle.std.specs.Prelude.{◌<◌, ◌^◌};
 ghost use Rattle.disco_instance.specs.Row.{IsWellFormed, row};
 
@@ -18,7 +18,7 @@ fn is_port(number: u16)
     let _ = number;
 }
 
-/// Says what is true of every record, and does nothing.
+/// Its contract says what holds of every record. Does nothing.
 pub fn well_formed(rec: &Record)
     ensures { IsWellFormed (row rec.now) }
 {

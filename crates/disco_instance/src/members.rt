@@ -1,4 +1,4 @@
-//! What a JSON value, or a member of one, is. A value of another kind counts as absent.
+//! Reads members of a JSON value. A value of another kind counts as absent.
 ghost use Rattle.std.specs.Prelude.{◌≡◌, ◌≤◌, IfOk, option_map, unwrap_or};
 ghost use Rattle.serde_json.specs.View.{view};
 ghost use Rattle.disco_values.specs.Status.{status_named};

@@ -7,7 +7,7 @@ use disco_values::{Entries, Text};
 use serde_json::{Map, Value};
 use std::alloc::{AllocError, Global};
 
-/// The text that an entry is kept as, where it is kept.
+/// The text that an entry is kept as, if it is kept.
 fn kept_text(alloc: Global, value: &Value) -> Result<Option<Text>, AllocError>
     ensures { IfOk result (λ o. o ≡ entry_text (view value.now)) }
 {
@@ -22,7 +22,7 @@ fn kept_text(alloc: Global, value: &Value) -> Result<Option<Text>, AllocError>
     }
 }
 
-/// What is kept of an object's members, with no more room than it fills.
+/// The members of an object that are kept, without spare room.
 fn kept_pairs(alloc: Global, members: &Map<String, Value>) -> Result<Vec<(Text, Text)>, AllocError>
     ensures { IfOk result (λ v. v.items ≡ kept_entries (members_view members.now.entries)) }
 {

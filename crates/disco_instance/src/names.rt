@@ -1,4 +1,4 @@
-//! What names an instance, and where it runs, from its members.
+//! Reads the key and the data centre of an instance from its members.
 ghost use Rattle.std.specs.Prelude.{◌≡◌, IfOk, option_map};
 ghost use Rattle.std.specs.Option.{option_copied};
 ghost use Rattle.serde_json.specs.View.{view};
@@ -10,7 +10,7 @@ use disco_values::{Fault, Field, Key, Text, upper_text};
 use serde_json::Value;
 use std::alloc::{AllocError, Global};
 
-/// The id, for which the name of the host stands where there is none.
+/// The id, or the name of the host where there is no id.
 fn id_member(value: &Value) -> Option<&str>
     ensures { option_map (λ s. s.now) result ≡ id_at (view value.now) }
 {

@@ -1,4 +1,4 @@
-//! The parts of a record that are read together.
+//! Reads the parts of a record from a JSON value.
 ghost use Rattle.std.specs.Prelude.{◌≡◌, codes, IfOk};
 ghost use Rattle.std.specs.Option.{option_copied};
 ghost use Rattle.serde_json.specs.View.{view};
@@ -39,7 +39,7 @@ impl Pages {
     }
 }
 
-/// Where an instance is found.
+/// The addresses of an instance: host name, IP address and vips.
 #[derive(Drop)]
 pub(crate) struct Addresses {
     pub(crate) host_name: Text,
@@ -83,7 +83,7 @@ fn joined(pages: Pages, addresses: Addresses, data_center: DataCenter, metadata:
     }
 }
 
-/// The details that the value of an instance says.
+/// The details that the value of an instance describes.
 pub(crate) fn details_in(alloc: Global, value: &Value) -> Result<SharedDetails, AllocError>
     ensures { IfOk result (λ d. SaysDetails (view value.now) d) }
 {
@@ -95,7 +95,7 @@ pub(crate) fn details_in(alloc: Global, value: &Value) -> Result<SharedDetails, 
     SharedDetails::new(alloc, details)
 }
 
-/// What names an instance, and its statuses.
+/// The rest of a record beside its details: its key and its statuses.
 #[derive(Drop)]
 pub(crate) struct Rest {
     pub(crate) key: Key,
@@ -115,7 +115,7 @@ fn override_member(alloc: Global, value: &Value) -> Result<Status, AllocError>
 }
 
 impl Rest {
-    /// The rest that the value of an instance says, within an application of that name. Refused as
+    /// The rest that the value of an instance describes, within an application of that name. Refused as
     /// `MissingField` for no id and else for no app, and as `OutOfMemory`.
     pub(crate) fn read(alloc: Global, value: &Value, within: Option<&str>) -> Result<Rest, Fault>
         ensures key { Gives (λ r. r.key) result (key_at (option_copied within.entry) (view value.now)) }

@@ -43,7 +43,7 @@ impl Record {
     ghost use Rattle.disco_instance.specs.Row.{row};
     ghost use Rattle.disco_instance.specs.Moments.{put_at, modified_at, cancelled_at};
 
-    /// The same record once more. Its key is copied, and its details are shared.
+    /// A copy of the record. Its key is copied, and its details are shared.
     ///
     /// # Errors
     ///

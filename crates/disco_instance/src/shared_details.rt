@@ -1,4 +1,4 @@
-//! What an instance told of itself, shared by its records.
+//! The details of an instance, shared by its records.
 ghost use Rattle.std.specs.Prelude.{◌≡◌, IfOk};
 
 use crate::details::Details;

@@ -1,4 +1,4 @@
--- What places show of the leases that stand in them.
+-- What places show of the leases in them.
 use Rattle.std.proofs.Common.{◌≡◌, ℕ, Bool, true, false, cond, List, [], ◌∷◌, map, Option, Some, None, option_map, is_some, IsSome, refl, sym, ap, subst, ◌∙◌}
 use Rattle.std.specs.Option.{option_flatten}
 use Rattle.std.specs.FinMap.{FinMap, empty, entries, find, get, get-empty, get-entries, insert, remove, same_map, get-from_entries, get-insert, get-remove}

@@ -21,7 +21,7 @@ due_at v k = option_map due_moment (lease_at v k)
 abbrev pub due_cmp : ℕ × Key → ℕ × Key → Ordering
 due_cmp a b = ordering_then (nat_cmp a.0 b.0) (key_cmp a.1 b.1)
 
--- a moment that is over
+-- the due moment, if it is over
 abbrev pub passed : ℕ → Option ℕ → Option ℕ
 passed now due = option_and_then (λ m. if nat_lt m now then Some m else None) due
 
@@ -41,7 +41,7 @@ renewals_needed instances = instances * 2 * 85 / 100
 abbrev pub lets_expire : Minute → Bool
 lets_expire m = nat_lt 0 (renewals_needed m.instances) && nat_lt (renewals_needed m.instances) m.renewals
 
--- how many of so many instances one run takes at most: 85 of 100 stay
+-- how many of so many instances one run takes at most: 85 of 100, rounded down, stay
 abbrev pub most_taken : ℕ → ℕ
 most_taken held = held - held * 85 / 100
 

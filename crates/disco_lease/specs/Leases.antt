@@ -46,7 +46,7 @@ KeepsPlaces old new = (q : Key) → HasPlace old q → HasPlace new q
 abbrev pub KeepsOthers : Key → Leases → Leases → Type 0
 KeepsOthers k old new = (q : Key) → same_key q k ≡ false → get new.places q ≡ get old.places q
 
--- the key's place, if it has one, doesn't stand empty
+-- the key's place, if it has one, isn't empty
 abbrev pub IsFilled : Key → Leases → Type 0
 IsFilled k v = HasPlace v k → IsSome (lease_at v k)
 

@@ -1,4 +1,4 @@
--- What is stored, as plain data. Nothing here is to be believed: no public contract rests on it.
+-- Stored leases, as plain data. Nothing here is to be believed: no public contract rests on it.
 use Rattle.std.specs.Ordering.{eq_by_cmp}
 use Rattle.std.specs.Prelude.{◌≡◌, ℕ, Bool, List, map, is_some, if◌then◌else◌, Option, Some, None, option_map}
 use Rattle.std.specs.List.{filter_map}

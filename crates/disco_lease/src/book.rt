@@ -37,7 +37,7 @@ impl Model for LeaseBook {
 }
 
 impl LeaseBook {
-    /// No leases, and no renewals so far.
+    /// An empty book: no leases, and no renewals so far.
     pub fn new(alloc: Global) -> LeaseBook
         ensures { result ≡ no_leases }
     {
@@ -65,7 +65,7 @@ impl LeaseBook {
         Ok(())
     }
 
-    /// The key has a new lease of `duration_secs` seconds, whose mark is `now`, in milliseconds.
+    /// Gives the key a new lease of `duration_secs` seconds, whose mark is `now`, in milliseconds.
     /// Takes no memory.
     pub fn register(&mut self, key: &Key, duration_secs: u32, now: u64)
         requires { HasPlace self.old key.now }
@@ -77,8 +77,8 @@ impl LeaseBook {
         self.places.put(key, Lease::marked(duration_secs, now));
     }
 
-    /// The key has a new lease of `duration_secs` seconds, whose mark is one duration after `now`, in
-    /// milliseconds: what `register` and then `touch` leave, by one search. Takes no memory.
+    /// Gives the key a new lease of `duration_secs` seconds, whose mark is one duration after `now`, in
+    /// milliseconds: as `register` and then `touch`, by one search. Takes no memory.
     pub fn register_touched(&mut self, key: &Key, duration_secs: u32, now: u64)
         requires { HasPlace self.old key.now }
         ensures leases { Sets key.now (Some (extended now (marked duration_secs now))) self.old self.new }
@@ -90,8 +90,8 @@ impl LeaseBook {
         self.places.put(key, lease.extended(now));
     }
 
-    /// The mark of the key's lease is one duration after `now`, in milliseconds, and a renewal is
-    /// counted. Takes no memory.
+    /// Moves the mark of the key's lease to one duration after `now`, in milliseconds, and counts a
+    /// renewal. Takes no memory.
     ///
     /// # Errors
     ///
@@ -111,8 +111,8 @@ impl LeaseBook {
         Ok(())
     }
 
-    /// The mark of the key's lease is one duration after `now`, in milliseconds, and no renewal is
-    /// counted. Takes no memory.
+    /// Moves the mark of the key's lease to one duration after `now`, in milliseconds, and counts no
+    /// renewal. Takes no memory.
     ///
     /// # Errors
     ///
@@ -134,7 +134,7 @@ impl LeaseBook {
         }
     }
 
-    /// The key has no lease any more, and no place for one. Takes no memory.
+    /// Removes the key's lease and its place. Takes no memory.
     ///
     /// # Errors
     ///
@@ -187,9 +187,9 @@ impl LeaseBook {
         renewals
     }
 
-    /// The keys of the leases that one run takes at a moment in milliseconds, where so many
-    /// instances are held: those that have run out, the earliest first, then by key, and no more of
-    /// them than leave 85 of 100 instances; none where too few renewals came in the minute that was
+    /// The keys that one run of expiry takes at a moment in milliseconds, where `held` instances are
+    /// held: those whose leases have run out, the earliest first, then by key. It leaves at least 85 of
+    /// 100 instances, rounded down. It takes none where too few renewals came in the minute that was
     /// closed last. A run costs a pass over all leases, and a second one where it takes any.
     ///
     /// # Errors

@@ -22,8 +22,8 @@ impl Minute {
         }
     }
 
-    /// Whether leases may run out after this minute: more than 85 of 100 of the renewals came that
-    /// its instances send, at two each.
+    /// Whether a run may take leases after this minute (Eureka's self-preservation): more than 85 of
+    /// 100 of the renewals that its instances send, at two each, came.
     pub(crate) fn lets_expire(self) -> bool
         ensures { result ≡ lets_expire self }
     {

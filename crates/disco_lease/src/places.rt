@@ -1,4 +1,4 @@
-//! Leases by key, with places that stand empty.
+//! Leases by key, in places that may be empty.
 ghost use Rattle.std.specs.Prelude.{◌≡◌, ◌<◌, [], IfOk, IsSome, IsTrue, None, OnErr, OnOk, Some, false, is_some, length, map, option_map};
 ghost use Rattle.std.specs.FinMap as finmap;
 ghost use Rattle.std.specs.Option.{option_flatten};
@@ -74,7 +74,7 @@ impl Places {
         self.places.update(key, |lease| lease.extended(now))
     }
 
-    /// Takes the place of a key out.
+    /// Removes the place of a key.
     pub(crate) fn close(&mut self, key: &Key)
         ensures { self.new ≡ finmap.remove self.old key.now }
     {

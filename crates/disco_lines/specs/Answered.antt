@@ -1,4 +1,4 @@
--- What is answered of an input, and why it may not be.
+-- The answers to an input, and why there may be none.
 use Rattle.std.specs.Prelude.{◌≡◌, ◌≢◌, ◌⊎◌, ℕ, List, [], ◌++◌, length, Option}
 use Rattle.std.specs.Io.KnownBytes.{Appends}
 use Rattle.disco_values.specs.declared.fault.Fault.{Fault}

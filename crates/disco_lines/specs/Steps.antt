@@ -1,4 +1,4 @@
--- What is read of a line, and written of one, in steps. Nothing here is to be believed.
+-- Private steps of reading and writing lines. Nothing here is to be believed.
 use Rattle.std.specs.Prelude.{ℕ, Bool, List, [], ◌∷◌, ◌==◌, ◌++◌, codes, decimal, Option, Some, None}
 use Rattle.disco_cache.specs.declared.payload.Payload.{Payload}
 use Rattle.disco_world.specs.declared.event.Event.{Event}

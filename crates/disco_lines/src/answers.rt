@@ -194,7 +194,7 @@ fn write_bytes<W: Sink>(bytes: &[u8], out: &mut W) -> Result<(), Fault>
     write_all(out, bytes)
 }
 
-/// Writes what is gathered, and takes it out.
+/// Writes what is gathered, and empties the buffer.
 fn write_buffered<W: Sink>(buffered: &mut Vec<u8>, out: &mut W) -> Result<(), Fault>
     ensures empty { OnOk result (buffered.new.items ≡ []) }
     ensures written { OnOk result (AppendsUpTo (W.contents out.old) (W.contents out.new) buffered.old.items []) }

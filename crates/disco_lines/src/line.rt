@@ -1,5 +1,5 @@
-//! The event that a line means. Where a function gives an event or a part of one, `None` stands for a
-//! line that can't be read; where it puts one, so does `false`.
+//! Reads the event of a line. For a line that can't be read, functions give `None`, or `false` where
+//! they put an event.
 ghost use Rattle.std.specs.Prelude.{◌≡◌, IfOk, IfErr, Some, option_map};
 ghost use Rattle.std.specs.Option.{is_some};
 ghost use Rattle.disco_values.specs.declared.fault.Fault.TheVariants.{OutOfMemory};

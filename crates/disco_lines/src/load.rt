@@ -1,4 +1,4 @@
-//! What the words behind `load` and `look` ask for.
+//! Reads which document the words behind `load` and `look` ask for.
 ghost use Rattle.std.specs.Prelude.{◌≡◌, IfOk, IfErr, option_and_then};
 ghost use Rattle.disco_values.specs.declared.fault.Fault.TheVariants.{OutOfMemory};
 ghost use Rattle.disco_lines.specs.Loads.{form_named, one_target, load_of, look_for, named, target, target_by, target_of_kind, whole_target};

@@ -10,7 +10,6 @@ use crate::words::Words;
 use disco_values::Fault;
 use disco_world::{Event, Step};
 
-/// Puts an event.
 #[inline(always)]
 fn put(event: Event, events: &mut Vec<Event>) -> Result<bool, Fault>
     ensures says { IfOk result (λ found. found ≡ true) }
@@ -21,7 +20,6 @@ fn put(event: Event, events: &mut Vec<Event>) -> Result<bool, Fault>
     Ok(true)
 }
 
-/// Puts a step.
 #[inline(always)]
 pub(crate) fn put_step(step: Step, events: &mut Vec<Event>) -> Result<bool, Fault>
     ensures says { IfOk result (λ found. found ≡ true) }

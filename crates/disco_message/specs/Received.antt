@@ -28,7 +28,7 @@ abbrev pub body_extent : ℕ → ℕ → List (List ℕ × List ℕ) → Option 
 body_extent status minor fields = if status == 204 then Some (Framed (Sized 0)) else
     extent_of minor (field_values (codes "content-length") fields) (field_values (codes "transfer-encoding") fields)
 
--- what a head says with a body that ends so
+-- what a head says whose body has this extent
 abbrev pub received_with : ℕ → ℕ → List (List ℕ × List ℕ) → Option Extent → Result Received Fault
 received_with status minor fields None = Err BadRequest
 received_with status minor fields (Some e) = Ok (record { status = status; fields = fields; extent = e; closes = closes minor fields })

@@ -22,25 +22,26 @@ reply_view bytes r = record { status = r.status; allow = r.allow; document = opt
 abbrev pub number_text : ℕ → List ℕ
 number_text n = if n == 0 then 48 ∷ [] else digits n
 
--- a document is JSON
+-- the field Content-Type: a document is JSON
 unfoldable pub type_line : List ℕ
 type_line = codes "Content-Type: application/json\r\n"
 
--- the length of the body
+-- the field Content-Length
 unfoldable pub length_line : ℕ → List ℕ
 length_line n = codes "Content-Length: " ++ number_text n ++ codes "\r\n"
 
--- the certificate of the document: its run, its base and its version, with a space between them (this project's own rule)
+-- the field X-Discovery-Certificate: run, base and version of the document, with a space between them (this project's
+-- own rule)
 unfoldable pub certificate_line : Option Cert → List ℕ
 certificate_line None = []
 certificate_line (Some c) = codes "X-Discovery-Certificate: " ++ number_text c.run ++ codes " " ++ number_text c.base
     ++ codes " " ++ number_text c.version ++ codes "\r\n"
 
--- the methods of the path
+-- the field Allow: the methods of the path
 unfoldable pub allow_line : Option Allow → List ℕ
 allow_line allow = option_map_or (λ methods. codes "Allow: " ++ allowed methods ++ codes "\r\n") allow []
 
--- the connection ends behind the reply (RFC 9112, section 9.6)
+-- the field Connection, where the connection ends behind the reply (RFC 9112, section 9.6)
 unfoldable pub close_line : Bool → List ℕ
 close_line true = codes "Connection: close\r\n"
 close_line false = []

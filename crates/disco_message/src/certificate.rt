@@ -14,7 +14,7 @@ fn first_space(text: &[u8]) -> Option<usize>
     text.iter().position(|b| *b == b' ')
 }
 
-/// What stands before the first space and behind it.
+/// The parts of a text before and after its first space.
 fn split(text: &[u8]) -> (&[u8], &[u8])
     ensures front { result.0.now ≡ before_first is_blank text.now }
     ensures behind { result.1.now ≡ behind_space text.now }
@@ -37,7 +37,7 @@ fn spelled(text: &[u8]) -> Option<Cert>
     })
 }
 
-/// The certificate that the one value spells.
+/// The certificate that a field's only value spells.
 pub(crate) fn only_cert(texts: Few<'_>) -> Option<Cert>
     ensures { (vs : List (List ℕ)) → FewAre texts.entry vs → result ≡ only_cert vs }
 {

@@ -37,7 +37,7 @@ pub(crate) fn next_value<'a, 'f>(
     None
 }
 
-/// The values of a name, as far as two.
+/// The values of the fields of a name: none, one, or more.
 #[derive(Clone, Copy, Debug)]
 pub(crate) enum Few<'a> {
     None,

@@ -15,9 +15,9 @@ use httparse::spans::HeaderSpan;
 /// How a body is framed (RFC 9112, section 6).
 #[derive(Clone, Copy, Debug, PartialEq, Eq)]
 pub enum Framing {
-    /// So many bytes.
+    /// A body of so many bytes.
     Sized(u64),
-    /// Chunks, and fields behind the last one.
+    /// A body of chunks, with fields behind the last one.
     Chunked,
 }
 
@@ -54,7 +54,7 @@ fn has_host(minor: u8, hosts: Few<'_>) -> bool
     minor == 0 || matches!(hosts, Few::One(_))
 }
 
-/// Whether a name has no other value, byte for byte.
+/// Whether each field of a name has this value, byte for byte.
 fn all_are(text: &[u8], fields: &[HeaderSpan], name: &[u8], wanted: &[u8]) -> bool
     requires { All (IsHeaderWithin (length text.now)) fields.now }
     ensures { result ≡ list_all (λ v. bytes_eq v wanted.now) (field_values name.now (map (header_bytes text.now) fields.now)) }

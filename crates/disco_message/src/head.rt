@@ -1,4 +1,4 @@
-//! The head of a request, kept.
+//! The head of a request, copied out of its buffer.
 ghost use Rattle.std.specs.Prelude.{◌≡◌, ◌⊎◌, length, take, map, All, IfOk, IfErr, IsErrOf, IsOk, Err};
 ghost use Rattle.http_header.specs.Token.{IsToken};
 ghost use Rattle.httparse.specs.Grammar.{RequestHead};
@@ -18,7 +18,7 @@ use httparse::spans::{HeaderSpan, RequestSpans};
 use std::alloc::{AllocError, Global};
 use std::marker::Model;
 
-/// The head of a request that may be read on. Contracts see what it says.
+/// The head of a request that isn't refused. Contracts see what it says.
 #[derive(Debug, Drop)]
 pub struct Head {
     method: Method,
@@ -137,7 +137,7 @@ impl Head {
         }
     }
 
-    /// The room that it takes.
+    /// Gives back the room that it takes.
     pub(crate) fn into_room(self) -> HeadRoom {
         let Head {
             text,
@@ -152,7 +152,7 @@ impl Head {
         }
     }
 
-    /// The method, as it stands in the request.
+    /// The method, as in the request.
     pub fn method(&self) -> &Method
         ensures { result.now ≡ self.now.method }
     {

@@ -1,7 +1,7 @@
-//! What a connection may ask for.
+//! Limits of a connection.
 ghost use Rattle.std.specs.Prelude.{◌<◌, ◌^◌, ◌≡◌};
 
-/// What a connection may ask for.
+/// Limits of a connection: of its messages, and of the number of its requests.
 #[derive(Clone, Copy, Debug)]
 pub struct Limits {
     /// Bytes of a head with its empty line, of a chunk's line, and of the fields behind the last

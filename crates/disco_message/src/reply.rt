@@ -5,8 +5,7 @@ use crate::status_line::Allow;
 use disco_values::Cert;
 use http::StatusCode;
 
-/// What a reply may have as its body: bytes that something holds. An `Arc` of them is answered
-/// with no copy.
+/// The body of a reply: a value that holds bytes. An `Arc` of one is answered without a copy.
 pub trait Document {
     // Its bytes.
     ghost content: { Self → List ℕ };
@@ -16,8 +15,8 @@ pub trait Document {
         ensures { result.now ≡ content self.now };
 }
 
-/// A reply: its status, what `Allow` lists where it is there, the document, which is JSON, and the
-/// certificate of that. A reply of status 204 is written without its document.
+/// A reply: its status, the methods of `Allow` if it has that field, its JSON document, and the
+/// document's certificate. A reply of status 204 is written without its document.
 #[derive(Debug, Drop)]
 pub struct Reply<D> {
     pub status: StatusCode,

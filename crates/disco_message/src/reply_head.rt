@@ -8,7 +8,7 @@ use crate::status_line::{Allow, phrase};
 use disco_values::{Cert, push_digits};
 use http::StatusCode;
 
-/// Room in which the head of any reply fits, in bytes.
+/// How many bytes have room for the head of any reply.
 pub const HEAD_ROOM: usize = 256;
 
 /// Pushes bytes into room that is there. Takes no memory.
@@ -114,7 +114,7 @@ fn push_allow(out: &mut Vec<u8>, allow: Option<Allow>)
     }
 }
 
-/// Pushes the lines on the body, which is that of a document of so many bytes, or empty.
+/// Pushes the lines on the body: of a document of `size` bytes, or an empty one.
 fn push_body_lines(out: &mut Vec<u8>, status: StatusCode, size: Option<u64>)
     requires { vec_len out.old + 70 ≤ vec_capacity out.old }
     ensures text { out.new.items ≡ out.old.items ++ body_lines status size }

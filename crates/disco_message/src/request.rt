@@ -34,12 +34,12 @@ impl Request {
         Request { head, body }
     }
 
-    /// The room of its head and that of its body, for the next one.
+    /// Gives back the room of its head and that of its body, for the next request.
     pub fn into_room(self) -> (HeadRoom, Vec<u8>) {
         (self.head.into_room(), self.body)
     }
 
-    /// The method, as it stands in the request: `get` is another one than `GET`.
+    /// The method, as in the request: `get` is another one than `GET`.
     pub fn method(&self) -> &Method
         ensures { result.now ≡ self.now.method }
     {

@@ -23,7 +23,7 @@ impl HeadRoom {
     }
 }
 
-/// Puts bytes in the place of those that are kept.
+/// Replaces the kept bytes.
 pub(crate) fn refill_bytes(kept: &mut Vec<u8>, bytes: &[u8]) -> Result<(), AllocError>
     ensures { OnOk result (kept.new.items ≡ bytes.now) }
 {
@@ -31,7 +31,7 @@ pub(crate) fn refill_bytes(kept: &mut Vec<u8>, bytes: &[u8]) -> Result<(), Alloc
     kept.extend_from_slice(bytes)
 }
 
-/// Puts spans in the place of those that are kept.
+/// Replaces the kept spans.
 pub(crate) fn refill_spans(
     kept: &mut Vec<HeaderSpan>,
     spans: &[HeaderSpan],

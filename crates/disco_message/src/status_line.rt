@@ -1,4 +1,4 @@
-//! Statuses, and what `Allow` says.
+//! Reason phrases, statuses of refusals, and the methods of `Allow`.
 ghost use Rattle.std.specs.Prelude.{◌≡◌, ◌≤◌, length};
 ghost use Rattle.disco_message.specs.StatusLine.{phrase, allowed, refusal};
 
@@ -50,7 +50,7 @@ pub enum Allow {
 }
 
 impl Allow {
-    /// The list.
+    /// The value of the field.
     #[tactic(auto, unfolding(crate::specs::StatusLine::allowed))]
     pub fn text(self) -> &'static [u8]
         ensures text { result.now ≡ allowed self }

@@ -65,7 +65,7 @@ fn behind_authority(target: &[u8]) -> Path<'_>
 impl<'a> Path<'a> {
     ghost use Rattle.std.specs.Prelude.{OnOk};
 
-    /// Puts its bytes in the place of those that are kept.
+    /// Replaces the kept bytes by its own.
     pub(crate) fn copy_to(&self, kept: &mut Vec<u8>) -> Result<(), AllocError>
         ensures { OnOk result (kept.new.items ≡ self.now) }
     {

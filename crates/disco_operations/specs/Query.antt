@@ -1,4 +1,4 @@
--- The names and values of a query (the URL Standard's application/x-www-form-urlencoded).
+-- The names and values of a URL's query string (the URL Standard's application/x-www-form-urlencoded).
 use Rattle.std.specs.Prelude.{ℕ, List, [], ◌∷◌, map, Option, Some, None, if◌then◌else◌, codes}
 use Rattle.std.specs.Str.{bytes_eq}
 use Rattle.std.specs.Str.Lossy.{utf8_lossy}

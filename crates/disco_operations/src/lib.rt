@@ -1,6 +1,6 @@
-//! From what a request or an event says to the operation on the registry that it asks for: the key
-//! that an app and an id name, a registration under an app's name, changes of status and metadata, and
-//! how names and queries are encoded.
+//! Makes the operation on the registry that a request or an event asks for: the key of an app and an
+//! id, a registration under an app's name, changes of status and metadata. Decodes names and query
+//! strings.
 #![tactic(auto)]
 
 mod operations;

@@ -1,4 +1,4 @@
-//! Operations by what names them.
+//! Makes operations from names, values and bodies.
 ghost use Rattle.std.specs.Prelude.{◌≡◌, IfOk, IfErr, Ok, OnOk, false, true};
 ghost use Rattle.std.specs.Str.{bytes_eq};
 ghost use Rattle.disco_instance.specs.Instance.{Gives};
@@ -30,7 +30,7 @@ pub fn key_named(alloc: Global, app: Text, id: Text) -> Result<Key, Fault>
     })
 }
 
-/// Whether a name in upper case is an app's own. The own name counts exactly.
+/// Whether a name, put in upper case, is an app's own name.
 fn is_own(name: &[u8], own: &[u8]) -> bool
     ensures { result ≡ bytes_eq (in_upper_case name.now) own.now }
 {

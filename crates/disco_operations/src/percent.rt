@@ -1,4 +1,4 @@
-//! Names that are percent-encoded.
+//! Decodes percent-encoded names.
 ghost use Rattle.std.specs.Prelude.{◌≡◌, ◌==◌, ◌&&◌, not, IfOk, IfErr, IfSome, Some, option_map};
 ghost use Rattle.std.specs.Char.{is_ascii};
 ghost use Rattle.std.specs.Cow.{cow_str_bytes};

@@ -1,4 +1,4 @@
-//! The names and values of a query.
+//! Decodes the query string of a URL.
 ghost use Rattle.std.specs.Prelude.{◌≡◌, IfOk, IfErr};
 ghost use Rattle.disco_values.specs.declared.fault.Fault.TheVariants.{OutOfMemory};
 ghost use Rattle.disco_operations.specs.Query.{entries_of_query, pairs_of, text_of, value_of};
@@ -24,7 +24,7 @@ fn pairs(alloc: Global, query: &[u8]) -> Result<Vec<(Text, Text)>, AllocError>
     Ok(pairs)
 }
 
-/// The entries that a query names, as an HTML form encodes them (the URL Standard's
+/// The entries of a query string, which encodes them as an HTML form does (the URL Standard's
 /// `application/x-www-form-urlencoded`): of equal names the first counts, and one named `@class` is
 /// dropped. Bytes that aren't UTF-8 become U+FFFD.
 ///
@@ -38,7 +38,7 @@ pub fn entries_of_query(alloc: Global, query: &[u8]) -> Result<Entries, Fault>
     Entries::from_pairs(alloc, pairs(alloc, query)?)
 }
 
-/// What a query gives for `value`, first of all, where it does.
+/// The first `value` of a query string, if it has one.
 ///
 /// # Errors
 ///

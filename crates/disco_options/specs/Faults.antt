@@ -1,4 +1,4 @@
--- What a run that fails says and ends with (this project's own format).
+-- Messages and exit statuses of failed runs (this project's own format).
 use Rattle.std.specs.Prelude.{◌≡◌, ◌⊎◌, ℕ, List, Option, ◌++◌, codes, decimal}
 use Rattle.std.specs.Io.KnownBytes.{Appends, append_known}
 use Rattle.std.specs.declared.io.ErrorKind.{ErrorKind as IoKind}

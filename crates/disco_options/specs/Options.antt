@@ -168,7 +168,7 @@ flag_given name rows = option_map_or (λ text. bytes_eq text (codes "true")) (on
 abbrev pub port_in : List Given → ℕ
 port_in rows = within 65535 1 (number_given (codes "port") rows)
 
--- the settings are those given, with defaults for the others, of which that of the run is handed in
+-- the settings are those given, with defaults for the others, of which that of the run is an argument
 pub record AreGiven (otherwise : ℕ) (rows : List Given) (s : Settings) : Type 0 where
   pub run : s.run ≡ unwrap_or (number_given (codes "run") rows) otherwise
   pub versions : s.versions ≡ within most_versions most_versions (number_given (codes "versions") rows)

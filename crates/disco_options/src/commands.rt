@@ -1,4 +1,4 @@
-//! The command line.
+//! Reads the words of a command line.
 ghost use Rattle.std.specs.Prelude.{◌≡◌, [], ◌∷◌, IfOk, map, string_bytes};
 ghost use Rattle.std.specs.Option.{option_map_or};
 ghost use Rattle.clap.specs.Words.{FailsBy, HasKind, app_of, found_of, rows_of, with_subcommand};
@@ -158,7 +158,7 @@ fn server_fault(matches: &ArgMatches<'_>) -> Option<(ErrorKind, &'static str)>
     }
 }
 
-/// What is wrong with a command's words though each of its options is right.
+/// What is wrong with a command's options together, where each by itself is right.
 fn fault_between(
     subcommand: Subcommand,
     matches: &ArgMatches<'_>,
@@ -171,7 +171,7 @@ fn fault_between(
     }
 }
 
-/// What words give whose options go together.
+/// The options, if they go together.
 fn checked<'a>(
     command: &mut Command<'a>,
     subcommand: Subcommand,
@@ -186,7 +186,7 @@ fn checked<'a>(
     }
 }
 
-/// What the words behind a command's word give.
+/// The options in the words behind a command's word.
 fn read_options<'a>(
     alloc: Global,
     subcommand: Subcommand,
@@ -216,7 +216,8 @@ fn refusal<'a>(alloc: Global, words: &'a [String]) -> Result<Error, AllocError>
     }
 }
 
-/// What the words behind the program's name give a command, whose word has to stand first.
+/// The options that the words behind the program's name give a command, whose own word has to be the
+/// first.
 ///
 /// # Errors
 ///

@@ -1,4 +1,4 @@
-//! What a run that fails says on standard error, and the status that it ends with.
+//! Messages of failed runs on standard error, and exit statuses.
 ghost use Rattle.std.specs.Prelude.{◌≡◌, ◌≢◌, ◌⊎◌, ◌++◌, IfSome, OnOk, codes, decimal};
 ghost use Rattle.std.specs.Io.KnownBytes.{Appends};
 ghost use Rattle.std.specs.IoError.{error_kind};
@@ -52,8 +52,8 @@ fn write_report<E: Sink>(fault: &Fault, errors: &mut E) -> Result<(), Fault>
     }
 }
 
-/// Writes the one line that names a fault, and gives the status 1. Nothing is left to try where
-/// that line can't be written. Takes no memory.
+/// Writes the one line that names a fault, and gives the status 1. A line that can't be written is
+/// dropped. Takes no memory.
 pub fn report<E: Sink>(fault: &Fault, errors: &mut E) -> u8
     ensures status { result ≡ 1 }
     ensures says { Says fault.now (E.contents errors.old) (E.contents errors.new) (E.failed errors.old) (E.failed errors.new) }

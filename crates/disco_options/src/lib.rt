@@ -1,5 +1,5 @@
-//! The command line: what the words of a command name, and what words that are refused or ask for
-//! help are answered with. [`settings_of`] reads the options of a command.
+//! The command line: reads the words of a command, and answers words that are refused or ask for help.
+//! [`settings_of`] reads the options of a command.
 #![tactic(auto)]
 
 mod commands;

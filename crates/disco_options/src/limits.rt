@@ -1,5 +1,5 @@
-//! The bounds and the defaults of what commands are given beside settings. Each number stands here
-//! once for code, in the way of `disco_settings`, and once for contracts, in `specs/Options.antt`.
+//! The bounds and the defaults of options that aren't settings. Each number is here once for code, as
+//! in `disco_values`, and once for contracts, in `specs/Options.antt`.
 
 /// The upper bound of a number that has a default too.
 macro_rules! most {

@@ -1,4 +1,4 @@
-//! What the words of a command line name.
+//! Reads settings from the words of a command line.
 ghost use Rattle.std.specs.Prelude.{◌≡◌, ◌≤◌, [], IfErr, IfOk, OnOk, map, string_bytes};
 ghost use Rattle.clap.specs.Words.{FailsBy, found_of, rows_of};
 ghost use Rattle.disco_options.specs.Faults.{IsStatusAmong};
@@ -12,7 +12,7 @@ use clap::{ArgMatches, Error};
 use disco_values::{MOST_ENTRIES, MOST_INSTANCES, MOST_QUEUE, MOST_VERSIONS, RETENTION, Settings};
 use std::alloc::Global;
 
-/// The settings that are given, with the default of each that isn't, which of the run is `run`.
+/// The settings that are given, with defaults for the others; that of the run is `run`.
 pub fn settings_from(matches: &ArgMatches<'_>, run: u64) -> Settings
     ensures { AreGiven run (rows_of (found_of matches.now)) result }
 {
@@ -27,12 +27,11 @@ pub fn settings_from(matches: &ArgMatches<'_>, run: u64) -> Settings
     }
 }
 
-/// The settings that words which begin with a command's word are for; the run is `run` where they
-/// name none.
+/// The settings of words that begin with a command's word; the run is `run` where they name none.
 ///
 /// # Errors
 ///
-/// An error that has the kind of a fault of the words, or the kind `OutOfMemory`.
+/// An error whose kind is that of a fault of the words, or `OutOfMemory`.
 pub fn read_settings<'a>(
     alloc: Global,
     subcommand: Subcommand,
@@ -46,10 +45,10 @@ pub fn read_settings<'a>(
     Ok(settings_from(&matches, run))
 }
 
-/// The settings that the words behind the program's name are for: `replay` or `serve`, and then
-/// `--versions N`, `--instances N`, `--queue N`, `--entries N`, `--retention MS`, `--no-delta`,
-/// `--run N`, or `fleet` and its `--instances N` and `--run N`. An option that isn't given has its
-/// default, and that of the run is `run`.
+/// The settings of the words behind the program's name: `replay` or `serve`, and then `--versions N`,
+/// `--instances N`, `--queue N`, `--entries N`, `--retention MS`, `--no-delta`, `--run N`, or `fleet`
+/// and its `--instances N` and `--run N`. An option that isn't given has its default, and that of the
+/// run is `run`.
 ///
 /// # Errors
 ///

@@ -11,7 +11,7 @@ pub enum Subcommand {
     Serve,
     /// Serves clients and writers in its own process.
     Fleet,
-    /// Tells what changes in the registry of a server.
+    /// Writes what changes in the registry of a server.
     Follow,
 }
 

@@ -1,4 +1,4 @@
--- What is found under a key, and the order of the entries, where those of each app stand on their own.
+-- What is found under a key, and the order of the entries, where each app has a map of its own.
 use Rattle.std.proofs.Common.{◌≡◌, ℕ, Bool, true, false, ◌&&◌, cond, T, List, [], ◌∷◌, ◌++◌, map, Option, Some, None, IsSome, OnErr, OnOk, Result, Ok, Err, option_and_then, refl, sym, ap, subst, ◌∙◌}
 use Rattle.std.specs.Cmp.{tied_itself}
 use Rattle.std.specs.FinMap.{FinMap, empty, entries, entries_sorted, find, from_entries, from_sorted, entries-from_sorted, get, get-empty, get-entries, get-from_entries, get-from_sorted, insert, remove, same_map, get-insert, get-remove}

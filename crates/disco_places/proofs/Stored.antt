@@ -1,4 +1,4 @@
--- What a change of a tree's entries does to the places that they stand for, whose ids are in byte order.
+-- What a change of a tree's entries does to the places that they represent, whose ids are in byte order.
 use Rattle.std.proofs.Common.{◌≡◌, ℕ, Bool, true, false, ◌&&◌, cond, T, List, [], ◌∷◌, length, arith, Option, Some, None, IsSome, refl, sym, ap, subst, ◌∙◌}
 use Rattle.std.specs.BTreeMap.{BTreeMap, UpdatesBy, is_at}
 use Rattle.std.specs.Cmp.{IsTotalOrder, eq_by_cmp_equiv}

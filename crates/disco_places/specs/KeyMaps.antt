@@ -1,4 +1,4 @@
--- What stands by app and then by id, as entries by key (this project's own definition).
+-- Maps by app and then by id, as entries by key (this project's own definition).
 use Rattle.std.specs.Prelude.{◌≡◌, ℕ, List, map, Option, Some, flat_map}
 use Rattle.std.specs.declared.cmp.Ordering.{Ordering}
 use Rattle.std.specs.Cmp.Lexicographic.{slice_cmp}
@@ -30,10 +30,10 @@ of_apps apps = flat_map of_app apps
 abbrev pub by_key : {X : Type 0} → List (List ℕ × ById X) → FinMap key_cmp X
 by_key apps = from_entries (of_apps apps)
 
--- the place of k had a value, and has now one that F says may come of it; all others are as they were
+-- k had a value, and now has one that F relates to it; all other entries are as they were
 abbrev pub Replaces : {K X : Type 0} {cmp : K → K → Ordering} → (X → X → Type 0) → FinMap cmp (Option X) → FinMap cmp (Option X) → K → Type 0
 Replaces {X = X} F m n k = (x : X) × (y : X) × (option_flatten (get m k) ≡ Some x) × F x y × (n ≡ insert m k (Some y))
 
--- no app stands without an id
+-- no app is without an id
 abbrev pub HasNoBareApp : {X : Type 0} → List (List ℕ × ById X) → Type 0
 HasNoBareApp es = (a : List ℕ) → lookup (is_at (text_cmp a)) es ≡ Some empty → ⊥

@@ -81,7 +81,6 @@ fn unset<V: Drop>(ids: &mut BTreeMap<Text, V>, id: &Text) -> bool
 }
 
 impl<V: Drop> IdMap<V> {
-    /// No ids.
     pub(crate) fn new(alloc: Global) -> IdMap<V>
         ensures { result ≡ finmap.empty }
     {
@@ -90,14 +89,12 @@ impl<V: Drop> IdMap<V> {
         }
     }
 
-    /// Whether there is no id.
     pub(crate) fn is_empty(&self) -> bool
         ensures { IsTrue result ↔ (self.now ≡ finmap.empty) }
     {
         self.ids.is_empty()
     }
 
-    /// The value of an id.
     pub(crate) fn get(&self, id: &Text) -> Option<&V>
         ensures { option_copied result ≡ finmap.get self.now id.now }
     {
@@ -134,8 +131,7 @@ impl<V: Drop> IdMap<V> {
         Ok(())
     }
 
-    /// Puts another value in the place of that of an id, where it has one, and answers the one that
-    /// stood there. Takes no memory.
+    /// Replaces the value of an id, where it has one, and answers the old one. Takes no memory.
     pub(crate) fn swap(&mut self, id: &Text, value: V) -> Option<V>
         ensures before { result ≡ finmap.get self.old id.now }
         ensures there { IsSome (finmap.get self.old id.now) → self.new ≡ finmap.insert self.old id.now value }
@@ -144,7 +140,7 @@ impl<V: Drop> IdMap<V> {
         swap(&mut self.ids, id, value)
     }
 
-    /// Takes the value of an id out, and answers whether it had one. Takes no memory.
+    /// Removes the value of an id, and answers whether it had one. Takes no memory.
     pub(crate) fn remove(&mut self, id: &Text) -> bool
         ensures there { result ≡ is_some (finmap.get self.old id.now) }
         ensures out { self.new ≡ finmap.remove self.old id.now }
@@ -154,8 +150,8 @@ impl<V: Drop> IdMap<V> {
 }
 
 impl<V: Drop> IdMap<Option<V>> {
-    /// Changes the value in the place of an id, if there is one, to what a function makes of it. Answers
-    /// whether there is one. Takes no memory of its own.
+    /// Applies a function to the value of an id, if it has one. Answers whether there is one. Takes no
+    /// memory of its own.
     pub(crate) fn update<F: FnOnce(&V) -> V + Drop>(&mut self, id: &Text, f: F) -> bool
         requires { F.IsAlwaysCallable f }
         ensures there { result ≡ is_some (option_flatten (finmap.get self.old id.now)) }

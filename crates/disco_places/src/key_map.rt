@@ -64,8 +64,7 @@ fn insert_in<V: Drop>(
     Ok(())
 }
 
-/// Puts another value in the place of that of a key, where it has one, and answers the one that stood
-/// there.
+/// Replaces the value of a key, where it has one, and answers the old one.
 fn swap_in<V: Drop>(apps: &mut BTreeMap<Text, IdMap<V>>, key: &Key, value: V) -> Option<V>
     requires { IsOrdered text_cmp apps.old }
     ensures before { result ≡ finmap.get (by_key apps.old.entries) key.now }
@@ -80,8 +79,7 @@ fn swap_in<V: Drop>(apps: &mut BTreeMap<Text, IdMap<V>>, key: &Key, value: V) ->
     }
 }
 
-/// Changes the value in the place of a key, if there is one, to what a function makes of it. Answers
-/// whether there is one.
+/// Applies a function to the value of a key, if it has one. Answers whether there is one.
 fn update_in<V: Drop, F: FnOnce(&V) -> V + Drop>(
     apps: &mut BTreeMap<Text, IdMap<Option<V>>>,
     key: &Key,
@@ -102,7 +100,7 @@ fn update_in<V: Drop, F: FnOnce(&V) -> V + Drop>(
     }
 }
 
-/// Takes the value of a key out. Whether it had one, and whether its app is there and has no id left.
+/// Removes the value of a key. Answers whether it had one, and whether its app is left without an id.
 fn close_in<V: Drop>(apps: &mut BTreeMap<Text, IdMap<V>>, key: &Key) -> (bool, bool)
     requires { IsOrdered text_cmp apps.old }
     ensures there { result.0 ≡ is_some (finmap.get (by_key apps.old.entries) key.now) }
@@ -121,7 +119,7 @@ fn close_in<V: Drop>(apps: &mut BTreeMap<Text, IdMap<V>>, key: &Key) -> (bool, b
     }
 }
 
-/// Takes an app out.
+/// Removes an app.
 fn unset<V: Drop>(apps: &mut BTreeMap<Text, IdMap<V>>, app: &Text)
     ensures updates { tree.Updates text_cmp apps.old apps.new app.now None }
     ensures ordered { IsOrdered text_cmp apps.new }
@@ -129,7 +127,7 @@ fn unset<V: Drop>(apps: &mut BTreeMap<Text, IdMap<V>>, app: &Text)
     apps.remove(app);
 }
 
-/// Takes the value of a key out, and its app with its last id. Whether it had one.
+/// Removes the value of a key, and the app with its last id. Answers whether the key had one.
 fn take_out<V: Drop>(apps: &mut BTreeMap<Text, IdMap<V>>, key: &Key) -> bool
     requires { IsOrdered text_cmp apps.old }
     ensures there { result ≡ is_some (finmap.get (by_key apps.old.entries) key.now) }
@@ -220,7 +218,7 @@ impl<V: Drop> KeyMap<V> {
         Ok(())
     }
 
-    /// Puts another value in the place of that of a key, where it has one. Takes no memory.
+    /// Replaces the value of a key, where it has one. Takes no memory.
     pub fn set(&mut self, key: &Key, value: V)
         ensures there { IsSome (finmap.get self.old key.now) → self.new ≡ finmap.insert self.old key.now value }
         ensures none { finmap.get self.old key.now ≡ None → self.new ≡ self.old }
@@ -228,7 +226,7 @@ impl<V: Drop> KeyMap<V> {
         let _before = self.swap(key, value);
     }
 
-    /// The same, and answers the value that stood there. Takes no memory.
+    /// Replaces the value of a key, where it has one, and answers the old one. Takes no memory.
     pub fn swap(&mut self, key: &Key, value: V) -> Option<V>
         ensures before { result ≡ finmap.get self.old key.now }
         ensures there { IsSome (finmap.get self.old key.now) → self.new ≡ finmap.insert self.old key.now value }
@@ -237,7 +235,7 @@ impl<V: Drop> KeyMap<V> {
         swap_in(&mut self.apps, key, value)
     }
 
-    /// Takes the value of a key out. Takes no memory.
+    /// Removes the value of a key. Takes no memory.
     pub fn remove(&mut self, key: &Key)
         ensures { self.new ≡ finmap.remove self.old key.now }
     {
@@ -248,8 +246,8 @@ impl<V: Drop> KeyMap<V> {
 }
 
 impl<V: Drop> KeyMap<Option<V>> {
-    /// Changes the value in the place of a key, if there is one, to what a function makes of it. Answers
-    /// whether there is one. Takes no memory of its own.
+    /// Applies a function to the value of a key, if it has one. Answers whether there is one. Takes no
+    /// memory of its own.
     pub(crate) fn update<F: FnOnce(&V) -> V + Drop>(&mut self, key: &Key, f: F) -> bool
         requires { F.IsAlwaysCallable f }
         ensures there { result ≡ is_some (option_flatten (finmap.get self.old key.now)) }

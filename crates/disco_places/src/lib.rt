@@ -1,4 +1,4 @@
-//! What stands by key: values, and places that may stand empty. Those of each app are on their own.
+//! Maps by key: of values, and of places that may be empty. Each app has a map of its own.
 #![tactic(auto)]
 
 mod id_map;

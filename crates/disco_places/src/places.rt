@@ -1,4 +1,4 @@
-//! Places by key, which may stand empty.
+//! Places by key, which may be empty.
 ghost use Rattle.std.specs.Prelude.{◌≡◌, IsSome, IsTrue, None, OnErr, OnOk, Some, false, is_some};
 ghost use Rattle.std.specs.FinMap as finmap;
 ghost use Rattle.std.specs.Fn.{FnOnceReturnsAt};
@@ -94,8 +94,8 @@ impl<V: Drop> Places<V> {
         self.places.set(key, Some(value));
     }
 
-    /// Changes the value in the place of a key, if there is one, to what a function makes of it. Answers
-    /// whether there is one. Takes no memory of its own.
+    /// Applies a function to the value in the place of a key, if there is one. Answers whether there is
+    /// one. Takes no memory of its own.
     pub fn update<F: FnOnce(&V) -> V + Drop>(&mut self, key: &Key, f: F) -> bool
         requires { F.IsAlwaysCallable f }
         ensures there { result ≡ is_some (option_flatten (finmap.get self.old key.now)) }
@@ -105,7 +105,7 @@ impl<V: Drop> Places<V> {
         self.places.update(key, f)
     }
 
-    /// Takes the place of a key out.
+    /// Removes the place of a key.
     pub fn close(&mut self, key: &Key)
         ensures { self.new ≡ finmap.remove self.old key.now }
     {

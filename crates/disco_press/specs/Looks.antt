@@ -1,4 +1,4 @@
--- What a look finds.
+-- What a look into an edition finds.
 use Rattle.std.specs.Prelude.{◌≡◌, ℕ, List, Option, Some, None}
 use Rattle.std.specs.FinMap.{get}
 use Rattle.disco_values.specs.declared.doc_key.DocKey.{DocKey}

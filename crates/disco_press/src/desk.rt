@@ -1,4 +1,4 @@
-//! The desk: what lies under the lock.
+//! The desk: the state behind one lock.
 ghost use Rattle.std.specs.Prelude.{◌≡◌, ◌≤◌, [], IfErr, IfOk, OnErr, true};
 ghost use mathlib.Core.List.{IsPrefix};
 ghost use Rattle.disco_core.specs.Refusals.{doc_of_key};
@@ -22,8 +22,8 @@ use std::marker::Model;
 use std::sync::ledger::Book;
 use std::sync::{Arc, Wait};
 
-/// A hub with the writer of the editions that its seats look into. It has to be closed by
-/// [`Desk::close`], since that may wait for a seat. Contracts see what was published, publication by
+/// The state behind one lock: a hub, and the writer of the editions that seats read. Its owner has to
+/// call [`Desk::close`], which may wait for a seat. Contracts see what was published, publication by
 /// publication, what was noted since, and the hub.
 pub struct Desk<J: Naming> {
     pub(crate) alloc: Global,
@@ -34,7 +34,7 @@ pub struct Desk<J: Naming> {
     pub(crate) next: Edition,
     /// Room for the document of the next copy.
     pub(crate) room: Vec<u8>,
-    /// Memory for a cancel that is refused any.
+    /// Memory to give up when a cancel is refused memory.
     pub(crate) reserve: Reserve,
     /// The changes that seats made.
     pub(crate) book: Book<J>,
@@ -158,7 +158,7 @@ impl<J: Naming> Desk<J> {
         self.hub.close_minute()
     }
 
-    /// Ends the press: from now on each look of its seats is shut. May wait for a seat that is
+    /// Ends publishing: from now on each look of its seats answers `Shut`. May wait for a seat that is
     /// inside its look.
     pub fn close<R: Wait>(self, rt: &R) {
         let Desk {
@@ -177,9 +177,9 @@ impl<J: Naming> Desk<J> {
 }
 
 impl<J: Naming> Seat<J> {
-    /// This seat learns what the desk has published, and what it has noted: no later look goes back
-    /// behind it. All that it knew and had heard of is a beginning of that, since desk and seat have
-    /// one name, and so one list of notes. Takes no memory.
+    /// Tells this seat what the desk has published and noted: no later look answers from an earlier
+    /// edition. What the seat knew is a beginning of that, since desk and seat have one name, and so
+    /// one list of notes. Takes no memory.
     pub fn learn(&mut self, desk: &mut Desk<J>)
         ensures desk { desk.new ≡ desk.old }
         ensures knew { IsPrefix self.old.known desk.old.published }

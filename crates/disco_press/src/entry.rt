@@ -1,8 +1,8 @@
-//! What a press list remembers.
+//! Entries of a press list.
 use disco_history::Change;
 use disco_hub::Copied;
 
-/// A note, or that all that was noted so far is published.
+/// An entry: a note, or that all notes so far are published.
 #[derive(Drop)]
 pub enum LogEntry {
     /// A round begins.

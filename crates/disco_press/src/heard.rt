@@ -46,7 +46,7 @@ impl<J: Naming> Heard<J> {
         Heard::of_witness(witness)
     }
 
-    /// The same once more.
+    /// A copy.
     pub fn again(&self) -> Heard<J>
         ensures { result ≡ self.now }
     {

@@ -1,5 +1,5 @@
-//! A desk under a lock that publishes editions, and the seats that look into them without one. Each
-//! edition has the press list beside it that it is of, on a list that exists in proofs alone.
+//! A desk, which publishes editions under a lock, and seats, which read them without one. Beside each
+//! edition is its press list, which exists in proofs alone.
 #![tactic(auto)]
 
 mod desk;

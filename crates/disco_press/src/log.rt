@@ -54,7 +54,7 @@ impl<J: Naming> PublicationLog<J> {
         }
     }
 
-    /// A round begins.
+    /// Notes that a round begins.
     #[tactic(auto, using(crate::proofs::Publications::logged_more))]
     pub fn begin(&mut self)
         ensures { self.new ≡ record self.old { pending = self.old.pending ++ press.begin ∷ [] } }
@@ -64,7 +64,7 @@ impl<J: Naming> PublicationLog<J> {
         self.len = self.len.saturating_add(1);
     }
 
-    /// The registry changes.
+    /// Notes a change of the registry.
     #[tactic(auto, using(crate::proofs::Publications::logged_more))]
     pub fn change(&mut self, change: Change) -> Change
         ensures noted { self.new ≡ record self.old { pending = self.old.pending ++ press.change (change_view change) ∷ [] } }
@@ -81,7 +81,7 @@ impl<J: Naming> PublicationLog<J> {
         }
     }
 
-    /// A key is copied.
+    /// Notes the copy of a key.
     #[tactic(auto, using(crate::proofs::Publications::logged_more))]
     pub fn copy(&mut self, copied: Copied) -> Copied
         ensures noted { self.new ≡ record self.old { pending = self.old.pending ++ note_of copied ∷ [] } }
@@ -98,7 +98,7 @@ impl<J: Naming> PublicationLog<J> {
         }
     }
 
-    /// What was noted since the last publication is a publication from now on.
+    /// Makes the notes since the last publication the next one.
     #[tactic(auto, using(crate::proofs::Publications::logged_more))]
     pub fn publish(&mut self)
         ensures { self.new ≡ record { published = self.old.published ++ self.old.pending ∷ []; pending = [] } }
@@ -126,7 +126,7 @@ impl<J: Naming> PublicationLog<J> {
         Heard::of_witness(self.entries.witness())
     }
 
-    /// What a reader heard was noted here, and is a beginning of what was noted.
+    /// What a reader has been told of was noted here, and is a beginning of what was noted.
     #[tactic(auto, using(crate::proofs::Publications::notes_begin_too))]
     pub fn meet_all(&mut self, heard: &Heard<J>)
         ensures { (self.new ≡ self.old) × IsPrefix heard.now (all_noted self.old) }

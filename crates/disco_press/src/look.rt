@@ -37,7 +37,7 @@ fn find(edition: &Edition, key: &DocKey) -> Looked
     }
 }
 
-/// What is seen at a key, and of which publications, unless the desk is gone.
+/// The document of a key, and the publications of the edition that it is from, unless the desk is gone.
 pub(crate) fn look_in<J: Naming>(
     reader: PressReader<J>,
     key: &DocKey,

@@ -43,7 +43,7 @@ impl<E> MonotoneList<E> {
         }
     }
 
-    /// One entry more.
+    /// Adds an entry.
     pub fn grow(&mut self, entry: &E)
         ensures { (self.new.name ≡ self.old.name) × (self.new.items ≡ self.old.items ++ entry.now ∷ []) }
     {

@@ -1,4 +1,4 @@
-//! What names a desk before it is there.
+//! The name of a desk before the desk is opened.
 ghost use Rattle.std.specs.Prelude.{◌≡◌, []};
 
 use crate::entry::LogEntry;
@@ -8,7 +8,7 @@ use std::sync::ledger::Blank;
 /// As many seats as a desk may have, and one part that is left.
 const PARTS: u64 = 65;
 
-/// What a desk and its seats are named by, before a type stands for it.
+/// The name of a desk and its seats, before a type has it.
 #[derive(Drop)]
 pub struct Opening {
     pub marks: MonotoneList<LogEntry>,
@@ -18,7 +18,7 @@ pub struct Opening {
 }
 
 impl Opening {
-    /// A name that nothing has yet.
+    /// A new name.
     pub fn new() -> Opening {
         Opening {
             marks: MonotoneList::open(),

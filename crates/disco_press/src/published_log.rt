@@ -20,8 +20,8 @@ impl Naming for Brand {
     ghost list = { 0 };
 }
 
-/// A beginning of a press list that ends with a publish, with how many entries it has, which stops at
-/// 2^64 - 1 and then says nothing.
+/// A beginning of a press list that ends with a publish, and its length. A length of 2^64 - 1 says
+/// nothing, since it isn't counted further.
 #[derive(Drop)]
 pub struct LogPrefix {
     pub len: u64,
@@ -31,7 +31,7 @@ pub struct LogPrefix {
 }
 
 impl LogPrefix {
-    /// The same once more. Takes no memory.
+    /// A copy. Takes no memory.
     pub fn again(&self) -> LogPrefix
         ensures { result.witness ≡ self.now.witness }
     {
@@ -79,6 +79,7 @@ impl<J: Naming> Model for PublishedLog<J> {
 impl<J: Naming> PublishedLog<J> {
     ghost use Rattle.disco_press.specs.Logs.{publications};
 
+    /// The publications in a beginning of the press list.
     pub fn of(prefix: LogPrefix) -> PublishedLog<J>
         requires { prefix.witness.name ≡ J.list }
         ensures { result ≡ publications prefix.witness.items }
@@ -97,19 +98,21 @@ impl<J: Naming> PublishedLog<J> {
         self.prefix.is_before(&other.prefix)
     }
 
-    /// The same once more. Takes no memory.
+    /// A copy. Takes no memory.
     pub fn again(&self) -> PublishedLog<J>
         ensures { result ≡ self.now }
     {
         PublishedLog::of(self.prefix.again())
     }
 
+    /// The beginning of the press list.
     pub fn prefix(&self) -> &LogPrefix
         ensures { (result.now.witness.name ≡ J.list) × (publications result.now.witness.items ≡ self.now) }
     {
         &self.prefix
     }
 
+    /// The beginning of the press list, owned.
     pub fn into_prefix(self) -> LogPrefix
         ensures { (result.witness.name ≡ J.list) × (publications result.witness.items ≡ self) }
     {

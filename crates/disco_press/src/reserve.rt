@@ -1,4 +1,4 @@
-//! Memory that a desk keeps for a cancel that is refused any.
+//! Memory that a desk gives up when a cancel is refused memory.
 ghost use Rattle.std.specs.Prelude.{◌≡◌, IfErr};
 ghost use Rattle.disco_values.specs.declared.fault.Fault.TheVariants.{OutOfMemory};
 
@@ -13,10 +13,10 @@ const BLOCKS: usize = 16;
 /// How many bytes a block has.
 const BLOCK_BYTES: usize = 1_048_576;
 
-/// What each byte of a block is. Memory that is cleared may be promised alone, and not given.
+/// The value of each byte of a block. The host may only promise memory that is zero, and not give it.
 const WRITTEN: u8 = 1;
 
-/// Blocks of memory that nothing is kept in.
+/// Unused blocks of memory.
 #[derive(Drop)]
 pub(crate) struct Reserve {
     alloc: Global,
@@ -25,7 +25,7 @@ pub(crate) struct Reserve {
     wanted: usize,
 }
 
-/// Each byte of a block was written to, so the host has given its memory.
+/// A block. Each of its bytes was written to, so the host has given the memory.
 fn block(alloc: Global) -> Result<Vec<u8>, AllocError> {
     let mut block = Vec::with_capacity(alloc, BLOCK_BYTES)?;
     block.resize(BLOCK_BYTES, WRITTEN)?;
@@ -33,7 +33,7 @@ fn block(alloc: Global) -> Result<Vec<u8>, AllocError> {
 }
 
 impl Reserve {
-    /// A reserve that is to have nothing.
+    /// A reserve that wants no block.
     pub(crate) fn none(alloc: Global) -> Reserve {
         Reserve {
             alloc,
@@ -52,7 +52,7 @@ impl Reserve {
 }
 
 impl<J: Naming> Desk<J> {
-    /// From now on the desk keeps a reserve of memory, of 16 MiB, for what is refused any.
+    /// Has the desk keep a reserve of 16 MiB of memory, to give up when memory is refused.
     ///
     /// # Errors
     ///
@@ -66,7 +66,7 @@ impl<J: Naming> Desk<J> {
         Ok(())
     }
 
-    /// Frees the reserve. Answers whether there was something of it.
+    /// Frees the reserve. Answers whether it had a block.
     pub fn give_up_reserve(&mut self) -> bool
         ensures same { self.new ≡ self.old }
     {

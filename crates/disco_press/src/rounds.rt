@@ -73,9 +73,9 @@ impl<J: Naming> Desk<J> {
         Ok(Some(self.log.copy(copied)))
     }
 
-    /// Ends the open round and publishes: readers take the edition of all that was noted from now
-    /// on. Answers how many documents it has. Takes no memory, and may wait for a seat that is
-    /// inside its look.
+    /// Ends the open round and publishes: from now on readers take the edition of all that was noted.
+    /// Answers how many documents it has. Takes no memory, and may wait for a seat that is inside its
+    /// look.
     ///
     /// # Errors
     ///

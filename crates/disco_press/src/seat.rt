@@ -14,8 +14,8 @@ use disco_values::DocKey;
 use std::marker::Model;
 use std::sync::ledger::{Book, Share};
 
-/// The place from which one reader looks into the editions of the desk of this name, and with
-/// which it counts its own changes. It may go to another thread.
+/// A thread's read handle on the editions of the desk of this name, and a count of the changes made for
+/// it. It may go to another thread.
 #[derive(Drop)]
 pub struct Seat<J: Naming> {
     reader: SnapshotReader<J>,
@@ -97,7 +97,7 @@ impl<J: Naming> Seat<J> {
         self.reader.known()
     }
 
-    /// What this seat has been told was noted.
+    /// The notes that this seat has been told of.
     pub(crate) fn heard(&self) -> &Heard<J>
         ensures { result.now ≡ self.now.heard }
     {
@@ -114,7 +114,7 @@ impl<J: Naming> Seat<J> {
         }
     }
 
-    /// From now on this seat knows what was seen, whatever it knew. Takes no memory.
+    /// Replaces what this seat knows by what was seen. Takes no memory.
     pub fn tell(&mut self, seen: Seen<J>)
         ensures { self.new ≡ record self.old { known = seen.known; heard = seen.heard } }
     {

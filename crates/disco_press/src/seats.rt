@@ -17,7 +17,6 @@ use std::alloc::{AllocError, Global};
 use std::sync::Wait;
 use std::sync::ledger::Share;
 
-/// One seat.
 fn seat_of<J: Naming>(
     snapshots: &SnapshotWriter<J>,
     log: &PublicationLog<J>,
@@ -33,7 +32,6 @@ fn seat_of<J: Naming>(
     Ok(Seat::new(reader, heard, mine))
 }
 
-/// So many seats.
 fn seats_of<J: Naming>(
     alloc: Global,
     snapshots: &SnapshotWriter<J>,

@@ -1,4 +1,4 @@
-//! What readers take: an edition with the publications that it is of.
+//! A snapshot for readers: an edition with its publications.
 
 use crate::published_log::{LogPrefix, Naming};
 use crossbeam_utils::rule::{Outcome, Protocol};
@@ -7,7 +7,7 @@ use left_right::Absorb;
 use std::alloc::AllocError;
 use std::marker::PhantomData;
 
-/// An edition with the publications that it is of.
+/// An edition with its publications.
 #[derive(Drop)]
 pub struct Snapshot {
     pub docs: Edition,

@@ -1,4 +1,4 @@
-//! Readers of what is published, by which seats look into what is published.
+//! Readers of published editions, through which seats look.
 ghost use Rattle.std.specs.Prelude.{◌≡◌};
 ghost use mathlib.Core.List.{IsPrefix};
 ghost use Rattle.disco_press.specs.Looks.{Shows};
@@ -11,8 +11,8 @@ use core::mem::replace_with;
 use disco_values::DocKey;
 use std::marker::Model;
 
-/// The place from which one reader looks into the editions of the desk of this name. Contracts see
-/// the publications that it has seen or been told of. It may go to another thread.
+/// A thread's read handle on the editions of the desk of this name. Contracts see the publications that
+/// it has seen or been told of. It may go to another thread.
 #[derive(Drop)]
 pub struct SnapshotReader<J: Naming> {
     reader: PressReader<J>,
@@ -64,7 +64,7 @@ impl<J: Naming> SnapshotReader<J> {
         &self.known
     }
 
-    /// From now on it knows these publications, whatever it knew.
+    /// Replaces what it knows by these publications.
     pub fn tell(&mut self, known: PublishedLog<J>)
         ensures { self.new ≡ known }
     {

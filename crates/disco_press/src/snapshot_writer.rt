@@ -34,7 +34,7 @@ impl<J: Naming> Model for SnapshotWriter<J> {
 }
 
 impl<J: Naming> SnapshotWriter<J> {
-    /// An edition without documents, for so many readers.
+    /// A writer of an empty edition, for so many readers.
     ///
     /// # Errors
     ///
@@ -61,7 +61,7 @@ impl<J: Naming> SnapshotWriter<J> {
         })
     }
 
-    /// A reader more, which knows these publications.
+    /// One more reader, which knows these publications.
     ///
     /// # Errors
     ///
@@ -91,7 +91,7 @@ impl<J: Naming> SnapshotWriter<J> {
         )
     }
 
-    /// Ends the press: readers take nothing from now on.
+    /// Ends publishing: readers take nothing from now on.
     pub fn close<R: Wait>(self, rt: &R) {
         let SnapshotWriter { writer } = self;
         writer.take(rt);

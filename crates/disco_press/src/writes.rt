@@ -17,7 +17,7 @@ use disco_hub::{Cancel, Expired, Hub, cancel_all};
 use disco_registry::{Applied, Op};
 use disco_values::{Fault, Key};
 
-/// Of these keys those stay whose leases have run out by a moment.
+/// Keeps of these keys those whose leases have run out by a moment.
 fn keep_overdue(hub: &Hub, keys: &mut Vec<Key>, now: u64)
     ensures fewer { vec_len keys.new ≤ vec_len keys.old }
     ensures room { vec_capacity keys.new ≡ vec_capacity keys.old }
@@ -115,11 +115,10 @@ impl<J: Naming> Desk<J> {
         self.hub.due(now)
     }
 
-    /// Of these keys exactly those stay whose leases have run out by a moment in milliseconds, in
-    /// their order. Their instances are cancelled at that moment, up to the first cancel that is
-    /// refused, as [`Desk::write`] refuses it, and each cancel is noted. No seat counts them. What is
-    /// cancelled stays so; the keys of a run that was stopped may be handed in again. The list of the
-    /// keys keeps its room.
+    /// Keeps of these keys exactly those whose leases have run out by a moment in milliseconds, in
+    /// their order. Cancels their instances at that moment, as [`Desk::write`] does, up to the first
+    /// cancel that is refused, and notes each cancel. No seat counts them. What is cancelled stays so;
+    /// a caller may pass the keys of a stopped run again. The list of the keys keeps its room.
     pub fn cancel_overdue(&mut self, keys: &mut Vec<Key>, now: u64) -> Expired
         ensures fewer { vec_len keys.new ≤ vec_len keys.old }
         ensures room { vec_capacity keys.new ≡ vec_capacity keys.old }

@@ -26,12 +26,12 @@ pub record IsFleetPlan (rows : List Given) (p : Plan) : Type 0 where
 abbrev pub is_last_run : Bool → ℕ → Bool
 is_last_run restart run = restart && run == 18446744073709551615
 
--- the words of `fleet` ask for that
+-- the words of `fleet` ask for a restart in the last run
 unfoldable pub ask_for_no_run : List Text → Bool
 ask_for_no_run words = option_map_or (λ options. let rows = matches_for Fleet options in
     is_last_run (flag_given (codes "restart") rows) (unwrap_or (number_given (codes "run") rows) 0)) (options_of Fleet words) false
 
--- what is wrong with that
+-- the fault of a restart in the last run
 abbrev pub faults_of_restart : Bool → Kinds
 faults_of_restart b = if b then ArgumentConflict ∷ [] else []
 

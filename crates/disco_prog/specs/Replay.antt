@@ -12,8 +12,9 @@ use Rattle.disco_options.specs.declared.subcommand.Subcommand.TheVariants.{Repla
 abbrev pub IsReplayed : List Text → Option (List ℕ) → Option (List ℕ) → Option (List ℕ) → Type 0
 IsReplayed words known old new = (settings : Settings) × NamedBy Replay words 0 settings × IsInputAnswered settings known old new
 
--- it failed for a fault that was told: memory was wanting before anything was read, or the run with the settings that the words name was refused;
--- nothing was written then, but for a front of the answer lines where a write failed or found no memory
+-- it failed for a fault that was written: memory was refused before anything was read, or the run with the settings
+-- that the words name was refused; nothing was written then, but for a front of the answer lines where a write failed
+-- or found no memory
 abbrev pub IsFailed : {W : Type 0} → List Text → Option (List ℕ) → Type 0 → Type 0 → (Fault → Type 0) → (W → Option (List ℕ)) → W → W → Type 0
 IsFailed words given reads writes told contents old new = (fault : Fault) × told fault × (((fault ≡ OutOfMemory) × (new ≡ old))
     ⊎ ((settings : Settings) × NamedBy Replay words 0 settings × IsRunFault settings given reads writes fault × IsLeft contents settings given fault old new))

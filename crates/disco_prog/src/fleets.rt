@@ -89,8 +89,8 @@ where
     Ok(())
 }
 
-/// Says that there is no run to restart in, and gives the status. Nothing is left to try where that
-/// can't be written.
+/// Writes that there is no run to restart in, and gives the status. A message that can't be written is
+/// dropped.
 fn refuse_restart<E: Sink>(errors: &mut E) -> u8
     ensures { result ≡ 2 }
 {

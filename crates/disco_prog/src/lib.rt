@@ -1,5 +1,5 @@
 //! What the program `discovery` does: [`run`] runs the command that its words name. [`replay`] answers
-//! the events of an input on an empty registry, [`serve`] serves connections, [`follow`] tells what
+//! the events of an input on an empty registry, [`serve`] serves connections, [`follow`] writes what
 //! changes in a server's registry, [`fleet`] shows writers, a server and clients at work, and
 //! [`settings_of`] reads the options of a command.
 #![tactic(auto)]

@@ -1,4 +1,4 @@
-//! The program.
+//! Runs the program: the command that its words name.
 ghost use Rattle.std.specs.Prelude.{◌≡◌, [], map, string_bytes};
 ghost use Rattle.disco_prog.specs.Fleets.{faults_of_running};
 ghost use Rattle.disco_follow.specs.Following.{TellsFor};

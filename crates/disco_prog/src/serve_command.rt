@@ -38,7 +38,7 @@ fn service_from(matches: &ArgMatches<'_>, run: u64) -> Service
     }
 }
 
-/// Says that connections are taken, in one write where the host takes it whole. Gives the output back.
+/// Writes that it listens, in one write where the host takes it whole. Gives the output back.
 fn say<'o, W: Sink>(alloc: Global, port: u16, out: &'o mut W) -> Result<&'o mut W, Fault>
     ensures { IfOk result (λ said. Tells W.contents out.entry said (listening_line port)) }
 {
@@ -133,7 +133,7 @@ where
     ensures said { OnOk result (Appends (W.contents out.old) (W.contents out.new) (listening_line service.now.port)) }
 {
     let (mut desk, seats) = open::<J, R>(rt, alloc, &service.settings, service.workers, opening)?;
-    // What is lacking of it is taken later.
+    // The desk takes later what is lacking of it.
     let _kept = desk.keep_reserve();
     let desk = Mutex::new(desk);
     let served = run(rt, alloc, service, clock, listener, &desk, seats, out);
@@ -169,7 +169,7 @@ where
     serve_by::<J, R, SystemClock<&R>, W, E>(rt, alloc, clock, opening, out, errors, words)
 }
 
-/// Runs the command `serve` as [`serve`] does, by a clock that is handed in, or ends with 1 where there
+/// Runs the command `serve` as [`serve`] does, by the clock of its caller, or ends with 1 where there
 /// is none. Where the words name no run, it is the moment that the clock says first.
 pub fn serve_by<J: Naming + Send + Sync, R, C: Clock + Copy + Send, W: Sink, E: Sink>(
     rt: &R,

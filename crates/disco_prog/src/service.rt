@@ -1,9 +1,9 @@
-//! What is served.
+//! The options of `serve`.
 ghost use Rattle.std.specs.Prelude.{◌<◌, ◌≤◌};
 
 use disco_values::Settings;
 
-/// What is served, and for how long.
+/// The options of `serve`.
 #[derive(Clone, Copy, Debug)]
 pub(crate) struct Service {
     pub(crate) settings: Settings,

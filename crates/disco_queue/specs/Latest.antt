@@ -12,6 +12,6 @@ Latest = Bor (List ℕ) × Bor (List ℕ) × Bor Change
 abbrev pub latest_key : Latest → Key
 latest_key p = record { app = p.0.now; id = p.1.now }
 
--- each change is one of its key
+-- each change is one of the key beside it
 abbrev pub AreOfKeys : List Latest → Type 0
 AreOfKeys ps = All (λ p. latest_key p ≡ key_of (change_view p.2.now)) ps

@@ -1,4 +1,5 @@
--- The number of each key's last change, and what becomes of places. Nothing here is to be believed: it is the invariant of a type.
+-- The number of each key's last change, and how its place changes. Nothing here is to be believed: it is the invariant
+-- of a type.
 use Rattle.std.specs.Prelude.{◌≡◌, ℕ, ◌+◌, ◌-◌, nat_lt, ◌==◌, List, [], ◌∷◌, if◌then◌else◌, Option, Some, None, option_map, unwrap_or}
 use Rattle.std.specs.FinMap.{FinMap, get}
 use Rattle.std.specs.List.{filter_map, slice_get}
@@ -16,7 +17,7 @@ abbrev pub last_number : ℕ → List Entry → Key → ℕ
 last_number before [] k = 0
 last_number before (e ∷ es) k = later_or (last_number (before + 1) es k) (if same_key k (key_of e) then before + 1 else 0)
 
--- the number in the place of a key, 0 where it stands empty or isn't there
+-- the number in the place of a key, 0 where it is empty or isn't there
 abbrev pub number_in : FinMap key_cmp ℕ → Key → ℕ
 number_in places k = unwrap_or (get places k) 0
 
@@ -24,7 +25,7 @@ number_in places k = unwrap_or (get places k) 0
 abbrev pub AreNumbered : FinMap key_cmp ℕ → ℕ → List Entry → Type 0
 AreNumbered places before es = (k : Key) → number_in places k ≡ last_number before es k
 
--- no place stands empty that stood not
+-- no place is empty that wasn't before
 abbrev pub LeavesNone : FinMap key_cmp ℕ → FinMap key_cmp ℕ → Type 0
 LeavesNone old new = (k : Key) → get new k ≡ Some 0 → get old k ≡ Some 0
 
@@ -32,7 +33,7 @@ LeavesNone old new = (k : Key) → get new k ≡ Some 0 → get old k ≡ Some 0
 abbrev pub numbered : ℕ → List Entry → ℕ → Option Entry
 numbered before es number = if nat_lt before number then slice_get es (number - before - 1) else None
 
--- no place where it has this number
+-- the place, unless it has this number
 abbrev pub number_kept : ℕ → Option ℕ → Option ℕ
 number_kept number None = None
 number_kept number (Some n) = if n == number then None else Some n

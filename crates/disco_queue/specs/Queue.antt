@@ -6,8 +6,8 @@ use Rattle.disco_values.specs.declared.key.Key.{Key}
 use Rattle.disco_history.specs.Change.{last}
 use Rattle.disco_queue.specs.Timed.{Timed, changes}
 
--- how many changes it keeps at most, how many leading ones it dropped, those that it keeps, room for more, and the places of keys, each with a number
--- that is 0 where it stands empty
+-- how many changes it keeps at most, how many leading ones it dropped, those that it keeps, room for more, and the
+-- places of keys, each with a number that is 0 where it is empty
 pub record Queue : Type 0 where
   pub max : ℕ
   pub base : ℕ
@@ -27,19 +27,19 @@ HasRoom q = length q.kept < q.max → 0 < q.room
 abbrev pub HasNumberPlace : Key → Queue → Type 0
 HasNumberPlace k q = IsSome (get q.places k)
 
--- the key's place stands empty
+-- the key's place is empty
 abbrev pub StandsEmpty : Key → Queue → Type 0
 StandsEmpty k q = get q.places k ≡ Some 0
 
--- the key has a place, which stands empty where there was none, and each other place stays
+-- the key has a place, which is empty where there was none, and each other place stays
 abbrev pub OpensPlace : Key → Queue → Queue → Type 0
 OpensPlace k old new = (p : Key) → get new.places p ≡ (if same_key p k then Some (unwrap_or (get old.places p) 0) else get old.places p)
 
--- just the keys of kept changes have places that don't stand empty
+-- exactly the keys of kept changes have places that aren't empty
 abbrev pub AreFilled : Queue → Type 0
 AreFilled q = (k : Key) → nat_lt 0 (unwrap_or (get q.places k) 0) ≡ is_some (last (changes q.kept) k)
 
--- no place stands empty that stood not
+-- no place is empty that wasn't before
 abbrev pub AddsNoneEmpty : Queue → Queue → Type 0
 AddsNoneEmpty old new = (k : Key) → StandsEmpty k new → StandsEmpty k old
 

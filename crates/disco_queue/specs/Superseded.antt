@@ -13,7 +13,7 @@ abbrev pub AreSuperseded : List Kept → Type 0
 AreSuperseded [] = Unit {0}
 AreSuperseded (k ∷ ks) = (k.superseded ≡ true → IsFollowed k ks) × AreSuperseded ks
 
--- what stands in this place, if anything does, is followed by a change of its key
+-- the change in this place, if there is one, is followed by one of its key
 abbrev pub IsFollowedAt : List Kept → ℕ → Type 0
 IsFollowedAt [] n = Unit {0}
 IsFollowedAt (k ∷ ks) zero = IsFollowed k ks

@@ -1,4 +1,4 @@
-//! Of each key the number of its last change, with places that stand empty.
+//! The number of each key's last change, in places that may be empty.
 ghost use Rattle.std.specs.Prelude.{◌≡◌, IfOk, None, OnErr, OnOk, map, true};
 ghost use Rattle.std.specs.FinMap.{empty, get, values};
 ghost use Rattle.std.specs.List.{All};
@@ -17,8 +17,8 @@ use std::alloc::{AllocError, Global};
 use std::collections::VecDeque;
 use std::marker::Model;
 
-/// A place for each of some keys: the number of the last kept change of the key, counted from 1 at
-/// the beginning of the history, or 0 where the place stands empty.
+/// A place for each of some keys: the number of the last kept change of the key, counted from 1 at the
+/// beginning of the history, or 0 where the place is empty.
 #[derive(Drop)]
 pub(crate) struct Numbers {
     places: KeyMap<u64>,
@@ -55,8 +55,8 @@ impl Numbers {
         self.places.or_insert(key, 0)
     }
 
-    /// Puts a number into the place of a key, where it has one. Answers the number that stood there, 0
-    /// where there was none.
+    /// Puts a number into the place of a key, where it has one. Answers the old number, 0 where there
+    /// was none.
     pub(crate) fn put(&mut self, key: &Key, number: u64) -> u64
         ensures put { AltersAt (written number) key.now self.old self.new }
         ensures before { result ≡ number_in self.old key.now }
@@ -67,7 +67,7 @@ impl Numbers {
         }
     }
 
-    /// Takes the place of a key out, where it has this number.
+    /// Removes the place of a key, where it has this number.
     pub(crate) fn close(&mut self, key: &Key, number: u64)
         ensures { AltersAt (number_kept number) key.now self.old self.new }
     {
@@ -76,8 +76,8 @@ impl Numbers {
         }
     }
 
-    /// Where they number the kept changes, of which so many others come before: each key with its
-    /// last change, in the order of the keys.
+    /// Each key with its last kept change, in the order of the keys. The numbers have to be those of
+    /// the kept changes, which come behind `before` others.
     pub(crate) fn last_changes<'a>(
         &'a self,
         kept: &'a VecDeque<Kept>,

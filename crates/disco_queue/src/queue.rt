@@ -60,7 +60,7 @@ impl Model for ChangedQueue {
         × AreSuperseded q.kept.items };
 }
 
-/// The oldest change leaves, and the place of its key where it is the key's last.
+/// Drops the oldest change, and the place of its key where it is the key's last.
 fn drop_front(kept: &mut VecDeque<Kept>, base: &mut u64, numbers: &mut Numbers)
     requires some { 0 < deque_len kept.old }
     requires fits { base.old + 1 < 2 ^ 64 }
@@ -83,8 +83,7 @@ fn drop_front(kept: &mut VecDeque<Kept>, base: &mut u64, numbers: &mut Numbers)
     }
 }
 
-/// Notes of the change of a number, where it is kept, of which so many others come before, that a later
-/// one of its key is kept.
+/// Marks the change of a number as superseded, if it is kept. `base` changes came before the kept ones.
 fn supersede(kept: &mut VecDeque<Kept>, base: u64, number: u64)
     requires superseded { AreSuperseded kept.old.items }
     requires followed { base < number → IsFollowedAt kept.old.items (number - base - 1) }
@@ -104,7 +103,7 @@ fn supersede(kept: &mut VecDeque<Kept>, base: u64, number: u64)
 }
 
 impl ChangedQueue {
-    /// No changes so far. At most `max` of them will be kept, which is at least 1. Takes no memory.
+    /// An empty queue, which keeps at most `max` changes; `max` is at least 1. Takes no memory.
     pub fn new(alloc: Global, max: u64) -> ChangedQueue
         requires { 1 ≤ max }
         ensures max { result.max ≡ max }
@@ -120,7 +119,7 @@ impl ChangedQueue {
         }
     }
 
-    /// How many leading changes of the history are not kept any more. Takes no memory.
+    /// How many leading changes of the history have left the queue. Takes no memory.
     pub fn base(&self) -> u64
         ensures { result ≡ self.now.base }
     {
@@ -151,8 +150,8 @@ impl ChangedQueue {
         let _base = self.base;
     }
 
-    /// Makes room for one more change, which is of this key, where the queue is not full, and a place
-    /// for the key. No answer shows either.
+    /// Makes room for one more change of this key, where the queue is not full, and a place for the
+    /// key. No answer shows either.
     ///
     /// # Errors
     ///
@@ -173,9 +172,9 @@ impl ChangedQueue {
         Ok(())
     }
 
-    /// The change comes last, with its moment `now`, in milliseconds. Where the queue is full, the
-    /// oldest change leaves, and the place of its key with it where it was the key's last. Takes no
-    /// memory: room and place are there after `ready`.
+    /// Adds a change at the back, with its moment `now`, in milliseconds. A full queue drops its oldest
+    /// change, and the place of that one's key where it was the key's last. Takes no memory: room and
+    /// place are there after `ready`.
     pub fn push(&mut self, change: Change, now: u64)
         requires room { HasRoom self.old }
         requires place { HasNumberPlace (key_of (change_view change)) self.old }

@@ -1,4 +1,4 @@
--- What was told of a fetch, and the answer that it came from.
+-- The document of a fetch, and the answer that it came from.
 use Rattle.std.proofs.Common.{◌≡◌, Bool, List, [], ◌∷◌, Option, Some, Result, Ok, Err, refl, ap}
 use Rattle.disco_instance.specs.Instance.{Gives}
 use Rattle.disco_values.specs.declared.fault.Fault.{Fault}

@@ -1,4 +1,4 @@
--- Which fetches a refresh makes, and what it does with what they tell.
+-- Which fetches a refresh makes, and what it does with their answers.
 use Rattle.std.specs.Prelude.{◌≡◌, Bool, true, false, List, [], ◌∷◌, if◌then◌else◌, Option, Some, None, Result, Ok, Err}
 use Rattle.disco_instance.specs.Instance.{Gives}
 use Rattle.disco_values.specs.declared.cert.Cert.{Cert}
@@ -21,7 +21,7 @@ use Rattle.disco_reconcile.specs.declared.refreshed.Refreshed.TheVariants as ref
 
 -- ---- fetches
 
--- a fetch: what was asked for, what was answered, and what the client takes it to tell
+-- a fetch: what was asked for, what was answered, and what the client reads in the answer
 pub record Exchange : Type 0 where
   pub query : Query
   pub answer : Result Fetched Fault
@@ -80,7 +80,7 @@ abbrev pub IsRest : {K : Type 0} → OfFull K → Bool × K → List Exchange �
 IsRest full (true, k) rest o = (rest ≡ []) × (o ≡ outcome_of (Ok refreshed.Delta) (Some k))
 IsRest full (false, k) rest o = IsFull full refreshed.DeltaThenFull (Some k) rest o
 
--- after what was told of the delta: nothing more where it was refused, a full document where there is none
+-- after the answer to the fetch of the delta: nothing more where it was refused, a full document where there is none
 abbrev pub GoesOnAfterDelta : {K : Type 0} → OfDelta K → OfFull K → K → FetchAnswer → List Exchange → Outcome K → Type 0
 GoesOnAfterDelta delta full k (Err e) rest o = (rest ≡ []) × (o ≡ outcome_of (Err e) (Some k))
 GoesOnAfterDelta delta full k (Ok None) rest o = IsFull full refreshed.Full (Some k) rest o
@@ -136,6 +136,6 @@ abbrev pub renewed_by : Form → Refreshed → Option CertifiedCopy → ToldDocu
 renewed_by f done held m None = outcome_of (Err BadDocument) held
 renewed_by f done held m (Some c) = if is_taken held c then outcome_of (Ok done) (Some (copy_made f m c)) else outcome_of (Ok refreshed.Kept) held
 
--- a full document that is certified is the copy, unless the copy doesn't give way to it; one that isn't is refused
+-- a full document that is certified becomes the copy, if the copy gives way to it; one that isn't is refused
 abbrev pub certified_full : Form → OfFull CertifiedCopy
 certified_full f done held m = renewed_by f done held m m.cert

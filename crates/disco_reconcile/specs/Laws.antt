@@ -1,4 +1,5 @@
--- What carries the promise of a certified client from one refresh to the next, and from the server to the client.
+-- Laws for certified clients: an exact copy stays exact while histories go on, and what a server serves means what its
+-- certificate says.
 use Rattle.std.specs.Prelude.{◌≡◌, ℕ, false, List, ◌++◌, Option}
 use Rattle.disco_values.specs.declared.form.Form.{Form}
 use Rattle.disco_history.specs.Change.{Entry}

@@ -1,4 +1,4 @@
--- Only what code keeps: nothing here is to be believed.
+-- What private contracts say of fetches: nothing here is to be believed.
 use Rattle.std.specs.Prelude.{◌≡◌, ◌⊎◌, Bool, true, false, List, Option, Some, None, option_map, Result, Ok, Err}
 use Rattle.disco_instance.specs.Instance.{Gives}
 use Rattle.disco_values.specs.declared.fault.Fault.{Fault}
@@ -47,7 +47,7 @@ abbrev pub following : Bool → Option Refreshed
 following true = None
 following false = Some refreshed.DeltaThenFull
 
--- what is kept after what was told of the delta, and what follows
+-- what is kept after the answer to the fetch of the delta, and what follows
 abbrev pub StepTo : {K : Type 0} → OfDelta K → K → FetchAnswer → Result (Option Refreshed) Fault → K → Type 0
 StepTo delta k (Err e) result l = (result ≡ Err e) × (l ≡ k)
 StepTo delta k (Ok None) result l = (result ≡ Ok (Some refreshed.Full)) × (l ≡ k)

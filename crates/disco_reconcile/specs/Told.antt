@@ -1,4 +1,4 @@
--- What the answer to a fetch tells a client.
+-- What a client reads in the answer to a fetch.
 use Rattle.std.specs.Prelude.{◌==◌, ◌&&◌, ◌||◌, ℕ, Bool, if◌then◌else◌, Option, Some, None, Result, Ok, Err}
 use Rattle.disco_values.specs.declared.cert.Cert.{Cert}
 use Rattle.disco_values.specs.declared.fault.Fault.{Fault}
@@ -14,7 +14,7 @@ pub record ToldDocument : Type 0 where
   pub meaning : Meaning
   pub cert : Option Cert
 
--- a document, that there is none, or why nothing is told
+-- a document, that there is none, or why neither is known
 abbrev pub FetchAnswer : Type 0
 FetchAnswer = Result (Option ToldDocument) Fault
 
@@ -43,7 +43,7 @@ abbrev pub failed_as : Fault → Fault
 failed_as OutOfMemory = OutOfMemory
 failed_as _ = NotFetched
 
--- what an answer tells of the delta, or of all apps
+-- what a client reads in an answer to a fetch of the delta, or of all apps
 abbrev pub told_in_answer : Bool → Result Fetched Fault → FetchAnswer
 told_in_answer delta (Err e) = Err (failed_as e)
 told_in_answer delta (Ok x) = if x.status == 200 then told_of x.cert (document_of x.body) else if is_none delta x.status then Ok None else Err NotFetched

@@ -33,13 +33,13 @@ abbrev pub known_by : Bool → Option Known → Form → Cert → Option Known
 known_by true at f c = moved at f c
 known_by false at f c = Some (known_at f c)
 
--- where a copy is known after what was told
+-- where a copy is known after an answer
 abbrev pub known_after : Query → Option Known → Form → Cert → FetchAnswer → Option Known
 known_after q at f c (Err e) = at
 known_after q at f c (Ok None) = at
 known_after q at f c (Ok (Some m)) = known_by (is_delta q) at f c
 
--- where it is known after all that was told
+-- where it is known after all answers
 abbrev pub tracked : Form → (Query → Cert) → Option Known → List Exchange → Option Known
 tracked f names at [] = at
 tracked f names at (x ∷ xs) = tracked f names (known_after x.query at f (names x.query) x.told) xs
@@ -71,7 +71,7 @@ IsExact hs f (Some k) = (k.known.form ≡ f) × IsVersionIn (hs k.known.run) k.k
 abbrev pub StaysExact : Form → Option CertifiedCopy → List Exchange → Option CertifiedCopy → Type 0
 StaysExact f held log kept = (hs : Histories) → AreCertified hs f log → IsExact hs f held → IsExact hs f kept
 
--- a copy doesn't go, and while its run stays, its version doesn't fall
+-- a client doesn't lose its copy, and while the copy's run stays, its version doesn't decrease
 abbrev pub NeverFalls : Option CertifiedCopy → Option CertifiedCopy → Type 0
 NeverFalls None kept = Unit {0}
 NeverFalls (Some k) None = ⊥

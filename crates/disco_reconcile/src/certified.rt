@@ -12,7 +12,7 @@ use disco_client::CertifiedCopy;
 use disco_values::{Fault, Form, Query};
 use std::alloc::Global;
 
-/// Takes a document of all apps, which has to be certified, unless the copy doesn't give way to it.
+/// Takes a document of all apps, which has to be certified, if the copy gives way to it.
 fn put_full(
     alloc: Global,
     form: Form,
@@ -41,7 +41,7 @@ fn put_full(
     }
 }
 
-/// Overlays a delta that is certified and reaches the copy. Says whether it did.
+/// Overlays a delta that is certified and reaches the copy. Answers whether it did.
 fn put_delta(form: Form, copy: &mut CertifiedCopy, document: Document) -> Result<bool, Fault>
     requires { document.wire.shape ≡ Many }
     ensures { IsOverlaid (certified_delta form) copy.old (told_document document) result copy.new }
@@ -68,7 +68,7 @@ fn take_full<F: Fetch>(
     }
 }
 
-/// Fetches the delta. Says what a full document that has to follow is answered with, if one has to.
+/// Fetches the delta. If a full document has to follow, answers the result of a refresh that takes it.
 fn take_delta<F: Fetch>(
     alloc: Global,
     fetcher: &mut F,

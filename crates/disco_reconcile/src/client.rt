@@ -1,4 +1,4 @@
-//! The client.
+//! A client that keeps a copy of a registry.
 ghost use Rattle.std.specs.Prelude.{◌≡◌, None, option_map};
 ghost use Rattle.disco_reconcile.specs.Refreshes.{Refreshes};
 ghost use Rattle.disco_reconcile.specs.State.{copy_of, known_in};
@@ -105,7 +105,7 @@ impl<F: Fetch> Client<F> {
         }
     }
 
-    /// Goes on with another fetcher, and gives back the one before. Takes no memory.
+    /// Replaces the fetcher, and gives back the old one. Takes no memory.
     pub fn replace_fetcher(&mut self, fetcher: F) -> F
         ensures before { result ≡ self.old.fetcher }
         ensures now { self.new ≡ record self.old { fetcher = fetcher } }
@@ -127,10 +127,10 @@ impl<F: Fetch> Client<F> {
     ///
     /// # Errors
     ///
-    /// `NotFetched` where a fetch failed or its status tells nothing, `BadDocument` where a body is
-    /// no document of many apps, or all apps come to a certified client without a certificate, and
-    /// `OutOfMemory`. The copy is then the old one, or a plain client's that after the overlay
-    /// where what followed it was refused.
+    /// `NotFetched` where a fetch failed or its status is neither 200 nor, for the delta, 403 or 404,
+    /// `BadDocument` where a body is no document of many apps, or all apps come to a certified client
+    /// without a certificate, and `OutOfMemory`. The copy is then the old one, or a plain client's that
+    /// after the overlay where what followed it was refused.
     pub fn refresh(&mut self) -> Result<Refreshed, Fault>
         ensures { Refreshes F.gives F.failed self.old result self.new }
     {

@@ -1,4 +1,4 @@
-//! Asking for a document.
+//! Fetches a document and reads it.
 ghost use Rattle.std.specs.Prelude.{◌≡◌, ◌⊎◌, ◌==◌, ◌||◌, ◌&&◌, option_map};
 ghost use Rattle.disco_instance.specs.Instance.{Gives};
 ghost use Rattle.disco_wire.specs.Documents.{document_of};
@@ -59,7 +59,7 @@ fn read(alloc: Global, fetched: &Fetched) -> Result<Option<Document>, Fault>
     }
 }
 
-/// What an answer tells.
+/// The document of an answer; none where there is no delta.
 fn told(
     alloc: Global,
     delta: bool,
@@ -82,9 +82,9 @@ fn told(
     }
 }
 
-/// Asks for all apps or for the delta. None where there is no delta. Refused as `BadDocument` where
-/// the body is no document of many apps, as `NotFetched` where the fetch failed or its status tells
-/// nothing, and as `OutOfMemory`.
+/// Asks for all apps or for the delta. None where there is no delta. Refused as `BadDocument` where the
+/// body is no document of many apps, as `NotFetched` where the fetch failed or its status is neither
+/// 200 nor, for the delta, 403 or 404, and as `OutOfMemory`.
 pub(crate) fn ask<F: Fetch>(
     alloc: Global,
     fetcher: &mut F,

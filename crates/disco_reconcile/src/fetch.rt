@@ -1,4 +1,4 @@
-//! What a client fetches by.
+//! The interface by which a client fetches documents.
 ghost use Rattle.std.specs.Prelude.{◌≡◌, ◌≤◌, ◌⊎◌, ℕ, Result};
 ghost use Rattle.disco_values.specs.declared.fault.Fault.{Fault};
 ghost use Rattle.disco_values.specs.declared.query.Query.TheVariants.{Apps, Delta};
@@ -21,7 +21,7 @@ pub struct Fetched {
 
 /// Fetches documents from a registry server.
 pub trait Fetch {
-    // From the first state, asked for the document, it may answer so, and the second state is left.
+    // In the first state it may answer so to a fetch of the document, and is then in the second state.
     ghost gives: { Self → DocKey → Result Fetched Fault → Self → Type 0 };
 
     // How often a fetch has failed.

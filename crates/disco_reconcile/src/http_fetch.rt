@@ -1,4 +1,4 @@
-//! Fetching over one connection.
+//! Fetches over one connection.
 ghost use Rattle.std.specs.Prelude.{◌≡◌, ◌≢◌, ◌≤◌, ℕ, List, Some, IfErr, IfOk, IfSome, OnOk, true, false};
 ghost use Rattle.std.specs.Io.KnownBytes.{Appends};
 ghost use Rattle.disco_values.specs.declared.fault.Fault.TheVariants.{OutOfMemory};
@@ -86,7 +86,7 @@ impl<R: Source, W: Sink> HttpFetch<R, W> {
         self.reader.read_reply(self.alloc)
     }
 
-    /// Fetches nothing more. A failure is counted, but for want of memory.
+    /// Lets all later fetches fail. Counts the failure, but for want of memory.
     fn give_up(&mut self, fault: Fault)
         ensures spent { self.new.spent ≡ true }
         ensures count { self.old.failures ≤ self.new.failures }

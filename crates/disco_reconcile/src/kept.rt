@@ -1,4 +1,4 @@
-//! What a client keeps.
+//! What a client keeps from one refresh to the next.
 use disco_client::{CertifiedCopy, Copy};
 
 /// What a client keeps: a copy by Eureka's rule, or a certified one.

@@ -31,8 +31,8 @@ fn take_full<F: Fetch>(
     }
 }
 
-/// Fetches the delta and overlays it. Says what a full document that has to follow is answered
-/// with, if one has to.
+/// Fetches the delta and overlays it. If a full document has to follow, answers the result of a refresh
+/// that takes it.
 fn take_delta<F: Fetch>(
     alloc: Global,
     fetcher: &mut F,

@@ -1,6 +1,6 @@
-//! What a refresh came to.
+//! The result of a refresh.
 
-/// What a refresh came to.
+/// The result of a refresh.
 #[derive(Clone, Copy, Debug, PartialEq, Eq)]
 pub enum Refreshed {
     /// A full document is the copy.

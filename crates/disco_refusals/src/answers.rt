@@ -1,4 +1,4 @@
-//! What is answered, as answer lines have it.
+//! The answers of a desk and of seats, as answer lines.
 use std::fmt;
 
 #[derive(Clone, Copy, Debug)]

@@ -1,4 +1,4 @@
-//! What is asked of a desk and of a seat.
+//! The calls to a desk and to a seat, in order.
 use crate::answers::Answer;
 use disco_hub::Copied;
 use disco_press::{Desk, Looked, Naming, Seat};

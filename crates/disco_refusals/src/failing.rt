@@ -143,7 +143,7 @@ fn going_well(alloc: Global, sent: &str, reads: u32, writes: u32) -> Result<Opti
     Ok(ENDS.iter().position(|end| *end == came))
 }
 
-/// With each read more as many fetches go well or one more, up to all.
+/// Each read more lets as many fetches go well, or one more, up to all.
 pub(crate) fn reads_in_turn(alloc: Global) -> Result<bool, Fault> {
     let sent = replies(alloc)?;
     let mut before = 0;

@@ -1,4 +1,4 @@
-//! Refreshes that are told as lines.
+//! Refreshes whose results are written as lines.
 ghost use Rattle.std.specs.Prelude.{◌≡◌, ◌≤◌};
 ghost use Rattle.disco_values.specs.declared.fault.Fault.TheVariants.{NotFetched};
 ghost use Rattle.disco_http.specs.Causes.{Raises};
@@ -49,7 +49,7 @@ const ANSWERS: [Option<Answer>; 5] = [
     }),
 ];
 
-/// What is told of them: a refusal once, and a copy where it changed.
+/// What is written of them: a refusal once, and a copy where it changed.
 pub(crate) const TOLD: &str =
     "copy 7 1 +ORDERS/h1:orders:8080=UP\nvip ORDERS h1:8080\nfault 22\ncopy 7 3 -ORDERS/h1:orders:8080\nvip ORDERS\n";
 
@@ -117,7 +117,7 @@ fn tell<R: Clock, F: Fetch>(
     follow_client(rt, alloc, client, &wanted, 5, 1, &mut out)
 }
 
-/// What is told of a client's refreshes.
+/// What is written of a client's refreshes.
 fn told_of<R: Clock>(rt: &R, alloc: Global, told: &mut Vec<u8>) -> Result<(), Fault> {
     let answers = Answers {
         alloc,
@@ -129,7 +129,7 @@ fn told_of<R: Clock>(rt: &R, alloc: Global, told: &mut Vec<u8>) -> Result<(), Fa
     tell(rt, alloc, &mut client, told)
 }
 
-/// What is told of them by a certified client.
+/// What is written of them by a certified client.
 pub(crate) fn follow<R: Clock>(rt: &R, alloc: Global) -> Result<String, Fault> {
     let mut told = Vec::new(alloc);
     told_of(rt, alloc, &mut told)?;

@@ -1,13 +1,13 @@
 //! Asks a desk for rounds and looks, and a client for refreshes.
 //!
-//! Of the desk and of two of its seats each answer is printed as `replay` writes it, of a document its
-//! base and its version alone. What finds no memory is asked once more, and each document is asked for
-//! twice, so that it is kept where it wasn't at first: the answers are then the same whichever growth is
-//! refused.
+//! It prints each answer of the desk and of two of its seats as `replay` writes it, of a document its
+//! base and its version alone. It makes a call that finds no memory once more, and asks for each
+//! document twice, so that it is kept where it wasn't at first. So the answers are the same whichever
+//! growth is refused.
 //!
-//! The client refreshes by what a script answers, and over connections that lie in memory and fail. Of
-//! each of these trials the name is printed with what came of it. A refresh by the script that finds no
-//! memory is made once more, and then answered as if there had been some.
+//! The client refreshes by what a script answers, and over connections that lie in memory and fail. It
+//! prints the name of each of these trials with its result. It makes a refresh by the script that finds
+//! no memory once more, and the script then answers as if there had been some.
 //!
 //! With the word `desk` the desk alone is asked, and with the word `refreshes` the client alone, by the
 //! script: `bench/refusals.sh` refuses each growth of these in turn. Ends with status 1, behind what was

@@ -33,7 +33,7 @@ impl Turn {
     };
 }
 
-/// Answers by the turn that it is.
+/// A fetcher that answers by the current turn.
 #[derive(Drop)]
 pub(crate) struct Script<'a> {
     pub(crate) alloc: Global,

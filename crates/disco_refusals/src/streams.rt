@@ -2,8 +2,8 @@
 use std::io;
 use std::io::{Read, Write};
 
-/// Bytes that are read in pieces of so many, in so many reads; the next read fails, and so does one past
-/// their end.
+/// A source that gives its bytes in pieces of so many, in so many reads. The next read fails, and so
+/// does one past their end.
 #[derive(Drop)]
 pub(crate) struct Given<'a> {
     pub(crate) rest: &'a [u8],
@@ -24,7 +24,7 @@ impl Read for Given<'_> {
     }
 }
 
-/// Takes so many writes; the next one fails.
+/// A sink that takes so many writes. The next one fails.
 #[derive(Drop)]
 pub(crate) struct Taking {
     pub(crate) writes: u32,

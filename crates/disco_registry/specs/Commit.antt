@@ -1,4 +1,4 @@
--- What commits a change.
+-- What a commit needs, and what it does.
 use Rattle.std.specs.Prelude.{◌≡◌, ℕ, ◌<◌, ◌+◌, List, [], ◌∷◌, ◌++◌, Option, Bool, true, Some, None, Result, Ok, Err}
 use Rattle.std.specs.FinMap.{FinMap, get, insert, remove}
 use Rattle.disco_values.specs.Key.{key_cmp}
@@ -23,7 +23,7 @@ abbrev pub IsReady : RegistryState → Option Entry → Type 0
 IsReady s None = Unit {0}
 IsReady s (Some c) = (s.version < s.versions) × HasPlaceFor s (put_of c)
 
--- beside a change that is ready stands what is kept of it: the record, where it is put
+-- with a change that is ready its record is kept, where it is put
 abbrev pub IsPrepared : Option Change → Option Entry → Type 0
 IsPrepared None kept = Unit {0}
 IsPrepared (Some (Put action rec)) kept = let e : Entry = (row rec.value, action) in (put_of e ≡ Some e) × (kept ≡ Some e)
@@ -54,7 +54,7 @@ abbrev pub done_by : Applied → Option Entry
 done_by (Changed c) = Some (change_view c)
 done_by Same = None
 
--- that change is no put marked DELETED
+-- that change isn't a put with the action DELETED
 abbrev pub changes_properly : Applied → Bool
 changes_properly (Changed c) = is_proper c
 changes_properly Same = true

@@ -10,7 +10,7 @@ use Rattle.disco_history.specs.Held.{entry_of}
 use Rattle.disco_history.specs.Places.{filled_in}
 use Rattle.disco_history.specs.declared.held.Held.{Held}
 
--- the mentions that are held, and the key whose place stands empty, if one does
+-- the mentions that are held, and the key whose place is empty, if one is
 pub record Contents : Type 0 where
   pub held : FinMap key_cmp Entry
   pub next : Option Key
@@ -21,7 +21,7 @@ key_of_held h = h.rec.value.key
 abbrev pub mentions_held : FinMap key_cmp (Option Held) → FinMap key_cmp Entry
 mentions_held p = filled_in entry_of p
 
--- the place of the record that is put next stands empty
+-- the place of the record that is put next is empty
 abbrev pub HasNextPlace : FinMap key_cmp (Option Held) → Option Held → Type 0
 HasNextPlace p None = Unit {0}
 HasNextPlace p (Some h) = get p (key_of_held h) ≡ Some None

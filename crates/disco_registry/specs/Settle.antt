@@ -1,5 +1,5 @@
--- What a registration makes of the posted and of the held record (after Eureka's rules for dirty records and for overrides; that an override belongs to
--- an app and an id together is this project's own rule).
+-- The record that a registration puts, by the posted and the held record (after Eureka's rules for dirty records and
+-- for overrides; that an override belongs to an app and an id together is this project's own rule).
 use Rattle.std.specs.Prelude.{ℕ, Bool, ◌||◌, nat_lt, if◌then◌else◌, Option}
 use Rattle.std.specs.Option.{option_map_or}
 use Rattle.disco_instance.specs.Moments.{put_at}

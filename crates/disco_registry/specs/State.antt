@@ -6,7 +6,8 @@ use Rattle.disco_values.specs.declared.key.Key.{Key}
 use Rattle.disco_history.specs.Change.{Entry}
 use Rattle.disco_history.specs.Registry.{registry_of, mentions_of}
 
--- the records with what their last change did, the number of changes, the limits, and the key whose place stands empty, if one does
+-- the records with what their last change did, the number of changes, the limits, and the key whose place is empty, if
+-- one is
 pub record RegistryState : Type 0 where
   pub held : FinMap key_cmp Entry
   pub version : ℕ
@@ -14,7 +15,7 @@ pub record RegistryState : Type 0 where
   pub instances : ℕ
   pub next : Option Key
 
--- the same but for the place that stands empty, which no answer shows
+-- the same but for the empty place, which no answer shows
 pub record IsSameRegistry (old new : RegistryState) : Type 0 where
   pub held : new.held ≡ old.held
   pub version : new.version ≡ old.version

@@ -5,7 +5,7 @@ use disco_history::Change;
 use disco_instance::Record;
 use disco_values::{Entries, Key, Text};
 
-/// What a client asks of the registry.
+/// An operation: what a client asks of the registry.
 #[derive(Debug, Drop)]
 pub enum Op {
     /// Eureka's `POST /apps/{app}`.

@@ -18,14 +18,14 @@ use std::alloc::{AllocError, Global};
 use std::collections::BTreeMap;
 use std::marker::Model;
 
-/// The records that are held, and at most one place that stands empty.
+/// The records that are held, and at most one empty place.
 #[derive(Drop)]
 pub(crate) struct Records {
     places: Places<Held>,
-    /// The record that is put next, whose place stands empty.
+    /// The record that is put next, whose place is empty.
     next: Option<Held>,
-    /// The record that was sought last. It is looked at first, so searches may be saved, and nothing
-    /// else depends on it.
+    /// The record that was searched for last. Looking at it first saves searches; nothing else depends
+    /// on it.
     sought: Option<Held>,
 }
 
@@ -44,7 +44,6 @@ impl Model for Records {
     ghost invariant = { λ r. AreInPlace r.places r.next r.sought };
 }
 
-/// Whether a record is of a key.
 fn is_of(held: &Held, key: &Key) -> bool
     ensures { result ≡ same_key held.now.rec.value.key key.now }
 {
@@ -71,7 +70,7 @@ fn left_after(next: Option<Held>, key: &Key) -> Option<Held>
     }
 }
 
-/// The same once more, unless there is no memory for it.
+/// A share of the record, unless memory is refused.
 fn shared(held: Option<&Held>) -> Option<Held>
     ensures { IfSome result (λ h. Some (entry_of h) ≡ option_map entry_of (option_copied held.entry)) }
 {
@@ -155,7 +154,6 @@ fn found_under<'a>(apps: &'a BTreeMap<Text, IdMap<Option<Held>>>, id: &Text) -> 
 }
 
 impl Records {
-    /// No records.
     pub(crate) fn new(alloc: Global) -> Records
         ensures { result ≡ record { held = finmap.empty; next = None } }
     {
@@ -166,8 +164,8 @@ impl Records {
         }
     }
 
-    /// Seeks the record of a key, so that calls about this key need no search of their own. No
-    /// answer shows it. Answers whether there is one.
+    /// Searches for the record of a key, so that later calls about this key need no search. No answer
+    /// shows it. Answers whether there is one.
     pub(crate) fn seek(&mut self, key: &Key) -> bool
         ensures same { self.new ≡ self.old }
         ensures held { result ≡ is_some (finmap.get self.old.held key.now) }
@@ -192,7 +190,6 @@ impl Records {
         }
     }
 
-    /// The record of a key.
     pub(crate) fn get(&self, key: &Key) -> Option<&Record>
         ensures found { seen_record result ≡ record_at self.now.held key.now }
         ensures same_key { IfSome result (λ r. r.now.key ≡ key.now) }
@@ -203,7 +200,6 @@ impl Records {
         }
     }
 
-    /// How many records there are.
     pub(crate) fn len(&self) -> usize
         ensures { result ≡ finmap.len self.now.held }
     {
@@ -239,14 +235,14 @@ impl Records {
         found_under(self.places.apps(), id)
     }
 
-    /// The places of the records, by app and then by id. One of them may stand empty.
+    /// The places of the records, by app and then by id. One of them may be empty.
     pub(crate) fn apps(&self) -> &BTreeMap<Text, IdMap<Option<Held>>>
         ensures { filter_map (λ e. option_map entry_of e.1) (of_apps result.now.entries) ≡ values self.now.held }
     {
         self.places.apps()
     }
 
-    /// Takes out the place that stands empty, if there is one. Takes no memory.
+    /// Removes the empty place, if there is one. Takes no memory.
     pub(crate) fn forget(&mut self)
         ensures { self.new ≡ record self.old { next = None } }
     {
@@ -267,8 +263,8 @@ impl Records {
         Ok(())
     }
 
-    /// Puts a record in, in the place of that of its key or in the one that was made for it. Takes
-    /// no memory.
+    /// Puts a record in: it replaces that of its key, or takes the place that was made for it. Takes no
+    /// memory.
     pub(crate) fn put(&mut self, key: &Key, added: Held)
         requires place { finmap.get self.old.held key.now ≡ None → self.old.next ≡ Some key.now }
         requires same_key { added.rec.value.key ≡ key.now }
@@ -279,7 +275,7 @@ impl Records {
         self.places.put(key, added);
     }
 
-    /// Takes the record of a key out, if there is one. Takes no memory.
+    /// Removes the record of a key, if there is one. Takes no memory.
     pub(crate) fn take(&mut self, key: &Key)
         ensures { self.new.held ≡ finmap.remove self.old.held key.now }
     {

@@ -88,7 +88,7 @@ impl Ready {
     }
 }
 
-/// There is nothing to change.
+/// What is ready where there is nothing to change.
 fn same_ready() -> Ready
     ensures { result ≡ None }
 {
@@ -165,7 +165,6 @@ fn status_given(text: &Option<Text>) -> Option<Status>
     }
 }
 
-/// The record of what is held.
 fn record_of(held: Option<&Held>) -> Option<&Record>
     ensures { seen_record result ≡ option_map (λ e. e.0) (option_map (λ h. entry_of h.now) held.entry) }
 {
@@ -253,18 +252,18 @@ impl Registry {
         self.version
     }
 
-    /// The held records, by app and then by id. A place may stand empty, and no other answer shows it.
+    /// The held records, by app and then by id. A place may be empty, and no other answer shows it.
     pub fn records(&self) -> &BTreeMap<Text, IdMap<Option<Held>>>
         ensures { filter_map (λ e. option_map entry_of e.1) (of_apps result.now.entries) ≡ values self.now.held }
     {
         self.records.apps()
     }
 
-    /// Makes every growth that an operation needs, and changes no answer.
+    /// Takes all memory that an operation needs, and changes no answer.
     ///
     /// # Errors
     ///
-    /// What the operation is refused as, and `OutOfMemory`.
+    /// The fault of the operation, or `OutOfMemory`.
     pub fn ready(&mut self, op: Op, now: u64) -> Result<Ready, Fault>
         ensures same { IsSameRegistry self.old self.new }
         ensures ready { IfOk result (λ r. accepts self.old (op_view op) now ≡ Ok r × IsReady self.new r) }
@@ -281,12 +280,12 @@ impl Registry {
         }
     }
 
-    /// Makes an operation ready that stays its caller's, as [`Registry::ready`] does. The record of a
-    /// registration is copied.
+    /// Makes ready an operation that its caller keeps, as [`Registry::ready`] does. Copies the record
+    /// of a registration.
     ///
     /// # Errors
     ///
-    /// What the operation is refused as, and `OutOfMemory`.
+    /// The fault of the operation, or `OutOfMemory`.
     pub fn ready_borrowed(&mut self, op: &Op, now: u64) -> Result<Ready, Fault>
         ensures same { IsSameRegistry self.old self.new }
         ensures ready { IfOk result (λ r. accepts self.old (op_view op.now) now ≡ Ok r × IsReady self.new r) }
@@ -303,9 +302,8 @@ impl Registry {
         }
     }
 
-    /// Takes out the place that was made for another operation, and seeks the record of a key once,
-    /// for all that is asked of the key until its change is made. No answer shows it. Answers whether
-    /// there is one.
+    /// Removes the place that was made for another operation, and searches for the record of a key,
+    /// once for all calls until its change is made. No answer shows it. Answers whether there is one.
     fn seek(&mut self, key: &Key) -> bool
         ensures same { self.new ≡ record self.old { next = None } }
         ensures held { result ≡ is_some (get self.old.held key.now) }
@@ -314,8 +312,7 @@ impl Registry {
         self.records.seek(key)
     }
 
-    /// The record under a key, where it is known whether there is one. One that isn't there isn't
-    /// sought again.
+    /// The record under a key, where it is known whether there is one. Searches only where there is.
     fn known(&self, key: &Key, is_held: bool) -> Option<&Record>
         requires { is_held ≡ is_some (get self.now.held key.now) }
         ensures found { seen_record result ≡ record_at self.now.held key.now }

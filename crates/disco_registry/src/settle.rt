@@ -1,4 +1,4 @@
-//! What a registration makes of the posted and of the held record.
+//! The record that a registration puts, by the posted and the held record.
 ghost use Rattle.std.specs.Prelude.{◌≡◌, if◌then◌else◌, IfOk, IfErr};
 ghost use Rattle.std.specs.Option.{option_map_or};
 ghost use Rattle.disco_instance.specs.Row.{row};

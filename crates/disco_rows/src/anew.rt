@@ -1,4 +1,4 @@
-//! Documents joined anew, of texts that are made of what they say of each instance.
+//! Joins documents anew, from texts that are made of their own mentions.
 use disco_compact::text_compact;
 use disco_trials::Outcome;
 use disco_values::{Fault, Form, Text};

@@ -1,4 +1,4 @@
-//! What a row of a connection holds.
+//! Reads the row of a connection.
 use crate::row::Row;
 use crate::settings::settings_of;
 use disco_values::Settings;

@@ -1,4 +1,4 @@
-//! Whether a connection is as it has to be.
+//! Compares a connection with what its row wants.
 use crate::connection::{Came, over_a_desk, over_a_hub};
 use crate::exchange::Exchange;
 use disco_http::{End, Served};

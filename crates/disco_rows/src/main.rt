@@ -1,15 +1,13 @@
-//! Runs the rows in the folders that lie where it runs, and compares every byte with what has to come
-//! out.
+//! Runs the rows in the folders of the current folder, and compares every byte with what is wanted.
 //!
-//! Each document that a row answers is compared too with one that is joined of the texts of its
-//! instances, as they are made of what it says of each. Each connection is run four times over a hub
-//! and four times over a desk under its lock, in pieces of 1, 2, 7 and 1,000 bytes; one that is cut
-//! as often for every byte that it has.
+//! It also joins each answered document anew, from texts that are made of the document's own mentions,
+//! and compares the two. It runs each connection four times over a hub and four times over a desk under
+//! its lock, in pieces of 1, 2, 7 and 1,000 bytes, and a cut one as often for each of its bytes.
 //!
-//! Of a row that is as it has to be the name is printed, of another one where it differs first, and
-//! then the exit status is 1. With the word `--came` what came of such a row is written too, to files
-//! beside its own, unless it is of a connection. With the words `PATH TIMES PIECE` a connection is
-//! timed. The README beside `src/` says what the files of a row hold.
+//! It prints the name of each row that is as wanted, and of another one where it differs first; then
+//! the exit status is 1. With the word `--came` it also writes what came of such a row, to files beside
+//! its own, unless the row is of a connection. With the words `PATH TIMES PIECE` it times a connection.
+//! The README beside `src/` says what the files of a row hold.
 #![tactic(auto)]
 
 mod anew;
@@ -79,8 +77,7 @@ where
     Ok(kept)
 }
 
-/// As [`is_kept`]; of a row whose files can't be read, or for which there is no memory, it is printed
-/// why.
+/// As [`is_kept`]. Prints why the files of a row can't be read, or that there is no memory.
 fn is_kept_or_told<R>(rt: &R, writes: bool, path: &str) -> io::Result<bool>
 where
     R: Net<Listener = TcpListener, Stream = TcpStream> + Threads + Wait + Clock,

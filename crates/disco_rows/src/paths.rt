@@ -1,8 +1,8 @@
-//! Which rows there are.
+//! Finds the rows.
 use std::rt::Files;
 use std::{fs, io};
 
-/// What the name of the file ends with by which a row is found.
+/// The endings of the files by which rows are found.
 const ENDINGS: [&str; 3] = [".row", ".request", ".cut"];
 
 /// The name of the row that is found by a file, if one is.

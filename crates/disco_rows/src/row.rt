@@ -65,7 +65,7 @@ impl<'a> Row<'a> {
         }
     }
 
-    /// A part that each such row has.
+    /// A part that the row has to have.
     pub(crate) fn required<R: Files + AllocGlobal>(
         &self,
         rt: &R,
@@ -77,7 +77,7 @@ impl<'a> Row<'a> {
         }
     }
 
-    /// A part, or what stands for it where the row doesn't have it.
+    /// A part, or its default where the row doesn't have it.
     pub(crate) fn part_or<R: Files + AllocGlobal>(
         &self,
         rt: &R,

@@ -3,7 +3,7 @@ use disco_values::{MOST_INSTANCES, MOST_QUEUE, Settings, number_of_digits};
 use std::io;
 use std::io::ErrorKind;
 
-/// What is chosen by a number more: that of `run`, `versions`, `instances` or `queue`.
+/// The settings with one more number: that of `run`, `versions`, `instances` or `queue`.
 fn with_number(mut chosen: Settings, name: &str, number: u64) -> Option<Settings> {
     if name == "run" {
         chosen.run = number;
@@ -19,7 +19,7 @@ fn with_number(mut chosen: Settings, name: &str, number: u64) -> Option<Settings
     Some(chosen)
 }
 
-/// What is chosen by a line more: `no-delta`, or a name and its number.
+/// The settings with one more line: `no-delta`, or a name and its number.
 fn with_line(mut chosen: Settings, line: &str) -> Option<Settings> {
     if line == "no-delta" {
         chosen.delta = false;

@@ -1,4 +1,4 @@
-//! A server without a desk beside its clients, who are more than its workers, or slow.
+//! Tries a server without a desk with more clients than workers, and with slow ones.
 use crate::bare_server::serve;
 use crate::beating::all_beat;
 use crate::client::visit;

@@ -11,7 +11,7 @@ use std::rt::Clock;
 const REGISTRATION: &[u8] =
     b"POST /eureka/v2/apps/A HTTP/1.1\r\nHost: a\r\nContent-Type: application/json\r\nContent-Length: 177\r\nConnection: close\r\n\r\n{\"instance\":{\"instanceId\":\"1\",\"hostName\":\"h\",\"app\":\"A\",\"ipAddr\":\"10.0.0.1\",\"status\":\"UP\",\"port\":{\"$\":8080,\"@enabled\":\"true\"},\"vipAddress\":\"v\",\"dataCenterInfo\":{\"name\":\"MyOwn\"}}}";
 
-/// What is told of it in all refreshes as JSON objects, where the server's run is 5.
+/// What is written of it in all refreshes as JSON objects, where the server's run is 5.
 const TOLD: &[u8] =
     b"{\"changes\":[{\"app\":\"A\",\"change\":\"came\",\"id\":\"1\",\"status\":\"UP\"}],\"run\":5,\"version\":1}\n{\"up\":[{\"host\":\"h\",\"port\":8080}],\"vip\":\"v\"}\n";
 
@@ -30,7 +30,7 @@ pub(crate) fn words_on(alloc: Global, words: &[&str], port: u16) -> io::Result<V
     Ok(all)
 }
 
-/// Whether a run has ended with 1, and told why it had no connection, and nothing else.
+/// Whether a run has ended with 1, and has written why it had no connection, and nothing else.
 pub(crate) fn is_told_why(status: u8, out: &[u8], errors: &[u8], why: &str) -> bool {
     status == 1
         && out.is_empty()
@@ -38,7 +38,7 @@ pub(crate) fn is_told_why(status: u8, out: &[u8], errors: &[u8], why: &str) -> b
         && errors.ends_with(b"\ndiscovery: fault 20\n")
 }
 
-/// Follows what a server on a port has. Whether the instance and its vip are told, once and alone.
+/// Follows what a server on a port has. Whether the instance and its vip are written, once and alone.
 fn is_followed<R: Net<Stream = TcpStream> + Clock>(
     rt: &R,
     alloc: Global,

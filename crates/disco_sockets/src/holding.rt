@@ -1,4 +1,4 @@
-//! The gate of the trials.
+//! A gate that holds an answer until another connection has one.
 use disco_server::{Gate, Point};
 use std::sync::atomic::{AtomicBool, Ordering};
 use std::thread::yield_now;

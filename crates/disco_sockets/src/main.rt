@@ -1,10 +1,10 @@
-//! Tries a running server over sockets of this host, with two workers and the timed ones, the timed
-//! workers by a clock that is turned by hand, and what the program's commands do and say. Then the
-//! connections of a server: more clients than workers, clients that send slowly or nothing, and accepts
-//! that fail. Its four workers answer each request with 204, and wait for shorter times than those of
-//! `serve` do.
+//! Tries a running server over sockets of this host, with two workers and the timed ones, whose clock
+//! it turns by hand. Tries what the program's commands do and write. Then it tries the connections of a
+//! server: more clients than workers, clients that send slowly or nothing, and accepts that fail. The
+//! four workers of that server answer each request with 204, and wait for shorter times than those of
+//! `serve`.
 //!
-//! Of each trial the name is printed with what came of it. Ends with status 1 where one fails.
+//! It prints the name of each trial with its result, and ends with status 1 where one fails.
 #![tactic(auto)]
 
 mod accepts;

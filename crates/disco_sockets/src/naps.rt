@@ -3,7 +3,7 @@ use std::rt::Clock;
 use std::thread::sleep;
 use std::time::Duration;
 
-/// How often it is looked for something, at most.
+/// How often a trial looks for something, at most.
 pub(crate) const LOOKS: u64 = 20_000;
 
 /// Waits for a millisecond.

@@ -18,7 +18,7 @@ use std::sync::Wait;
 use std::sync::atomic::{AtomicBool, Ordering};
 use std::thread::{Threads, join};
 
-/// What the program writes to: says to another thread that a line is whole.
+/// The output of the program. Tells another thread that a line is whole.
 #[derive(Drop)]
 struct Heard<'a> {
     bytes: Vec<u8>,
@@ -53,7 +53,7 @@ const THRICE: &[&str] = &["serve", "--run", "5", "--connections", "3", "--port"]
 /// The same for four connections.
 const FOUR_TIMES: &[&str] = &["serve", "--connections", "4", "--port"];
 
-/// Who visits the program while it serves.
+/// A client of the program while it serves.
 #[derive(Clone, Copy)]
 pub(crate) enum Guest<'a> {
     /// Asks once, over one connection.

@@ -1,4 +1,4 @@
-//! The server beside its trials.
+//! Runs a server and its trials at once.
 ghost use Rattle.disco_press.specs.Openings.{Opens};
 
 use crate::holding::Holding;

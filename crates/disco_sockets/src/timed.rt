@@ -1,4 +1,4 @@
-//! The timed workers, each at its own period.
+//! Tries the timed workers, each at its own period.
 ghost use Rattle.disco_press.specs.Openings.{Opens};
 
 use crate::dial::{Dial, START, Turned};
@@ -207,7 +207,7 @@ fn turn_through<J: Naming, R: Wait + rt::Clock>(
     })
 }
 
-/// The workers, which have something to do, beside what turns their clocks.
+/// Runs the workers, which have something to do, and turns their clocks.
 fn turn_and_tend<J: Naming + Send + Sync, R>(
     rt: &R,
     alloc: Global,

@@ -1,4 +1,4 @@
-//! What is tried, each on connections of its own.
+//! The trials of a server, each on connections of its own.
 use crate::client::{LAST_APPS, hears, is_at_end, send, visit};
 use crate::naps::{LOOKS, nap};
 use crate::timed::apps;

@@ -110,7 +110,7 @@ fn is_gone(alloc: Global, stream: &TcpStream) -> io::Result<bool> {
     Ok(false)
 }
 
-/// Whether that has come, of which this is so manieth look.
+/// Whether the awaited has come, at the look of this number.
 fn has_come(
     alloc: Global,
     stream: &TcpStream,

@@ -1,4 +1,4 @@
-//! What the calls are given, and how their answers are told.
+//! Arguments of the calls, and how their answers are written.
 use disco_cache::DocKey;
 use disco_instance::{Fault, Form, Key, Record, Text};
 use disco_registry::Op;
@@ -7,12 +7,12 @@ use disco_writer::Query;
 use std::alloc::Global;
 use std::fmt::Write;
 
-/// Tells a number, on a line of its own.
+/// Writes a name and a number, on a line of their own.
 pub(crate) fn say(out: &mut String, name: &str, number: u64) -> Result<(), Fault> {
     Ok(writeln!(out, "{name} {number}")?)
 }
 
-/// Tells a text, on a line of its own.
+/// Writes a name and a text, on a line of their own.
 pub(crate) fn say_text(out: &mut String, name: &str, text: &str) -> Result<(), Fault> {
     Ok(writeln!(out, "{name} {text}")?)
 }
@@ -33,7 +33,7 @@ pub(crate) fn key(alloc: Global, id: &str) -> Result<Key, Fault> {
     })
 }
 
-/// What registers it.
+/// The registration of that instance.
 pub(crate) fn registration(alloc: Global, id: &str) -> Result<Op, Fault> {
     Ok(Op::Register(record(alloc, id)?))
 }

@@ -20,7 +20,7 @@ pub(crate) fn settings() -> Settings {
     }
 }
 
-/// A registration that is made ready and done: whether it tells a change.
+/// A registration that is made ready and done: whether it names a change.
 fn register(alloc: Global, hub: &mut Hub) -> Result<u64, Fault> {
     let ready: Ready = hub.ready(registration(alloc, "1")?, 1)?;
     let told = ready.change()?.is_some();

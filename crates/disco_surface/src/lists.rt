@@ -18,7 +18,7 @@ fn app(alloc: Global) -> Result<Text, Fault> {
     Ok(Text::new(alloc, "A")?)
 }
 
-/// What writes, by a number from 0 to 5, the cancel last.
+/// The events that write, by a number from 0 to 5, the cancel last.
 fn write(alloc: Global, number: u64) -> Result<Step, Fault> {
     let now = number.saturating_add(1);
     let app = app(alloc)?;
@@ -51,7 +51,7 @@ fn write(alloc: Global, number: u64) -> Result<Step, Fault> {
     }
 }
 
-/// What a reader asks for, by a number from 0 to 3.
+/// The events of a reader, by a number from 0 to 3.
 fn read(alloc: Global, number: u64) -> Result<Step, Fault> {
     let form = Form::Full;
     match number {
@@ -68,7 +68,7 @@ fn read(alloc: Global, number: u64) -> Result<Step, Fault> {
     }
 }
 
-/// What a publisher and time do, and what shows the clients, by a number from 0 to 9.
+/// The events of publisher and time, and those that show the clients, by a number from 0 to 9.
 fn pass(number: u64) -> Step {
     match number {
         0 => Step::Begin,

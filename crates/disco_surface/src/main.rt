@@ -1,5 +1,5 @@
-//! Each public name by the path of the crate that gives it, and each call once, as whoever has the list
-//! of public names alone would write it. Prints what the calls answer.
+//! Uses each public name by the path of its crate, and makes each call once, as a user would who has
+//! the list of public names alone. Prints what the calls answer.
 #![tactic(auto)]
 
 ghost use Rattle.disco_press.specs.Openings.{Opens};
@@ -25,7 +25,7 @@ use std::rt::Clock;
 use std::sync::{Mutex, MutexGuard, Wait};
 use std::thread::Threads;
 
-/// What takes one thread and no desk.
+/// Makes the calls that take one thread and no desk.
 fn tell_calls(alloc: Global, out: &mut String) -> Result<(), Fault> {
     records::tell(alloc, out)?;
     states::tell(alloc, out)?;
@@ -52,7 +52,7 @@ fn tell_locked<J: Naming, R: Wait>(
     told.and(answered)
 }
 
-/// What takes a desk and its seats.
+/// Makes the calls that take a desk and its seats.
 fn tell_seats<J: Naming + Send + Sync, R>(
     rt: &R,
     alloc: Global,
@@ -90,7 +90,7 @@ where
     told.and(desks::tell_shut(&mut seat, out))
 }
 
-/// All that is told, and why it ends early, if it does.
+/// Makes all calls.
 fn tell_all<R>(rt: &R, alloc: Global, out: &mut String) -> Result<(), Fault>
 where
     R: Net<Listener = TcpListener, Stream = TcpStream> + Threads + Wait + Clock + Sync,

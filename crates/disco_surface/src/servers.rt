@@ -31,7 +31,7 @@ const POST: &[u8] =
 /// Renews it.
 const PUT: &[u8] = b"PUT /eureka/v2/apps/A/r HTTP/1.1\r\nHost: a\r\n\r\n";
 
-/// How often a thread looks whether another one has come so far, at most.
+/// How often a thread looks at the flag of another one, at most.
 const TURNS: u64 = 10_000_000;
 
 /// A clock that stands still.
@@ -126,7 +126,7 @@ fn tell_service(alloc: Global, request: &Request, out: &mut String) -> Result<()
     tell_call(&mut service, request, out)
 }
 
-/// What takes a hub and no desk.
+/// Makes the calls that take a hub and no desk.
 pub(crate) fn tell_hub(alloc: Global, out: &mut String) -> Result<(), Fault> {
     let request = read(alloc, GET)?;
     tell_answer(alloc, &request, out)?;
@@ -145,7 +145,7 @@ pub(crate) fn tell_desk<J: Naming>(
     say(out, "changes", seat.changes())
 }
 
-/// Waits until another thread has come so far. False where it doesn't.
+/// Waits until another thread has set the flag. False where it doesn't.
 fn has_come(flag: &AtomicBool) -> bool {
     for _ in 0..TURNS {
         if flag.load(Ordering::SeqCst) {
@@ -156,8 +156,8 @@ fn has_come(flag: &AtomicBool) -> bool {
     false
 }
 
-/// Has the lock of a desk from when it says so until another thread has answered. False where that
-/// doesn't come.
+/// Holds the lock of a desk until another thread has answered. Sets `held` once it has the lock. False
+/// where no answer comes.
 fn hold<J: Naming, R: Wait>(
     rt: &R,
     desk: &Mutex<Desk<J>>,
@@ -223,8 +223,8 @@ fn tell_asked<J: Naming, R: Wait>(
     say(out, "asked", reply.status.as_u16() as u64)
 }
 
-/// Two renewals under the lock are counted once each and keep their instance, and nothing else is done
-/// there: else fewer or more renewals were counted, or the instance, which had else run out, were gone.
+/// Two renewals under the lock are counted once each and keep their instance, whose lease would have
+/// run out. Nothing else is done there.
 pub(crate) fn tell_renewals<J: Naming, R: Wait>(
     rt: &R,
     alloc: Global,

@@ -16,7 +16,7 @@ const REQUEST: &[u8] = b"POST /a HTTP/1.1\r\nHost: a\r\nContent-Length: 2\r\n\r\
 /// A reply without a body.
 const REPLY: &[u8] = b"HTTP/1.1 404 Not Found\r\nContent-Length: 0\r\n\r\n";
 
-/// Gives one byte at a time.
+/// A source that gives one byte at a time.
 #[derive(Drop)]
 struct Drops<'a> {
     rest: &'a [u8],
@@ -43,7 +43,7 @@ impl Source for Drops<'_> {
     }
 }
 
-/// Counts the bytes that it is given.
+/// A sink that counts the bytes written to it.
 #[derive(Drop)]
 struct Scale {
     bytes: usize,
@@ -78,7 +78,7 @@ impl Document for Page {
     }
 }
 
-/// Answers each request by the page.
+/// A service that answers each request with the page.
 #[derive(Clone, Copy, Debug)]
 struct Clerk;
 

@@ -1,4 +1,4 @@
-//! Kept documents, by the calls that no event reaches alone.
+//! Tries the calls on kept documents that no event makes alone.
 use crate::given::{empty_hub, key, record, registration};
 use disco_cache::{DocCache, Payload};
 use disco_hub::Hub;
@@ -92,7 +92,7 @@ pub(crate) fn keep(alloc: Global) -> Result<Kept, Fault> {
     keep_in(alloc, &mut cache)
 }
 
-/// Whether what is ready tells a change: for a registration, behind which there are so many versions,
+/// Whether what is ready names a change: for a registration, behind which there are so many versions,
 /// and for a renewal.
 #[derive(Clone, Copy, Debug, PartialEq, Eq)]
 pub(crate) struct ToCome {
@@ -108,7 +108,7 @@ pub(crate) const WANTED_TO_COME: ToCome = ToCome {
     renewal: false,
 };
 
-/// Whether what is ready of an operation tells a change. It is done.
+/// Whether what is ready of an operation names a change. Carries it out.
 fn tells_a_change(hub: &mut Hub, op: Op, now: u64) -> Result<bool, Fault> {
     let ready = hub.ready(op, now)?;
     let told = ready.change()?.is_some();
@@ -127,7 +127,7 @@ fn prepare_both(alloc: Global, hub: &mut Hub) -> Result<ToCome, Fault> {
     })
 }
 
-/// What is ready tells the change to come, where there is one.
+/// What is ready names the change to come, where there is one.
 pub(crate) fn prepare(alloc: Global) -> Result<ToCome, Fault> {
     let mut hub = empty_hub(alloc)?;
     prepare_both(alloc, &mut hub)

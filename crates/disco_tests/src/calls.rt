@@ -1,4 +1,4 @@
-//! Calls that no event reaches, each once where there is memory.
+//! Makes calls that no event makes, each once where there is memory.
 use crate::given::{key, registration};
 use disco_history::{Change, last_of};
 use disco_index::Counts;

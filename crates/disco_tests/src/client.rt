@@ -1,4 +1,4 @@
-//! A copy by the documents that it was given: what no event shows of it.
+//! Tries what no event shows of a client's copy.
 use disco_client::Copy;
 use disco_values::Fault;
 use disco_wire::read_document;

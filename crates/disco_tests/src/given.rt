@@ -1,4 +1,4 @@
-//! What trials are given: settings, instances, and keys of documents.
+//! Arguments of trials: settings, instances, and keys of documents.
 use disco_hub::Hub;
 use disco_instance::Record;
 use disco_options::settings_of;
@@ -46,17 +46,17 @@ pub(crate) fn key(alloc: Global, id: &str) -> Result<Key, Fault> {
     })
 }
 
-/// What registers it.
+/// The registration of that instance.
 pub(crate) fn registration(alloc: Global, id: &str) -> Result<Op, Fault> {
     Ok(Op::Register(record(alloc, id)?))
 }
 
-/// What cancels it.
+/// The cancel of that instance.
 pub(crate) fn cancel(alloc: Global, id: &str) -> Result<Op, Fault> {
     Ok(Op::Cancel(key(alloc, id)?))
 }
 
-/// What registers the one instance of the app of a number.
+/// The registration of the one instance of the app of a number.
 pub(crate) fn registration_of(alloc: Global, app: u64) -> Result<Op, Fault> {
     let text = format!(in alloc;
         r#"{{"instance":{{"instanceId":"1","hostName":"h","app":"A{app}","ipAddr":"10.0.0.1","dataCenterInfo":{{"name":"MyOwn"}}}}}}"#

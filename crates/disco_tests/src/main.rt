@@ -2,7 +2,7 @@
 //! lines should have, calls that no event reaches, a host whose time jumps, and looks from several
 //! threads beside a desk that publishes.
 //!
-//! Of each trial it is printed what came of it. Ends with status 1 where one fails.
+//! It prints the result of each trial, and ends with status 1 where one fails.
 //!
 //! With the words `looks <apps> <threads> <looks> <busy>` it tries nothing, but times so many looks on
 //! each thread, each at a document of its own in an edition with one for each app, while one thread more

@@ -56,7 +56,7 @@ pub(crate) fn most_held(alloc: Global) -> Result<Ended, Fault> {
     run(alloc, input.as_str(), want.as_str())
 }
 
-/// A reader that fails where its bytes end.
+/// A source that fails where its bytes end.
 #[derive(Drop)]
 struct Torn<'a> {
     rest: &'a [u8],
@@ -95,7 +95,7 @@ pub(crate) fn failed_reads(alloc: Global) -> Result<usize, Fault> {
     )
 }
 
-/// A writer that takes so many bytes and then fails.
+/// A sink that takes so many bytes and then fails.
 #[derive(Drop)]
 struct Full {
     room: usize,

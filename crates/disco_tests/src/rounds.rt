@@ -1,4 +1,4 @@
-//! Rounds of a publisher, by the calls that no event reaches alone.
+//! Tries the calls on rounds that no event makes alone.
 use crate::given::{apps, empty_hub, refusal};
 use disco_hub::{Copied, Hub};
 use disco_values::Fault;

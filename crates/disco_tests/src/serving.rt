@@ -26,7 +26,7 @@ const REQUESTS: &[&str] = &[
 const REPLY: &str =
     "HTTP/1.1 200 OK\r\nContent-Type: application/json\r\nContent-Length: 2\r\n\r\n{}";
 
-/// What a client sends, and how often it can be read.
+/// What a client sends, and how many reads of it succeed.
 #[derive(Drop)]
 struct Line<'a> {
     rest: &'a [u8],
@@ -34,7 +34,7 @@ struct Line<'a> {
     failed: bool,
 }
 
-/// Gives pieces of a line, and then fails.
+/// A source that gives a client's bytes in pieces, and then fails.
 #[derive(Drop)]
 struct Halting<'l, 'a> {
     line: &'l mut Line<'a>,
@@ -52,7 +52,7 @@ impl Read for Halting<'_, '_> {
     }
 }
 
-/// What a client got, and how often it can be written.
+/// What a client got, and how many writes to it succeed.
 #[derive(Drop)]
 struct Paper {
     text: Vec<u8>,
@@ -60,7 +60,7 @@ struct Paper {
     failed: bool,
 }
 
-/// Takes pieces of what is written, and then fails.
+/// A sink that takes what is written in pieces, and then fails.
 #[derive(Drop)]
 struct Stopping<'p> {
     paper: &'p mut Paper,
@@ -96,7 +96,7 @@ impl Document for Page {
     }
 }
 
-/// Counts what it answers.
+/// A service that counts its answers.
 #[derive(Clone, Copy, Debug)]
 struct Clerk {
     answered: u64,
@@ -167,7 +167,7 @@ fn are_written(paper: &Paper, whole: &[u8], replies: usize) -> bool {
     }
 }
 
-/// A text, so often as a client asks.
+/// A text, as often as a client asks.
 fn repeated(alloc: Global, text: &str) -> Result<Vec<u8>, AllocError> {
     let mut bytes = Vec::new(alloc);
     for _ in 0..ASKED {

@@ -1,4 +1,4 @@
-//! What the programs of trials share: where two texts or two outcomes differ, how what came of a trial
+//! What the programs of trials share: where two texts or two outcomes differ, how the result of a trial
 //! is printed, and a clock.
 #![tactic(auto)]
 

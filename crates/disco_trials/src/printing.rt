@@ -1,9 +1,9 @@
-//! What came of a trial.
+//! Prints the result of a trial.
 use std::fmt::{Debug, Display};
 use std::io;
 
-/// Prints the name of a trial with what came of it: `yes`, `no`, or why it ended early. Answers
-/// whether it went well.
+/// Prints the name of a trial with its result: `yes`, `no`, or why it ended early. Answers whether it
+/// went well.
 ///
 /// # Errors
 ///
@@ -21,8 +21,8 @@ pub fn told<R: Print, E: Display + Drop>(
     Ok(matches!(came, Ok(true)))
 }
 
-/// Prints the name of a trial with what came of it: `yes` where it is what was wanted, else `no` with
-/// both, or why it ended early. Answers whether it is what was wanted.
+/// Prints the name of a trial with its result: `yes` where it is what was wanted, else `no` with both,
+/// or why it ended early. Answers whether it is what was wanted.
 ///
 /// # Errors
 ///
@@ -42,8 +42,8 @@ pub fn compared<R: Print, T: PartialEq + Debug + Drop, E: Display + Drop>(
     Ok(well)
 }
 
-/// Prints the name of a trial with what came of it, as [`told`] does. Answers whether it went well and
-/// that could be printed.
+/// Prints the name of a trial with its result, as [`told`] does. Answers whether it went well and that
+/// could be printed.
 pub fn is_told<R: Print, E: Display + Drop>(rt: &R, name: &str, came: Result<bool, E>) -> bool {
     matches!(told(rt, name, came), Ok(true))
 }

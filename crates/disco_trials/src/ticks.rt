@@ -1,7 +1,7 @@
 //! The clock of trials.
 use disco_server::Clock;
 
-/// A clock that is later each time that it is asked, as far as was said.
+/// A clock that goes on by one step each time that it is asked.
 #[derive(Clone, Copy, Debug)]
 pub struct Ticks {
     step: u64,
@@ -9,7 +9,7 @@ pub struct Ticks {
 }
 
 impl Ticks {
-    /// A clock that begins with the first step, of so many milliseconds.
+    /// A clock with steps of so many milliseconds. It begins with the first step.
     pub fn new(step: u64) -> Ticks {
         Ticks { step, last: 0 }
     }

@@ -1,4 +1,4 @@
--- A text that has no letter in lower case is in upper case.
+-- A text without a lower-case letter is in upper case.
 use Rattle.std.proofs.Common.{◌≡◌, ℕ, Bool, true, false, not, ◌&&◌, List, [], ◌∷◌, refl, arith}
 use Rattle.std.proofs.lemmas.Bool.Decides.{nat_tests}
 use Rattle.std.specs.Char.{is_ascii_lowercase, to_ascii_uppercase}

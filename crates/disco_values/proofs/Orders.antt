@@ -1,4 +1,4 @@
--- The order of the keys of documents is total, and equal keys are one.
+-- The order of the keys of documents is total, and keys that compare equal are the same.
 use Rattle.std.proofs.Common.{◌≡◌, ℕ, zero, suc, List, [], ◌∷◌, refl, sym, ap, ◌∙◌}
 use Rattle.std.specs.declared.cmp.Ordering.{Ordering}
 use Rattle.std.specs.declared.cmp.Ordering.TheVariants.{Less, Equal, Greater}

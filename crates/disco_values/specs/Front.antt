@@ -8,7 +8,7 @@ first_eight s =
     from_be_bytes w64
     (get_or s 0 0 ∷ get_or s 1 0 ∷ get_or s 2 0 ∷ get_or s 3 0 ∷ get_or s 4 0 ∷ get_or s 5 0 ∷ get_or s 6 0 ∷ get_or s 7 0 ∷ [])
 
--- in the place of the eighth byte how many bytes there are, up to eight
+-- the number with its low byte replaced by the length, at most eight
 abbrev pub with_len : ℕ → ℕ → ℕ
 with_len eight len = eight / 256 * 256 + min len 8
 

@@ -9,6 +9,6 @@ use Rattle.disco_values.specs.declared.key.Key.{Key}
 abbrev pub key_cmp : Key → Key → Ordering
 key_cmp a b = ordering_then (slice_cmp nat_cmp a.app b.app) (slice_cmp nat_cmp a.id b.id)
 
--- whether two keys are one
+-- whether two keys are the same
 abbrev pub same_key : Key → Key → Bool
 same_key = eq_by_cmp key_cmp

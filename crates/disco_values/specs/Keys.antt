@@ -9,7 +9,7 @@ use Rattle.disco_values.specs.declared.query.Query.{Query}
 use Rattle.disco_values.specs.declared.query.Query.TheVariants as query
 use Rattle.disco_values.specs.declared.doc_key.DocKey.{DocKey}
 
--- the place of its kind
+-- the number of a query's kind in the order of kinds
 abbrev pub kind_of : Query → ℕ
 kind_of query.Apps = 0
 kind_of query.Delta = 1
@@ -18,7 +18,7 @@ kind_of (query.Vip vip) = 3
 kind_of (query.Svip vip) = 4
 kind_of (query.Instance key) = 5
 
--- the names in it
+-- the names in a query
 abbrev pub names_in : Query → List (List ℕ)
 names_in (query.App name) = name ∷ []
 names_in (query.Vip vip) = vip ∷ []
@@ -35,6 +35,6 @@ abbrev pub doc_cmp : DocKey → DocKey → Ordering
 doc_cmp a b = ordering_then (nat_cmp (kind_of a.query) (kind_of b.query))
     (ordering_then (slice_cmp (slice_cmp nat_cmp) (names_in a.query) (names_in b.query)) (nat_cmp (place_of a.form) (place_of b.form)))
 
--- whether two keys are one
+-- whether two keys are the same
 abbrev pub same_doc : DocKey → DocKey → Bool
 same_doc = eq_by_cmp doc_cmp

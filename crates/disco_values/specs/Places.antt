@@ -1,4 +1,5 @@
--- Where an entry stands among entries in the order of their names. Nothing here is to be believed: no public contract rests on it.
+-- The place of a name among entries in the order of their names. Nothing here is to be believed: no public contract
+-- rests on it.
 use Rattle.std.specs.Prelude.{List, length, slice_index_or, ℕ, ◌<◌, ◌≡◌, ◌≤◌}
 use Rattle.std.specs.declared.cmp.Ordering.TheVariants.{Less, Equal, Greater}
 use Rattle.std.specs.Ordering.{nat_cmp}

@@ -16,6 +16,6 @@ status_name Unknown = codes "UNKNOWN"
 abbrev pub status_named : List ℕ → Option Status
 status_named text = find (λ s. bytes_eq text (status_name s)) (Up ∷ Down ∷ Starting ∷ OutOfService ∷ Unknown ∷ [])
 
--- whether two statuses are one
+-- whether two statuses are the same
 abbrev pub is_same : Status → Status → Bool
 is_same a b = bytes_eq (status_name a) (status_name b)

@@ -1,4 +1,4 @@
--- Where the bytes of a text are, for private clauses. Nothing here need be believed.
+-- How the bytes of a text are stored, for private clauses. Nothing here need be believed.
 use Rattle.std.specs.Arc.{arc_value}
 use Rattle.std.specs.Prelude.{ℕ, List, string_bytes}
 use Rattle.disco_values.specs.declared.storage.Storage.{Storage}

@@ -1,4 +1,4 @@
--- Words on texts.
+-- The upper case of a text.
 use Rattle.std.specs.Prelude.{ℕ, List, map}
 use Rattle.std.specs.Char.{to_ascii_uppercase}
 

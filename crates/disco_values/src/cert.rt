@@ -1,7 +1,7 @@
 //! Certificates of documents.
 
-/// What a server says of a document (this project's own rule): the run that served it, the version
-/// that it starts from, and the version at which it was built.
+/// The certificate of a document (this project's own rule): the run that served it, the version that it
+/// starts from, and the version at which it was built.
 #[derive(Clone, Copy, Debug, PartialEq, Eq)]
 pub struct Cert {
     pub run: u64,

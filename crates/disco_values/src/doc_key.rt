@@ -1,4 +1,4 @@
-//! What names a document.
+//! The cache key of a document.
 ghost use Rattle.std.specs.Prelude.{◌≡◌};
 ghost use Rattle.disco_values.specs.Keys.{doc_cmp};
 
@@ -7,7 +7,7 @@ use crate::query::Query;
 use std::alloc::AllocError;
 use std::cmp::Ordering;
 
-/// What names a document: what is asked for, and in which form.
+/// The cache key of a document: what is asked for, and in which form.
 #[derive(Debug, Drop, PartialEq, Eq, PartialOrd, Ord)]
 pub struct DocKey {
     pub query: Query,

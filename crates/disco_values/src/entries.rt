@@ -58,6 +58,7 @@ impl Entries {
         }
     }
 
+    /// Entries in byte order of their names, each name once, and none `@class`.
     pub fn from_sorted(entries: Vec<(Text, Text)>) -> Entries
         requires { IsTrue (is_by_name entries.items) }
         ensures { result ≡ entries.items }
@@ -88,7 +89,7 @@ impl Entries {
         let _ = &self.entries;
     }
 
-    /// The same entries once more.
+    /// A copy of the entries.
     ///
     /// # Errors
     ///
@@ -122,7 +123,7 @@ impl Entries {
         Ok(entries)
     }
 
-    /// Puts an entry in, in the place of that of its name where there is one.
+    /// Puts an entry in, and replaces that of its name where there is one.
     fn put(&mut self, name: Text, text: Text) -> Result<(), AllocError>
         requires { bytes_eq name (codes "@class") ≡ false }
         ensures { OnOk result (self.new ≡ put (slice_cmp nat_cmp) name text self.old) }

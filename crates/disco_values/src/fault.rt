@@ -1,4 +1,4 @@
-//! Refusals.
+//! Faults: why a call was refused.
 ghost use Rattle.std.specs.Prelude.{◌≡◌};
 ghost use Rattle.disco_values.specs.declared.fault.Fault.TheVariants.{OutOfMemory};
 

@@ -1,4 +1,4 @@
-//! A text of few bytes, in the value itself.
+//! A short text, stored in the value itself.
 ghost use Rattle.std.specs.Prelude.{◌≡◌, ◌≤◌, ◌+◌, ◌++◌, ◌-◌, drop, length, replicate};
 ghost use Rattle.std.specs.Cmp.Lexicographic.{slice_cmp};
 ghost use Rattle.std.specs.Ordering.{nat_cmp};
@@ -9,7 +9,7 @@ use std::cmp::Ordering;
 use std::marker::Model;
 use std::str;
 
-/// How many bytes it may have.
+/// How many bytes an inline text has at most.
 pub(crate) const MOST_INLINE: usize = 30;
 
 /// A text of at most [`MOST_INLINE`] bytes. It takes no memory beside itself.
@@ -53,7 +53,7 @@ impl InlineText {
         }
     }
 
-    /// The text once more.
+    /// A copy of the text.
     pub(crate) fn copy(&self) -> InlineText
         ensures { result ≡ self.now }
     {
@@ -79,8 +79,8 @@ impl InlineText {
         eight_of(&self.bytes[at..])
     }
 
-    /// The order of two texts with one front, by what stands behind their first six bytes, eight bytes
-    /// at once. Where that is the same, zeros behind them and all, the shorter one comes first.
+    /// The order of two texts with equal fronts, by what stands behind their first six bytes, eight
+    /// bytes at once. Where that is the same, zeros behind them and all, the shorter one comes first.
     pub(crate) fn order(&self, other: &InlineText) -> Ordering
         requires fronts { front_of self.now ≡ front_of other.now }
         requires one { AreBytes self.now }

@@ -1,4 +1,4 @@
-//! What names an instance.
+//! The key of an instance.
 ghost use Rattle.std.specs.Prelude.{◌≡◌};
 ghost use Rattle.disco_values.specs.Key.{key_cmp};
 
@@ -6,7 +6,7 @@ use crate::text::Text;
 use std::alloc::AllocError;
 use std::cmp::Ordering;
 
-/// What names an instance. Keys stand by app, then by id, both in byte order.
+/// The key of an instance: its app and its id. Keys are ordered by app, then by id, both in byte order.
 #[derive(Debug, Drop, PartialEq, Eq)]
 pub struct Key {
     /// The name of its app, in upper case (ASCII letters alone).

@@ -1,7 +1,6 @@
-//! The values that a registry is made of: texts, names, keys, entries, statuses, actions, forms,
-//! certificates, queries and the keys of documents, numbers in digits, the limits of a registry
-//! ([`Settings`]), and the faults that all of it is refused by. Every refusal of the library is a
-//! [`Fault`].
+//! The values of a registry: texts, keys, metadata entries, statuses, actions, queries, forms, keys and
+//! certificates of documents, decimal numbers, limits ([`Settings`]) and faults. Every refusal of the
+//! library is a [`Fault`].
 #![tactic(auto)]
 
 mod action;

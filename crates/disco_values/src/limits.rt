@@ -1,6 +1,5 @@
-//! The bounds of settings and their defaults. Each number stands here once for code, as a macro that
-//! hands it to another one, so that numbers and help texts are made of it, and once for contracts, in
-//! `specs/Limits.antt`.
+//! The bounds of settings and their defaults. Each number is here once for code, as a macro that makes
+//! numbers and help texts of it, and once for contracts, in `specs/Limits.antt`.
 
 /// A number as it is.
 #[macro_export]

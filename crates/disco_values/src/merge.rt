@@ -1,4 +1,4 @@
-//! Entries of two lists, each in the order of its names, as one list.
+//! Merges two lists of entries, each in the order of its names.
 ghost use Rattle.std.specs.Prelude.{◌≡◌, ◌∷◌, [], IfOk, IfSome, MatchOption, true};
 ghost use Rattle.disco_values.specs.Entries.{is_by_name, with_entries};
 
@@ -14,7 +14,7 @@ struct First<'e> {
     others: &'e [(Text, Text)],
 }
 
-/// The entry of the lesser name, and of one name that of the others. None where both lists are empty.
+/// The entry of the lesser name; of equal names that of `others`. None where both lists are empty.
 fn first_of<'e>(own: &'e [(Text, Text)], others: &'e [(Text, Text)]) -> Option<First<'e>>
     requires { is_by_name others.now ≡ true }
     ensures entry { MatchOption result (with_entries own.now others.now ≡ []) (λ f. with_entries own.now others.now ≡ f.entry.now ∷ with_entries f.own.now f.others.now) }
@@ -44,8 +44,8 @@ fn first_of<'e>(own: &'e [(Text, Text)], others: &'e [(Text, Text)]) -> Option<F
     }
 }
 
-/// Copies of the entries of both lists, in the order of their names: of one name that of the others.
-/// They have no more room than they fill.
+/// Copies of the entries of both lists, in the order of their names; of equal names that of `others`.
+/// They have no spare room.
 pub(crate) fn merged(
     alloc: Global,
     own: &[(Text, Text)],
@@ -61,7 +61,7 @@ pub(crate) fn merged(
         own_left = first.own;
         others_left = first.others;
     }
-    // Of names that stand in both lists one entry is left.
+    // A name in both lists has one entry here.
     all.shrink_to_fit();
     Ok(all)
 }

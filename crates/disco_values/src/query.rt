@@ -1,4 +1,4 @@
-//! What a document is asked for.
+//! Queries: which instances a document is of.
 ghost use Rattle.std.specs.Prelude.{◌≡◌};
 ghost use Rattle.disco_values.specs.Query.{is_delta};
 
@@ -6,7 +6,7 @@ use crate::key::Key;
 use crate::text::Text;
 use std::alloc::AllocError;
 
-/// Which instances a document is of.
+/// A query: which instances a document is of.
 #[derive(Debug, Drop, PartialEq, Eq, PartialOrd, Ord)]
 pub enum Query {
     /// All: Eureka's `GET /apps`.
@@ -15,9 +15,9 @@ pub enum Query {
     Delta,
     /// Those of an app, by its name in upper case: Eureka's `GET /apps/{app}`.
     App(Text),
-    /// Those with a vip among theirs: Eureka's `GET /vips/{vip}`.
+    /// Those with a vip: Eureka's `GET /vips/{vip}`.
     Vip(Text),
-    /// Those with a vip among their secure ones: Eureka's `GET /svips/{svip}`.
+    /// Those with a secure vip: Eureka's `GET /svips/{svip}`.
     Svip(Text),
     /// The one of a key: Eureka's `GET /apps/{app}/{id}`.
     Instance(Key),

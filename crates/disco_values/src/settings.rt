@@ -1,14 +1,14 @@
-//! Limits and choices of a registry, and the number of its run.
+//! Settings of a registry.
 ghost use Rattle.std.specs.Prelude.{◌≡◌, ◌<◌, ◌≤◌, true};
 ghost use Rattle.disco_values.specs.Limits as limits;
 
 use crate::limits::{MOST_ENTRIES, MOST_INSTANCES, MOST_QUEUE, MOST_VERSIONS, RETENTION};
 
-/// Limits and choices of a registry, and the number of its run.
+/// Settings of a registry: its limits, whether it serves deltas, and the number of its run.
 #[derive(Clone, Copy, Debug)]
 pub struct Settings {
-    /// The number of this run of the server, any u64. Whoever starts a server again gives it a greater
-    /// one, since documents and copies are told apart by it.
+    /// The number of this run of the server, any u64. A restart needs a greater one, since it tells
+    /// documents and copies of two runs apart.
     pub run: u64,
     /// How many versions there are at most: 1 to 2^64 - 1.
     pub versions: u64,
@@ -32,8 +32,8 @@ pub struct Settings {
 }
 
 impl Settings {
-    /// What is chosen where nothing is asked for: run 0, as much as may be, recent changes for 180,000
-    /// milliseconds, and deltas.
+    /// The default settings: run 0, the greatest limits, recent changes kept for 180,000 milliseconds,
+    /// and deltas served.
     pub fn standard() -> Settings
         ensures run { result.run ≡ 0 }
         ensures versions { result.versions ≡ limits.most_versions }

@@ -2,7 +2,7 @@
 ghost use Rattle.std.specs.Prelude.{◌≡◌};
 ghost use Rattle.disco_values.specs.Status.{is_same, status_named, status_name};
 
-/// What an instance says of itself, or an operator of it.
+/// The status of an instance, as the instance or an operator sets it.
 #[derive(Clone, Copy, Debug, PartialEq, Eq)]
 pub enum Status {
     Up,
@@ -40,7 +40,7 @@ impl Status {
         }
     }
 
-    /// Whether the two are one status.
+    /// Whether the two are the same status.
     pub fn is(self, other: Status) -> bool
         ensures { result ≡ is_same self other }
     {

@@ -1,4 +1,4 @@
-//! Where the bytes of a text are.
+//! How the bytes of a text are stored.
 ghost use Rattle.std.specs.Prelude.{◌≡◌, IfOk, string_bytes};
 ghost use Rattle.std.specs.Arc.{arc_value};
 ghost use Rattle.disco_values.specs.Storage.{bytes_in};
@@ -7,7 +7,7 @@ use crate::inline_text::InlineText;
 use std::alloc::{AllocError, Global};
 use std::sync::Arc;
 
-/// Where the bytes of a text are.
+/// How the bytes of a text are stored: inline, owned or shared.
 #[derive(Debug, Drop)]
 pub(crate) enum Storage {
     /// In the text itself: most texts are short, and take no memory of their own.
@@ -29,7 +29,7 @@ impl Storage {
         }
     }
 
-    /// The same bytes, in memory that copies share where they take any.
+    /// The same bytes, inline or in memory that copies share.
     pub(crate) fn shared(self, alloc: Global) -> Result<Storage, AllocError>
         ensures { IfOk result (λ s. bytes_in s ≡ bytes_in self) }
     {
@@ -41,7 +41,7 @@ impl Storage {
     }
 }
 
-/// The `String` that copies shared, where this is the last of them, and else another one.
+/// The shared `String` where this is its last share, else a copy of it.
 pub(crate) fn unshared(text: Arc<String, Global>, alloc: Global) -> Result<String, AllocError>
     ensures { IfOk result (λ s. string_bytes s ≡ string_bytes (arc_value text)) }
 {

@@ -19,7 +19,7 @@ use std::marker::Model;
 /// A text. Contracts see it as the list of its bytes.
 #[derive(Debug, Drop)]
 pub struct Text {
-    /// How the text begins, as a number. By it most texts are told apart with no look at their bytes.
+    /// The front of the text. Most comparisons need no other byte.
     front: u64,
     storage: Storage,
 }
@@ -60,7 +60,7 @@ fn in_memory(text: String) -> Text
     }
 }
 
-/// The order of two texts with one front.
+/// The order of two texts with equal fronts.
 #[inline(never)]
 fn order_behind(one: &Text, other: &Text) -> Ordering
     requires { front_of one.now ≡ front_of other.now }
@@ -89,7 +89,7 @@ fn order(one: &Text, other: &Text) -> Ordering
 }
 
 impl Text {
-    /// The text once more. A short one takes no memory, and copies of a longer one share theirs.
+    /// The text of a `&str`. A short one takes no memory, and copies of a longer one share theirs.
     ///
     /// # Errors
     ///

@@ -1,4 +1,4 @@
--- What is written for a value reads back as it.
+-- A written value reads back as itself.
 use Rattle.std.proofs.Common.{◌≡◌, ◌≢◌, ℕ, ◌<◌, ◌≤◌, ◌&&◌, not, ◌==◌, nat_le, length, cond, Bool, true, false, List, [], ◌∷◌, map, codes, Some, None, unwrap_or, refl, ap, arith}
 use Rattle.std.specs.Str.{bytes_eq}
 use Rattle.std.proofs.lemmas.Bool.Decides.{nat_tests}

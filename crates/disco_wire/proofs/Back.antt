@@ -1,4 +1,4 @@
--- A written tree tells what was written.
+-- A written tree means what was written.
 use Rattle.std.proofs.Common.{◌≡◌, ℕ, ◌<◌, ◌^◌, Bool, true, false, ◌&&◌, nat_le, decimal, cond, List, [], codes, Option, Some, None, option_map, option_and_then, unwrap_or, Ok, refl, ap, arith}
 use Rattle.std.specs.Option.{ok_or, option_or}
 use Rattle.disco_instance.specs.declared.lease.Lease.{Lease}

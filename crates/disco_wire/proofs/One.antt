@@ -1,4 +1,4 @@
--- A tree means one thing at most.
+-- A tree has at most one meaning.
 use Rattle.std.proofs.Common.{◌≡◌, List, [], ◌∷◌, get_or, drop, refl, sym, ap, ◌∙◌}
 use Rattle.disco_instance.proofs.SameRow.{same_row}
 use Rattle.disco_wire.specs.declared.wire.Mention.{Mention}

@@ -1,4 +1,4 @@
--- Texts of documents that tell the same.
+-- Texts of documents with the same meaning.
 use Rattle.std.proofs.Common.{◌≡◌, ℕ, List}
 use Rattle.serde_json.specs.Written.{compact_text}
 use Rattle.disco_values.specs.declared.form.Form.{Form}

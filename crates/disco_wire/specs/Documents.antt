@@ -75,8 +75,8 @@ meaning_for q f h base v = record {
 abbrev pub text_for : Query → Form → List Entry → ℕ → ℕ → List ℕ
 text_for q f h base v = compact_text (tree_of f (asked_by q) (told q h base) (hash_of q h) v)
 
--- a text means a document after a history, however it is written: a delta from its base to now; another one of now, or, where it is kept, of an
--- earlier version since which nothing that is asked for has changed
+-- what a text means, however it is written, is a query's document after a history: a delta is from its base to now;
+-- another one is of now or, where it is kept, of an earlier version since which nothing that it asks for has changed
 pub record MeansFor (q : Query) (text : List ℕ) (base version : ℕ) (f : Form) (h : List Entry) : Type 0 where
   pub meaning : document_of text ≡ Ok (meaning_for q f h base version)
   pub there : is_absent (registry_of h) (asked_by q) ≡ false

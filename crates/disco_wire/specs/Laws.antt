@@ -13,15 +13,15 @@ use Rattle.serde_json.specs.Data.{Data}
 use Rattle.disco_wire.specs.Wire.{wire_meaning}
 use Rattle.disco_wire.specs.declared.wire.Wire.{Wire}
 
--- an instance's tree in a form tells its row in that form and its action, whatever stands round it
+-- an instance's tree in a form means its row in that form and its action, whatever surrounds it
 abbrev pub InstanceLaw : Type 0
 InstanceLaw = (f : Form) (e : Entry) (app : Option (List ℕ)) → IsWellFormed e.0 → told_in app (instance_tree f e) ≡ Some (mention_in f (mention_of e) ∷ [])
 
--- a document's tree in a form tells the instances in that form and in their order, the hash code and the version
+-- a document's tree in a form means the instances in that form and in their order, the hash code and the version
 abbrev pub DocumentLaw : Type 0
 DocumentLaw = (f : Form) (es : List Entry) (hash : List ℕ) (version : ℕ) → AreWellFormed es → version < 2 ^ 64
     → meaning_of (document_tree f es hash version) ≡ Some (meant shapes.Many (Some hash) (Some version) (mentions_in f es))
 
--- a tree means one thing at most
+-- a tree has at most one meaning
 abbrev pub OneMeaning : Type 0
 OneMeaning = (d : Data) (v w : Wire) → meaning_of d ≡ Some (wire_meaning v) → meaning_of d ≡ Some (wire_meaning w) → v ≡ w

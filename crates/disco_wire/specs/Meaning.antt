@@ -22,23 +22,23 @@ abbrev pub list_of : Items → List Data
 list_of no_items = []
 list_of (item d ds) = d ∷ list_of ds
 
--- an array, one object, or null, as where nothing stands: what stands there
+-- the items of a member: of an array, of one object, or of null, as of an absent one
 abbrev pub listed_in : Data → Option (List Data)
 listed_in null = Some []
 listed_in (array ds) = Some (list_of ds)
 listed_in (object ms) = Some (object ms ∷ [])
 listed_in _ = None
 
--- what all of them tell, in order; nothing where one tells nothing
+-- the mentions of all items, in order; nothing where one item means nothing
 abbrev pub all_told : (Data → Option (List Mention)) → List Data → Option (List Mention)
 all_told f [] = Some []
 all_told f (d ∷ ds) = option_and_then (λ ms. option_map (λ rest. ms ++ rest) (all_told f ds)) (f d)
 
--- an instance with an id and an app, which may be that of the application round it
+-- the mention of an instance with an id and an app, which may be that of the enclosing application
 unfoldable pub told_in : Option (List ℕ) → Data → Option (List Mention)
 told_in app d = option_map (λ r. (r, action_at d) ∷ []) (result_ok (told_by app d))
 
--- an application
+-- the mentions of an application
 abbrev pub told_app : Data → Option (List Mention)
 told_app d = option_and_then (all_told (told_in (text_at (codes "name") d))) (listed_in (inner_at (codes "instance") d))
 
@@ -48,7 +48,7 @@ told_apps d = option_and_then (all_told (λ a. option_and_then told_app (as_tree
 abbrev pub meant : Shape → Option (List ℕ) → Option ℕ → List Mention → Meaning
 meant shape hash version ms = record { shape = shape; mentions = ms; hash = hash; version = version }
 
--- by the first of the three members that is an object
+-- the meaning of a tree, by the first of the three members that is an object
 unfoldable pub meaning_of : Data → Option Meaning
 meaning_of d = option_map_or (λ a. option_map (meant shapes.Many (text_at (codes "apps__hashcode") a)
     (option_and_then as_whole (member_at (codes "versions__delta") a))) (told_apps a)) (object_at (codes "applications") d) (

@@ -1,4 +1,4 @@
--- What was read, as plain data.
+-- A document that was read, as plain data.
 use Rattle.std.specs.Prelude.{List, map}
 use Rattle.disco_instance.specs.Mention.{Mention}
 use Rattle.disco_instance.specs.Row.{row}

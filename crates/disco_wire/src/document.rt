@@ -1,4 +1,4 @@
-//! Reading a document.
+//! Reads documents.
 ghost use Rattle.std.specs.Prelude.{◌≡◌, [], codes, is_some, map, option_map, option_and_then, unwrap_or, IfOk, Err, None, Some};
 ghost use Rattle.std.specs.Option.{ok_or, option_copied};
 ghost use Rattle.disco_wire.specs.declared.wire.Shape.TheVariants.{App, Many, One};

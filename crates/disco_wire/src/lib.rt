@@ -1,7 +1,7 @@
-//! Documents and registrations as they are read, and what a document is: what its JSON tree means, and
-//! when it is true.
+//! Reads documents and registrations, and defines what the JSON tree of a document means and when a
+//! document is true.
 //!
-//! What a document means is a function of its JSON tree alone, so it knows nothing of who wrote it.
+//! What a document means is a function of its JSON tree alone, whoever wrote it.
 #![tactic(auto)]
 
 mod document;

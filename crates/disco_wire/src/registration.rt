@@ -1,4 +1,4 @@
-//! Reading a registration.
+//! Reads registrations.
 ghost use Rattle.std.specs.Prelude.{◌≡◌, Err, None, codes, is_some};
 ghost use Rattle.std.specs.Option.{option_map_or};
 ghost use Rattle.serde_json.specs.View.{view};

@@ -13,7 +13,7 @@ pub enum Shape {
     One,
 }
 
-/// An instance in a document, and what was done to it where that is said.
+/// An instance in a document, with its action if one is named.
 #[derive(Debug, Drop)]
 pub struct Mention {
     pub rec: Record,

@@ -1,4 +1,4 @@
--- Certified clients that are given documents: a copy that is exact stays so, and does not fall.
+-- Certified clients that are given documents: a copy that is exact stays so, and its version doesn't decrease.
 use Rattle.std.proofs.Common.{◌≡◌, ◌≤◌, ◌&&◌, Bool, true, false, cond, not, Option, Some, None, option_map, Result, Ok, Err, refl, sym, ap, subst, ◌∙◌, arith}
 use Rattle.std.proofs.lemmas.Option.{same_Some}
 use Rattle.std.specs.Option.{option_map_or}

@@ -19,8 +19,9 @@ use Rattle.disco_world.specs.declared.event.Event.{Event}
 use Rattle.disco_world.specs.declared.event.Reply.{Reply}
 use Rattle.disco_world.specs.declared.event.Reply.TheVariants as replied
 
--- what was kept and copied before each event and after the last one: nothing at first; each reply may be given between what there was before its event
--- and what there is after it, so no event that is answered can't be run; and what was noted is in step with the rounds
+-- what was kept and copied before each event and after the last one: nothing at first; each reply may be given between
+-- what there was before its event and what there is after it, so each answered event can be run; and what was noted is
+-- in step with the rounds
 pub record AreAnswers (most : ℕ) (rules : Rules) (run : ℕ) (events : List Event) (replies : List Reply) : Type 0 where
   pub caches : ℕ → Cache
   pub first : caches 0 ≡ new_cache most
@@ -47,7 +48,8 @@ abbrev pub AreExact : Rules → ℕ → List Event → List Reply → Type 0
 AreExact rules run events replies = (i : ℕ) (client : ℕ) (k : CertifiedCopy) → let w = world rules run events replies i in w.certified client ≡ Some k
     → IsVersionIn (history_of w k.known.run) k.known k.copy
 
--- from one event to the next no certified client's copy goes, and while its run stays its version doesn't fall
+-- from one event to the next no certified client loses its copy, and while the copy's run stays its version doesn't
+-- decrease
 abbrev pub NeverFall : Rules → ℕ → List Event → List Reply → Type 0
 NeverFall rules run events replies = (i : ℕ) (client : ℕ) (k : CertifiedCopy) → (world rules run events replies i).certified client ≡ Some k
     → (l : CertifiedCopy) × ((world rules run events replies (i + 1)).certified client ≡ Some l)

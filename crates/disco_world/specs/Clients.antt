@@ -31,7 +31,8 @@ known_by d held = if is_delta d.key.query then option_and_then (λ c. moved c.kn
 abbrev pub client_after : Payload → Option Client → Option Client
 client_after d held = option_map_or (λ s. Some (record { copy = s; known = known_by d held })) (rows_by d (option_map (λ c. c.copy) held)) held
 
--- what is told of a client that took a document: whether the hash codes are equal, and the version at which the copy is known
+-- the reply to a document for a plain client: whether the hash codes are equal, and the version at which the copy is
+-- known
 abbrev pub IsTakenReply : Payload → Option Client → Bool → Option ℕ → Type 0
 IsTakenReply d now equal version = (m : Meaning) × (c : Client) × (document_of d.text ≡ Ok m) × (now ≡ Some c) × (equal ≡ hash_equal m.hash c.copy)
     × (version ≡ option_map (λ at. at.version) c.known)
@@ -46,7 +47,7 @@ abbrev pub given : Payload → Option CertifiedCopy → Option CertifiedCopy
 given d held = option_map_or (λ s. if takes_it d held then Some (record { copy = s; known = known_at d.key.form (cert_of d) }) else held)
     (rows_by d (option_map (λ k. k.copy) held)) held
 
--- what is told of a certified client that was given a document: whether it was taken, and the run and the version of the copy then
+-- the reply to a document for a certified client: whether it was taken, and the run and the version of the copy then
 abbrev pub IsGiven : Payload → Option CertifiedCopy → Bool → ℕ → ℕ → Type 0
 IsGiven d held taken run version = (k : CertifiedCopy) × (given d held ≡ Some k) × (taken ≡ takes_it d held) × (run ≡ k.known.run)
     × (version ≡ k.known.version)

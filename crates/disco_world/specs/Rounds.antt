@@ -1,4 +1,4 @@
--- What was noted and published for readers, as events and their replies tell it (this project's own rule).
+-- What was noted and published for readers, by events and their replies (this project's own rule).
 use Rattle.std.specs.Prelude.{ℕ, List, [], ◌++◌, Option, option_and_then}
 use Rattle.std.specs.FinMap.{get}
 use Rattle.disco_values.specs.declared.doc_key.DocKey.{DocKey}

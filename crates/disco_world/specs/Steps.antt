@@ -80,16 +80,16 @@ abbrev pub certified_after : (ℕ → Option CertifiedCopy) → Effect → Reply
 certified_after clients (certifies client d) (Certified taken run version) = with_one clients client (given d (clients client))
 certified_after clients _ _ = clients
 
--- the changes that there are more
+-- the changes that the second past has behind the first
 abbrev pub changes_since : Past → Past → List Entry
 changes_since p q = drop (length (history p)) (history q)
 
--- it begins no run
+-- the effect begins no run
 abbrev pub goes_on : Effect → Reply → Bool
 goes_on (restarts run) (Restarted r) = false
 goes_on _ _ = true
 
--- it is no step of a round and no restart, so that of readers nothing but changes is noted
+-- the effect is no step of a round and no restart, so that only changes are noted
 abbrev pub is_plain : Effect → Reply → Bool
 is_plain begins (Begun n) = false
 is_plain copies (replied.Copied c) = false
@@ -97,7 +97,7 @@ is_plain publishes (Published n) = false
 is_plain (restarts run) (Restarted r) = false
 is_plain _ _ = true
 
--- it leaves the registry, whatever it answers
+-- the effect leaves the registry as it is, whatever the reply
 abbrev pub only_asks : Effect → Bool
 only_asks (looks key) = true
 only_asks (takes client d) = true
@@ -130,7 +130,7 @@ ClientTakes old new client d (Ok told) = IsTakenReply d (client_after d (old cli
     × ((q : ℕ) → new q ≡ with_one old client (client_after d (old client)) q)
 ClientTakes old new client d (Err e) = (e ≢ OutOfMemory → (e ≡ NotFetched) × (client_after d (old client) ≡ None)) × ((q : ℕ) → new q ≡ old q)
 
--- a copy is given a document: so it is then, and so is told
+-- a copy is given a document: what it is then, and whether it took it
 pub record IsTurned (d : Payload) (old new : CertifiedCopy) (taken : Bool) : Type 0 where
   pub now : given d (Some old) ≡ Some new
   pub taken_is : taken ≡ takes_it d (Some old)

@@ -16,8 +16,8 @@ use disco_values::Fault;
 use disco_wire::{Wire, read_document};
 use std::alloc::Global;
 
-/// What is told of a certified client that was given a document: whether it was taken, and where the
-/// copy is known then.
+/// The result of a document for a certified client: whether it was taken, and where the copy is known
+/// then.
 pub(crate) type Given = (bool, Known);
 
 /// Reads a document of many apps. Refused only as `OutOfMemory`.
@@ -29,7 +29,8 @@ fn read(alloc: Global, payload: &Payload) -> Result<Wire, Fault>
     read_document(alloc, payload.text.as_slice())
 }
 
-/// A document of all apps becomes a copy, unless the copy doesn't give way. It is read only then.
+/// Replaces a copy by a document of all apps, if the copy gives way to it. Only then is the document
+/// read.
 fn renew(alloc: Global, held: &mut CertifiedCopy, payload: &Payload) -> Result<bool, Fault>
     requires readable { IsReadable payload.now }
     requires full { is_delta payload.now.key.query ≡ false }
@@ -52,8 +53,8 @@ fn is_next(known: Known, payload: &Payload) -> bool
     known.is_in(payload.key.form) && known.is_reached(payload.cert())
 }
 
-/// A delta is overlaid on a copy of its form that it reaches, whatever its hash code. It is read only
-/// then.
+/// Overlays a delta on a copy of its form that it reaches, whatever its hash code. Only then is the
+/// delta read.
 fn follow(alloc: Global, held: &mut CertifiedCopy, payload: &Payload) -> Result<bool, Fault>
     requires readable { IsReadable payload.now }
     requires delta { is_delta payload.now.key.query ≡ true }
@@ -68,7 +69,7 @@ fn follow(alloc: Global, held: &mut CertifiedCopy, payload: &Payload) -> Result<
     held.follow(wire, payload.key.form, payload.cert())
 }
 
-/// A copy is given a document. Says whether it was taken.
+/// Gives a copy a document. Answers whether it was taken.
 fn turn(alloc: Global, held: &mut CertifiedCopy, payload: &Payload) -> Result<bool, Fault>
     requires { IsReadable payload.now }
     ensures turned { IfOk result (IsTurned payload.now held.old held.new) }
@@ -82,7 +83,7 @@ fn turn(alloc: Global, held: &mut CertifiedCopy, payload: &Payload) -> Result<bo
     }
 }
 
-/// A client without a copy is given a document.
+/// Gives a document to a client without a copy.
 fn begin(
     alloc: Global,
     clients: &mut CertifiedClients,
@@ -103,8 +104,8 @@ fn begin(
     Ok((true, known))
 }
 
-/// A certified client is given a document, of all apps or a delta. Refused as `NotFetched` exactly for
-/// a delta where the client has no copy, and as `OutOfMemory`; each copy is then as before.
+/// Gives a certified client a document, of all apps or a delta. Refused as `NotFetched` exactly for a
+/// delta where the client has no copy, and as `OutOfMemory`; each copy is then as before.
 pub(crate) fn give(
     alloc: Global,
     clients: &mut CertifiedClients,

@@ -29,7 +29,7 @@ pub(crate) struct Client {
 /// The plain clients that have a copy, by their numbers.
 pub(crate) type PlainClients = BTreeMap<u32, Client>;
 
-/// The certified ones.
+/// The certified clients that have a copy, by their numbers.
 pub(crate) type CertifiedClients = BTreeMap<u32, CertifiedCopy>;
 
 /// The clients that have a copy. Plain and certified ones are numbered apart.
@@ -52,8 +52,8 @@ impl Clients {
     }
 }
 
-/// What is told of a client that took a document: whether the hash codes are equal, and the version
-/// at which the copy is known.
+/// The result of a document for a plain client: whether the hash codes are equal, and the version at
+/// which the copy is known.
 pub(crate) type Told = (bool, Option<u64>);
 
 fn version_of(known: Option<Known>) -> Option<u64>
@@ -75,7 +75,7 @@ fn has_hash(copy: &Copy, hash: &Option<Text>) -> bool
     }
 }
 
-/// A client's copy becomes a document of all apps.
+/// Replaces a client's copy by a document of all apps.
 fn replace(
     alloc: Global,
     clients: &mut PlainClients,
@@ -110,7 +110,7 @@ fn replace(
     Ok((equal, Some(payload.version)))
 }
 
-/// A delta is overlaid on a client's copy.
+/// Overlays a delta on a client's copy.
 fn overlay(
     clients: &mut PlainClients,
     client: u32,
@@ -129,7 +129,7 @@ fn overlay(
     Ok((overlaid.hash_equal, version_of(held.known)))
 }
 
-/// A plain client takes a document, of all apps or a delta. Refused as `NotFetched` exactly for a delta
+/// Gives a plain client a document, of all apps or a delta. Refused as `NotFetched` exactly for a delta
 /// where the client has no copy, and as `OutOfMemory`; each copy is then as before.
 pub(crate) fn take(
     alloc: Global,

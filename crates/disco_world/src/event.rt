@@ -10,18 +10,18 @@ use std::sync::Arc;
 /// What happens to a registry, or to a client of it.
 #[derive(Debug, Drop)]
 pub enum Event {
-    /// One that looks at no earlier reply.
+    /// An event that needs no earlier reply.
     Step(Step),
     /// A client is given the document that an earlier event answered, by the number of that event
     /// from 1: one of all apps, or a delta.
     Take { client: u32, event: u64 },
     /// A certified client is given the document that an earlier event answered, by the number of that
-    /// event from 1: one of all apps, or a delta. It takes it as its certificate tells. Certified
-    /// clients are numbered apart from the plain ones.
+    /// event from 1: one of all apps, or a delta. It takes it by its certificate. Certified clients are
+    /// numbered apart from the plain ones.
     Certify { client: u32, event: u64 },
 }
 
-/// An event that looks at no earlier reply. Moments are in milliseconds.
+/// An event that needs no earlier reply. Moments are in milliseconds.
 #[derive(Debug, Drop)]
 pub enum Step {
     /// A registration under an app's name, with the JSON of its body.

@@ -1,10 +1,10 @@
-//! What is shown of a client's copy.
+//! Summaries of the instances of a client's copy.
 ghost use Rattle.std.specs.Prelude.{◌≡◌};
 
 use disco_values::{Key, Status};
 use std::marker::Model;
 
-/// An instance of a client's copy.
+/// The key and the status of an instance of a client's copy.
 #[derive(Debug, Drop)]
 pub struct InstanceSummary {
     pub key: Key,
@@ -27,12 +27,14 @@ impl Model for InstanceSummaries {
 }
 
 impl InstanceSummaries {
+    /// The summaries of a `Vec`.
     pub fn from_vec(listed: Vec<InstanceSummary>) -> InstanceSummaries
         ensures { result ≡ listed.items }
     {
         InstanceSummaries { listed }
     }
 
+    /// The summaries as a slice.
     pub fn as_slice(&self) -> &[InstanceSummary]
         ensures { result.now ≡ self.now }
     {

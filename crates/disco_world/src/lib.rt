@@ -1,9 +1,9 @@
-//! A world of one registry: lists of events, and what each answers.
+//! Runs lists of events over one registry, and answers each event.
 //!
-//! [`run`] is the library's main theorem for a list of events: every served document is the
-//! registry at one version, restricted to what was asked for. For a load it is that of the moment,
-//! for a look one since the last published round began. A certified client's copy is exactly the
-//! registry of a run at a version.
+//! The contract of [`run`] is the library's main theorem: every served document is the registry at one
+//! version, restricted to what was asked for. For a load it is that of the moment, for a look one since
+//! the last published round began. A certified client's copy is exactly the registry of a run at a
+//! version.
 #![tactic(auto)]
 
 mod asks;

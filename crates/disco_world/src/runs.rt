@@ -89,8 +89,7 @@ fn run_all(
     Ok(replies)
 }
 
-/// Answers one event, of which the earlier ones were answered so. Nothing is answered to what can't
-/// be run.
+/// Answers one event, by the replies to the earlier ones. None where the event can't be run.
 fn answer(
     alloc: Global,
     settings: &Settings,
@@ -120,7 +119,7 @@ fn answer(
     }
 }
 
-/// Answers one event that looks at no earlier reply.
+/// Answers one event that needs no earlier reply.
 fn answer_step(
     alloc: Global,
     settings: &Settings,
@@ -294,7 +293,7 @@ fn perform(hub: &mut Hub, now: u64, op: Op) -> Reply
     written(applied, hub.version())
 }
 
-/// The reply to a write, after which the registry has this version.
+/// The reply to an operation, after which the registry has this version.
 fn written(applied: Result<Applied, Fault>, version: u64) -> Reply
     ensures { result ≡ reply_to applied version }
 {

@@ -1,4 +1,4 @@
--- The texts that are gone through are those of their keys.
+-- A walk meets the texts of their keys.
 use Rattle.std.proofs.Common.{◌≡◌, List, [], ◌∷◌, map, Some, sym, ap, ◌∙◌}
 use Rattle.std.proofs.lemmas.List.Elements.{All-from_recursion}
 use Rattle.std.specs.List.{AllByRecursion}

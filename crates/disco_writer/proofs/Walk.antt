@@ -1,4 +1,4 @@
--- What is kept of all instances, in the order of their keys, is the texts of what is held.
+-- The kept texts, in the order of their keys, are those of the held instances.
 use Rattle.std.proofs.Common.{◌≡◌, ℕ, ◌&&◌, Bool, true, false, cond, T, List, [], ◌∷◌, map, Option, Some, None, option_map, refl, sym, ap, subst, ◌∙◌}
 use Rattle.std.specs.List.{cons_option}
 use Rattle.std.specs.Ordering.{is_lt}

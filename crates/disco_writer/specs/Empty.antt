@@ -1,4 +1,4 @@
--- Which places of kept texts may stand empty. Nothing here is to be believed: it is the invariant of a type.
+-- Which places of kept texts may be empty. Nothing here is to be believed: it is the invariant of a type.
 use Rattle.std.specs.Prelude.{◌≡◌, ℕ, false, List, Option, Some, None}
 use Rattle.std.specs.FinMap.{get}
 use Rattle.std.specs.Option.{option_flatten}
@@ -24,6 +24,6 @@ ShowSame old new = (q : Key) → option_flatten (get new q) ≡ option_flatten (
 abbrev pub OpensOnly : Key → Places → Places → Type 0
 OpensOnly k old new = (q : Key) → same_key q k ≡ false → get new q ≡ Some None → get old q ≡ Some None
 
--- the place of the key doesn't stand empty, and no other was made
+-- the place of the key isn't empty, and no other was made
 abbrev pub SweepsAt : Key → Places → Places → Type 0
 SweepsAt k old new = (q : Key) → get new q ≡ Some None → (same_key q k ≡ false) × (get old q ≡ Some None)

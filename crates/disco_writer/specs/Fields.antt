@@ -33,7 +33,7 @@ metadata_members es = in_order (entry_fields es)
 
 -- ---- groups of both forms
 
--- what was done, where it is said
+-- the action, if one is named
 abbrev pub done_fields : Option Action → Fields
 done_fields None = []
 done_fields (Some a) = (codes "actionType", string (action_name a)) ∷ []

@@ -66,7 +66,7 @@ abbrev pub group_part : Group → Row → Option Action → List ℕ
 group_part group.Names r o = 123 ∷ group_text (group_fields group.Names r o)
 group_part k r o = behind_comma (group_fields k r o)
 
--- the beginning of the text: what was done, where it is said, and the name of the app
+-- the beginning of the text: the action, if one is named, and the name of the app
 abbrev pub done_text : Option Action → List ℕ
 done_text None = codes "{\"app\":"
 done_text (Some a) = codes "{\"actionType\":" ++ quoted (action_name a) ++ codes ",\"app\":"

@@ -16,6 +16,6 @@ keyed_text e = (record { app = e.0.now; id = e.1.now }, e.2.now)
 abbrev pub AreTheirs : StoredTexts → List KeyedText → Type 0
 AreTheirs v es = All (λ e. kept_text_at v (record { app = e.0.now; id = e.1.now }) ≡ Some e.2.now) es
 
--- the texts of an app's places that don't stand empty, with their keys
+-- the texts of an app's places that aren't empty, with their keys
 abbrev pub keyed_ids : List ℕ → List (List ℕ × Option (List ℕ)) → List (Key × List ℕ)
 keyed_ids app es = filter_map (λ e. option_map (λ t. (record { app = app; id = e.0 }, t)) e.1) es

@@ -45,7 +45,7 @@ AreTextsOf f (p ∷ ps) (e ∷ es) = (p.0 ≡ e.0.key.app) × IsTextOf f p.1 (me
 
 -- ---- kept texts, and texts that are made
 
--- the apps and the texts of places that don't stand empty
+-- the apps and the texts of places that aren't empty
 abbrev pub walked : List (Key × Option (List ℕ)) → List Shown
 walked es = filter_map (λ e. option_map (λ t. (e.0.app, t)) e.1) es
 
@@ -53,7 +53,7 @@ walked es = filter_map (λ e. option_map (λ t. (e.0.app, t)) e.1) es
 abbrev pub walked_ids : List ℕ → List (List ℕ × Option (List ℕ)) → List Shown
 walked_ids app es = filter_map (λ e. option_map (λ t. (app, t)) e.1) es
 
--- of an instance, of which that text is kept, or none: the kept one or, where none is, the one that is made
+-- the text of an instance: the kept one or, where none is kept, the one that is made
 abbrev pub told_text : Form → Option (List ℕ) → Entry → List ℕ
 told_text f kept e = unwrap_or kept (text_of_entry f e)
 
@@ -68,14 +68,14 @@ told_one f v e = told_by f (kept_text_at v (key_of e)) e
 abbrev pub texts_by : Form → StoredTexts → List Entry → List Shown
 texts_by f v es = map (told_one f v) es
 
--- a text that is kept of the instance is its text
+-- if a text of the instance is kept, it is its text
 abbrev pub Agrees : Form → StoredTexts → Entry → Type 0
 Agrees f v e = IfSome (kept_text_at v (key_of e)) (λ t. IsTextOf f t (mention_of e))
 
 abbrev pub AllAgree : Form → StoredTexts → List Entry → Type 0
 AllAgree f v es = AllByRecursion (Agrees f v) es
 
--- where the kept one is its text, what is told is
+-- if the kept text is the instance's, so is the text that is taken
 abbrev pub IsToldText : Form → Option (List ℕ) → Entry → Type 0
 IsToldText f kept e = IfSome kept (λ t. IsTextOf f t (mention_of e)) → IsTextOf f (told_text f kept e) (mention_of e)
 

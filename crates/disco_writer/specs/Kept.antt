@@ -20,7 +20,7 @@ abbrev pub but_first : Data → Data
 but_first (object (member name d ms)) = object ms
 but_first d = d
 
--- the tree of a mention in a form: that of its instance, whose first member says what was done, where that is said
+-- the tree of a mention in a form: that of its instance, whose first member is the action, if one is named
 abbrev pub mention_tree : Form → Mention → Data
 mention_tree f (r, Some a) = instance_tree f (r, a)
 mention_tree f (r, None) = but_first (instance_tree f (r, Added))
@@ -54,7 +54,7 @@ kept_text_at v k = option_flatten (get v.places k)
 abbrev pub IsSameTexts : StoredTexts → StoredTexts → Type 0
 IsSameTexts old new = (q : Key) → kept_text_at new q ≡ kept_text_at old q
 
--- no place stands empty
+-- no place is empty
 abbrev pub HasNoEmpty : Places → Type 0
 HasNoEmpty p = (q : Key) → get p q ≡ Some None → ⊥
 

@@ -1,4 +1,4 @@
--- Whose text is put next. Nothing here need be believed.
+-- The instance whose text is put next. Nothing here need be believed.
 use Rattle.std.specs.Prelude.{ℕ, List, Option, option_map}
 use Rattle.disco_values.specs.declared.key.Key.{Key}
 use Rattle.disco_writer.specs.declared.named.Named.{Named}

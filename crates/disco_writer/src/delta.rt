@@ -1,4 +1,4 @@
-//! The document of recent changes.
+//! Writes the delta, the document of recent changes.
 ghost use Rattle.std.specs.Prelude.{◌≡◌, List, IfOk, IfErr, Some, map, option_map};
 ghost use Rattle.disco_values.specs.declared.fault.Fault.TheVariants.{OutOfMemory};
 ghost use Rattle.disco_history.specs.Change.{change_view, key_of};
@@ -24,7 +24,7 @@ use disco_registry::Registry;
 use disco_values::{Action, Fault, Form, Text};
 use std::alloc::Global;
 
-/// The piece of a change of an instance of an app, of which that text is kept, or none.
+/// The piece of a changed instance, with its kept text or, where none is kept, one that is made.
 fn piece_by<'t>(
     alloc: Global,
     form: Form,
@@ -46,7 +46,7 @@ fn piece_by<'t>(
     }
 }
 
-/// The piece of a change of a key, whose text is sought.
+/// The piece of a change of a key. Searches for the kept text.
 fn piece_sought<'t>(
     alloc: Global,
     form: Form,
@@ -87,8 +87,8 @@ pub(crate) fn pieces_by<'t>(
     Ok(list)
 }
 
-/// The document in a form of the last change of each key that the queue keeps, with the hash code of all
-/// records. Kept texts are taken, and those of instances that went are made. Refused only as
+/// The document in a form of the last change of each key that the queue keeps, with the hash code of
+/// all records. It takes kept texts, and makes those of instances that are gone. Refused only as
 /// `OutOfMemory`.
 pub(crate) fn write_delta(
     room: Vec<u8>,

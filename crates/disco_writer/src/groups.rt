@@ -17,7 +17,7 @@ use std::alloc::AllocError;
 /// Members that stand next to each other, in the order of the text.
 #[derive(Clone, Copy)]
 pub(crate) enum Group {
-    /// What was done, where it is said, and the app.
+    /// The action, if one is named, and the app.
     Names,
     /// Of the full form alone.
     Country,
@@ -36,7 +36,7 @@ pub(crate) enum Group {
     Vip,
 }
 
-/// What was done, where it is said, up to the name of the app.
+/// Puts the action, if one is named, up to the name of the app.
 fn put_done(out: &mut TextBuffer, action: Option<Action>) -> Result<(), AllocError>
     ensures { OnOk result (AppendsUtf8 out.old out.new (done_text action)) }
 {

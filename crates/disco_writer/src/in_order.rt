@@ -1,7 +1,7 @@
-//! Texts that are sought one after another, in the order of their keys.
+//! Finds the texts of many keys, in the order of the keys.
 //!
-//! Where many are sought, all texts are gone through beside the keys, and none is searched for. Keys
-//! in another order are found too, by searches.
+//! For many keys it walks all texts beside the keys, and searches for none. It also finds keys in
+//! another order, by searches.
 ghost use Rattle.std.specs.Prelude.{◌≡◌, IfOk, IfSome, Some, option_map};
 ghost use Rattle.disco_writer.specs.InOrder.{AreTheirs};
 ghost use Rattle.disco_writer.specs.Kept.{StoredTexts, kept_text_at};
@@ -14,10 +14,10 @@ use std::cmp::Ordering;
 /// A text, with the app and the id of its instance before it.
 pub(crate) type KeyedText<'t> = (&'t Text, &'t Text, &'t [u8]);
 
-/// Of this many texts at least one is sought where all are gone through.
+/// All texts are walked where at least one of so many is wanted.
 const FEW: usize = 4;
 
-/// All texts with their keys, where so many are sought that they are gone through, and else none.
+/// All texts with their keys where so many are wanted that all are walked, else none.
 pub(crate) fn texts_beside(
     alloc: Global,
     texts: &Texts,
@@ -58,7 +58,8 @@ fn text_here<'t>(entries: &[KeyedText<'t>], at: usize, app: &Text, id: &Text) ->
     }
 }
 
-/// The text of the key of this app and this id, if there is one: beside it, where the place `at` goes on to, or by a search.
+/// The text of the key of this app and this id, if there is one. Walks on from place `at`, and searches
+/// where the walk doesn't meet the key.
 pub(crate) fn text_from<'t>(
     texts: &'t Texts,
     entries: &[KeyedText<'t>],

@@ -20,7 +20,7 @@ const USUAL_FULL: usize = 1024;
 /// How many bytes are asked for a text in the compact form at first.
 const USUAL_COMPACT: usize = 512;
 
-/// The texts of an instance in both forms, as far as they are written. What stands in both is
+/// The texts of an instance in both forms, as far as they are written. Members of both forms are
 /// written once and copied.
 #[derive(Drop)]
 struct Both {
@@ -54,7 +54,7 @@ impl Both {
         self.compact.push(&self.full.as_slice()[start..])
     }
 
-    /// With their ends.
+    /// Both texts with their ends.
     fn ended(self) -> Result<(Vec<u8>, Vec<u8>), AllocError>
         ensures full { IfOk result (λ t. t.0.items ≡ self.full ++ 125 ∷ []) }
         ensures compact { IfOk result (λ t. t.1.items ≡ self.compact ++ 125 ∷ []) }
@@ -99,8 +99,8 @@ fn add_back(texts: &mut Both, rec: &Record, action: Option<Action>) -> Result<()
     Ok(())
 }
 
-/// The texts of an instance in the full and in the compact form, as compact JSON, with what was done
-/// to it where that is said.
+/// The texts of an instance in the full and in the compact form, as compact JSON, with its action if
+/// one is named.
 ///
 /// # Errors
 ///

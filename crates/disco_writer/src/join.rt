@@ -20,7 +20,7 @@ use disco_values::Text;
 use serde_json::Value;
 use std::alloc::{AllocError, Global};
 
-/// Room for what stands round the texts of an app, beside its name.
+/// Room for the text around the instances of an app, beside its name.
 const ROUND: usize = 64;
 
 fn push(out: &mut Vec<u8>, text: &[u8]) -> Result<(), AllocError>
@@ -168,8 +168,8 @@ fn push_many_close(
     push_str(out, "}}")
 }
 
-/// How many bytes are asked for a document of these texts, with a name of so many: no document needs
-/// more, so it is asked for once. An escaped byte of a name takes 6. Nothing rests on it.
+/// How many bytes to ask for, once, for a document of these texts with this name. No document needs
+/// more: an escaped byte of a name takes 6. No contract depends on it.
 pub(crate) fn room_of(pieces: &[Piece<'_>], name: &Text) -> usize {
     let mut bytes = around(name).saturating_add(4 * ROUND);
     let mut last: Option<&Text> = None;
@@ -194,7 +194,7 @@ fn with_room(mut room: Vec<u8>, pieces: &[Piece<'_>], name: &Text) -> Result<Vec
     Ok(room)
 }
 
-/// How many bytes stand round the texts of an app.
+/// How many bytes there are around the texts of an app.
 fn around(name: &Text) -> usize {
     name.as_str().len().saturating_mul(6).saturating_add(ROUND)
 }

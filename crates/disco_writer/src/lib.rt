@@ -1,4 +1,4 @@
-//! Documents as they are written.
+//! Writes the documents that queries ask for.
 //!
 //! A written document is the compact text of a JSON tree, and means what its definition says. It is
 //! joined from the texts of its instances, which are kept.

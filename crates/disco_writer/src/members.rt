@@ -107,7 +107,7 @@ pub(crate) fn put_digits(out: &mut TextBuffer, lead: &str, number: u64) -> Resul
     push_plain(out, digits.format(number))
 }
 
-/// What parts an entry from one before it.
+/// The separator in front of an entry.
 fn comma(later: bool) -> &'static str
     ensures { result.now ≡ (if later then codes "," else []) }
 {

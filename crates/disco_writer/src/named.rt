@@ -1,4 +1,4 @@
-//! Whose text is put next.
+//! The instance whose text is put next.
 ghost use Rattle.std.specs.Prelude.{◌≡◌};
 ghost use Rattle.disco_writer.specs.Named.{named_key};
 

@@ -1,4 +1,4 @@
-//! What a document is joined of: the texts of its instances.
+//! The pieces of which a document is joined: the texts of its instances.
 ghost use Rattle.std.specs.Prelude.{◌≡◌, IfErr, IfOk, None};
 ghost use Rattle.disco_values.specs.declared.fault.Fault.TheVariants.{OutOfMemory};
 ghost use Rattle.disco_instance.specs.Row.{row};

@@ -1,4 +1,4 @@
-//! The texts in places by key, some of which may stand empty.
+//! The texts by key, in places that may be empty.
 ghost use Rattle.std.specs.Prelude.{◌≡◌, ◌++◌, IfOk, IsSome, None, OnErr, OnOk, Some, map, option_map, true};
 ghost use Rattle.std.specs.FinMap as finmap;
 ghost use Rattle.std.specs.Option.{option_flatten};
@@ -130,7 +130,7 @@ pub(crate) fn make(places: &mut Places<Bytes>, key: &Key) -> Result<(), AllocErr
     places.make(key)
 }
 
-/// The same, but without a search where it is known that there is one.
+/// As `make`, but without a search where it is known that there is one.
 pub(crate) fn make_unless(
     places: &mut Places<Bytes>,
     key: &Key,
@@ -148,7 +148,7 @@ pub(crate) fn make_unless(
     make(places, key)
 }
 
-/// Takes the place of a key out if it is empty.
+/// Removes the place of a key if it is empty.
 pub(crate) fn sweep(places: &mut Places<Bytes>, key: &Key)
     ensures same { ShowSame places.old places.new }
     ensures swept { SweepsAt key.now places.old places.new }
@@ -158,7 +158,7 @@ pub(crate) fn sweep(places: &mut Places<Bytes>, key: &Key)
     }
 }
 
-/// Puts a text into the place of what is named, where it has one.
+/// Puts a text into the place of an instance, where it has one.
 pub(crate) fn put_named(places: &mut Places<Bytes>, named: Named, text: Bytes)
     ensures there { IsSome (finmap.get places.old (named_key named)) → places.new ≡ finmap.insert places.old (named_key named) (Some text) }
     ensures none { finmap.get places.old (named_key named) ≡ None → places.new ≡ places.old }

@@ -1,5 +1,5 @@
-//! Whether a text stands in JSON as it is. Most texts have 4 to 32 bytes, and two loads that overlap
-//! see all of one.
+//! Whether a text needs no escape in JSON. Most texts have 4 to 32 bytes, and two overlapping loads see
+//! all of one.
 ghost use Rattle.std.specs.Prelude.{◌≡◌, ◌+◌, ◌<◌, ◌≤◌, length};
 ghost use Rattle.std.specs.Bool.{OnTrue};
 ghost use Rattle.json.specs.Print.{escape};

@@ -13,12 +13,12 @@ use disco_registry::Registry;
 use disco_values::{Form, Query, Text};
 use std::alloc::{AllocError, Global};
 
-/// How many instances a document names at least for room to be made before it is written. What fewer
-/// take, the host gives soon enough.
+/// For so many instances or more, room is made before the document is written. For fewer the host gives
+/// memory soon enough.
 const MANY: usize = 1_000;
 
-/// How many bytes a document takes, of the instances that there are now. Nothing rests on it: a
-/// document that takes more by the time that it is written is given more then.
+/// How many bytes a document of the present instances takes. It is a hint: a document that takes more
+/// when it is written gets more then.
 #[derive(Clone, Copy, Debug)]
 pub struct Room {
     alloc: Global,
@@ -26,7 +26,7 @@ pub struct Room {
 }
 
 impl Room {
-    /// The room, empty. Each byte of it was written to, so the host has given its memory.
+    /// Makes the room, which is empty. It writes to each byte, so the host has to give the memory.
     ///
     /// # Errors
     ///
@@ -79,8 +79,8 @@ fn room_of_delta(alloc: Global, form: Form, queue: &ChangedQueue, texts: &Texts)
     Some(room_of_pieces(alloc, pieces.as_slice()))
 }
 
-/// How much room the document of a query takes in the form of the texts, where it names many
-/// instances. Nothing rests on it, so none is said where memory is refused too.
+/// How much room the document of a query takes in the form of the texts, where it names many instances.
+/// It is a hint, so it is none too where memory is refused.
 pub fn room_for(
     alloc: Global,
     form: Form,

@@ -39,7 +39,7 @@ fn grow(room: &mut Vec<u8>, len: usize, more: usize) -> Result<(), AllocError>
     room.resize(needed.max(room.len().saturating_mul(2)), 0)
 }
 
-/// Sees that there is room for so many bytes behind the first `len`.
+/// Makes sure that there is room for so many bytes behind the first `len`.
 #[inline(always)]
 fn make_room(room: &mut Vec<u8>, len: usize, more: usize) -> Result<(), AllocError>
     requires { len ≤ length room.old.items }
@@ -76,7 +76,7 @@ impl TextBuffer {
         Ok(TextBuffer { room, len: 0 })
     }
 
-    /// What gave its room.
+    /// The allocator of its room.
     pub(crate) fn allocator(&self) -> Global {
         *self.room.allocator()
     }
@@ -115,7 +115,7 @@ impl TextBuffer {
         Ok(())
     }
 
-    /// The text by itself, with no more room than it fills.
+    /// The text by itself, without spare room.
     pub(crate) fn into_vec(self) -> Vec<u8>
         ensures { result.items ≡ self }
     {

@@ -66,7 +66,7 @@ impl Texts {
         text_at(&self.places, app, id)
     }
 
-    /// How many places there are, one of which may stand empty.
+    /// How many places there are, one of which may be empty.
     pub(crate) fn len(&self) -> usize
         ensures { result ≡ len self.now.places }
     {
@@ -87,8 +87,8 @@ impl Texts {
         pieces_in(alloc, &self.places)
     }
 
-    /// Drops what is put next, and gives back its place where no text stands in it, so that no
-    /// place stands empty. Takes no memory.
+    /// Drops what is put next, and gives back its place where it has no text, so that no place is
+    /// empty. Takes no memory.
     pub fn forget(&mut self)
         ensures same { IsSameTexts self.old self.new }
         ensures none_empty { HasNoEmpty self.new.places }
@@ -104,7 +104,7 @@ impl Texts {
     ///
     /// # Errors
     ///
-    /// `OutOfMemory` alone. Then no place stands empty.
+    /// `OutOfMemory` alone. Then no place is empty.
     pub fn ready(&mut self, key: &Key, text: Vec<u8>) -> Result<(), Fault>
         ensures same { IsSameTexts self.old self.new }
         ensures ready { OnOk result (IsReadyFor self.new key.now text.items) }
@@ -119,11 +119,11 @@ impl Texts {
     }
 
     /// Keeps the text for the next `put` under the key of a record, which is shared until then, as
-    /// [`Texts::ready`] does. Where the key has a text, its place is there and isn't sought.
+    /// [`Texts::ready`] does. Where the key has a text, its place is there without a search.
     ///
     /// # Errors
     ///
-    /// `OutOfMemory` alone. Then no place stands empty.
+    /// `OutOfMemory` alone. Then no place is empty.
     pub fn ready_for(
         &mut self,
         rec: &Arc<Record, Global>,
@@ -153,7 +153,7 @@ impl Texts {
         }
     }
 
-    /// Takes the text of a key out, with its place. Takes no memory.
+    /// Removes the text of a key, with its place. Takes no memory.
     pub fn take(&mut self, key: &Key)
         ensures { SetsText key.now None self.old self.new }
     {

@@ -1,5 +1,5 @@
-//! `discovery`: a service registry. Its words, its standard streams and its exit status are those
-//! that its commands answer for.
+//! `discovery`: a service registry. Runs the command that its words name, over the standard streams,
+//! and ends with its exit status.
 #![tactic(auto)]
 
 use disco_http::Counted;

@@ -13,7 +13,7 @@ use std::sync::Wait;
 use std::thread;
 use std::thread::{JoinHandle, Scope, Threads};
 
-/// A client over a line.
+/// A client whose connection can be replaced.
 pub(super) type Follower = Client<Line>;
 
 /// One client, without a copy and without a connection.
@@ -49,19 +49,18 @@ fn connected<N: Net<Stream = TcpStream>>(
     Ok(connected)
 }
 
-/// A client goes on over a connection.
+/// Gives a client another connection.
 fn go_on(client: &mut Follower, connected: Connected) {
     let line = client.replace_fetcher(Line::new());
     client.replace_fetcher(line.over(connected));
 }
 
-/// A client ends its connection.
 fn hang_up(client: &mut Follower) {
     let line = client.replace_fetcher(Line::new());
     client.replace_fetcher(line.hung_up());
 }
 
-/// Each client goes on over a connection to a listener.
+/// Gives each client another connection, to a listener.
 pub(super) fn connect_all<N: Net<Stream = TcpStream>>(
     rt: &N,
     alloc: Global,
@@ -77,7 +76,7 @@ pub(super) fn connect_all<N: Net<Stream = TcpStream>>(
     Ok(())
 }
 
-/// Each client ends its connection: a server ends only after that.
+/// Ends the connection of each client: a server ends only after that.
 pub(super) fn hang_up_all(clients: &mut [Follower]) {
     for client in clients.iter_mut() {
         hang_up(client);

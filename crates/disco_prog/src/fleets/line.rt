@@ -1,4 +1,4 @@
-//! A client's line to a server.
+//! A fetcher whose connection can be replaced.
 ghost use Rattle.std.specs.Prelude.{◌≡◌, ◌≢◌, ◌≤◌, ◌⊎◌};
 ghost use Rattle.disco_values.specs.declared.fault.Fault.TheVariants.{OutOfMemory};
 ghost use Rattle.disco_values.specs.declared.query.Query.TheVariants.{Apps, Delta};
@@ -8,8 +8,8 @@ use disco_follow::Connected;
 use disco_reconcile::{Fetch, Fetched};
 use disco_values::{DocKey, Fault};
 
-/// A client's line to a server: between two runs of it there is no connection. It counts the fetches
-/// that failed over all its connections.
+/// A fetcher over a connection to a server. Between two runs of the server it has no connection. It
+/// counts the fetches that failed over all its connections.
 #[derive(Drop)]
 pub(super) struct Line {
     connected: Option<Connected>,
@@ -25,7 +25,7 @@ impl Line {
         }
     }
 
-    /// Goes on over a connection.
+    /// The same with another connection.
     pub(super) fn over(self, connected: Connected) -> Line {
         Line {
             connected: Some(connected),
@@ -33,7 +33,7 @@ impl Line {
         }
     }
 
-    /// Ends the connection.
+    /// The same without a connection.
     pub(super) fn hung_up(self) -> Line {
         Line {
             connected: None,

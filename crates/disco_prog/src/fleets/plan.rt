@@ -1,9 +1,9 @@
-//! Who is at work.
+//! The options of `fleet`.
 ghost use Rattle.std.specs.Prelude.{◌<◌, ◌≤◌};
 
 use disco_values::Settings;
 
-/// Who is at work.
+/// The options of `fleet`.
 #[derive(Clone, Copy, Debug)]
 pub(super) struct Plan {
     pub(super) settings: Settings,

@@ -33,7 +33,8 @@ fn register<J: Naming, R: Wait>(
     Ok(())
 }
 
-/// Registers the instances of one of so many writers: every so manieth.
+/// Registers the instances of one of `writers` writers: every instance whose number modulo `writers` is
+/// `writer`.
 fn register_some<J: Naming, R: Wait + rt::Clock>(
     rt: &R,
     alloc: Global,

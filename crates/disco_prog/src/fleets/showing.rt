@@ -1,4 +1,4 @@
-//! What a fleet came to.
+//! The results of a fleet, as lines.
 ghost use Rattle.std.specs.Prelude.{◌≡◌, ◌↔◌, IsTrue, codes, if◌then◌else◌};
 ghost use Rattle.disco_prog.specs.Fleets.{IsRegistryCopy};
 ghost use Rattle.disco_reconcile.specs.State.{copy_of};
@@ -30,7 +30,7 @@ fn copy_of<J: Naming, R: Wait>(
     Ok(copy)
 }
 
-/// Whether a client's copy has exactly the records of the registry. No copy hasn't.
+/// Whether a client has a copy with exactly the records of the registry.
 fn is_exact<F: Fetch>(client: &Client<F>, registry: &Copy) -> bool
     ensures { IsTrue result ↔ IsRegistryCopy (copy_of client.now.kept) registry.now }
 {

@@ -1,4 +1,4 @@
--- grow
+-- `grow` adds one entry at the end.
 use Rattle.std.proofs.Common.{List, [], ◌∷◌, ◌++◌, refl}
 use mir.Syntax.{a_type, named}
 use mir.Val.{Val, vunit, vptr}

@@ -1,4 +1,4 @@
--- holds
+-- `holds`: a witness of the list is a beginning of it.
 use Rattle.std.proofs.Common.{ℕ, List, [], ◌∷◌, refl}
 use mathlib.Core.List.{IsPrefix}
 use mir.Syntax.{a_type, named}

@@ -1,4 +1,4 @@
--- open
+-- `open` gives an empty list.
 use Rattle.std.proofs.Common.{ℕ, [], ◌∷◌, refl}
 use mir.Syntax.{a_type}
 use mir.Val.{Val}

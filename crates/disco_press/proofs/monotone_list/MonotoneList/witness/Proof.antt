@@ -1,4 +1,4 @@
--- witness
+-- `witness` gives a witness of the list as it is.
 use Rattle.std.proofs.Common.{List, [], ◌∷◌, refl}
 use mir.Syntax.{a_type, named}
 use mir.Val.{Val, vptr}

@@ -1,4 +1,4 @@
--- again
+-- `again` gives an equal witness.
 use Rattle.std.proofs.Common.{[], ◌∷◌, refl}
 use mir.Syntax.{a_type, named}
 use mir.Val.{Val, vptr}

@@ -1,4 +1,4 @@
--- begins
+-- `begins`: of two witnesses of one list the shorter begins the longer.
 use Rattle.std.proofs.Common.{ℕ, List, [], ◌∷◌, refl}
 use mathlib.Core.List.{IsPrefix}
 use mir.Syntax.{a_type, named}
