@@ -69,9 +69,7 @@ fn end(leases: &mut LeaseBook, key: &Key)
     ensures renewals { leases.new.renewals ≡ leases.old.renewals }
     ensures closed { leases.new.closed ≡ leases.old.closed }
 {
-    if leases.cancel(key).is_err() {
-        leases.sweep(key);
-    }
+    leases.end(key);
 }
 
 /// Moves the lease of the instance that a change is about.

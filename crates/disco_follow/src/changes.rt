@@ -28,7 +28,7 @@ fn note_held<'a>(
     rec: &'a Record,
     changes: &mut Vec<Change<'a>>,
 ) -> Result<(), AllocError>
-    ensures { OnOk result ((one : List specs.Change) × IsToldOf (seen_record before.entry) (row rec.now) one
+    ensures { OnOk result ((one : List specs.InstanceChange) × IsToldOf (seen_record before.entry) (row rec.now) one
         × (map seen_change changes.new.items ≡ map seen_change changes.old.items ++ one)) }
 {
     match before {
@@ -58,7 +58,7 @@ fn note_all_held<'a>(
     now: &'a Copy,
     changes: &mut Vec<Change<'a>>,
 ) -> Result<(), AllocError>
-    ensures { OnOk result ((all : List specs.Change) × AreToldOf before.now (values now.now) all
+    ensures { OnOk result ((all : List specs.InstanceChange) × AreToldOf before.now (values now.now) all
         × (map seen_change changes.new.items ≡ map seen_change changes.old.items ++ all)) }
 {
     for held in now.records() {

@@ -55,7 +55,7 @@ some_in (e ∷ es) some =
     let m = from_entries {R = due_cmp} es in
     subst (λ n. 0 < n) (sym (len-insert dues_total m e.0 e.1)) (grown (contains_key m e.0) (len m) (none_in (len m) m e.0 (contains_key m e.0) refl refl))
 
-abbrev due_keys : FinMap key_cmp (Option leases.Lease) → ℕ → List (ℕ × Key)
+abbrev due_keys : FinMap key_cmp (Option leases.LeaseEntry) → ℕ → List (ℕ × Key)
 due_keys m now = keys (overdue (due_of m) (keys m) now)
 
 -- where none has run out there is none to take

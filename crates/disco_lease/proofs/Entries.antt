@@ -12,10 +12,10 @@ use Rattle.disco_lease.specs.declared.lease.Lease.{Lease}
 abbrev Places : Type 0
 Places = FinMap key_cmp (Option Lease)
 
-abbrev seen_place : Option (Option Lease) → Option (Option leases.Lease)
+abbrev seen_place : Option (Option Lease) → Option (Option leases.LeaseEntry)
 seen_place o = option_map (option_map plain_lease) o
 
-step : (b : Bool) (p : Option Lease) (x : Option (Option leases.Lease)) (o : Option (Option Lease)) → x ≡ seen_place o → cond b (Some (option_map plain_lease p)) x ≡ seen_place (cond b (Some p) o)
+step : (b : Bool) (p : Option Lease) (x : Option (Option leases.LeaseEntry)) (o : Option (Option Lease)) → x ≡ seen_place o → cond b (Some (option_map plain_lease p)) x ≡ seen_place (cond b (Some p) o)
 step true p x o e = refl
 step false p x o e = e
 
@@ -59,7 +59,7 @@ seen_some None h = h
 seen_some (Some p) h = refl
 
 pub place_seen : (m : Places) (q : Key) → IsSome (get (seen m) q) → IsSome (get m q)
-place_seen m q h = seen_some (get m q) (subst (λ (o : Option (Option leases.Lease)). IsSome o) (get_seen m q) h)
+place_seen m q h = seen_some (get m q) (subst (λ (o : Option (Option leases.LeaseEntry)). IsSome o) (get_seen m q) h)
 
 also_some : (o : Option Lease) → is_some o ≡ is_some (option_map plain_lease o)
 also_some None = refl

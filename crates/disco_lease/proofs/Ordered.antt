@@ -39,7 +39,7 @@ entries_stored {R = R} total exact es h =
 abbrev pub Entries : Type 0
 Entries = List (Key × Option Lease)
 
-abbrev plain : Entries → List (Key × Option leases.Lease)
+abbrev plain : Entries → List (Key × Option leases.LeaseEntry)
 plain es = map (λ (e : Key × Option Lease). (e.0, option_map plain_lease e.1)) es
 
 below_plain : (k : Key) (es : Entries) → below_all key_cmp k (plain es) ≡ below_all key_cmp k es
@@ -50,18 +50,18 @@ sorted_plain : (es : Entries) → is_sorted key_cmp (plain es) ≡ is_sorted key
 sorted_plain [] = refl
 sorted_plain (e ∷ es) = λ i. below_plain e.0 es i && sorted_plain es i
 
-keys_alike : (es : Entries) → map (λ (e : Key × Option leases.Lease). e.0) (plain es) ≡ keys_of es
+keys_alike : (es : Entries) → map (λ (e : Key × Option leases.LeaseEntry). e.0) (plain es) ≡ keys_of es
 keys_alike [] = refl
 keys_alike (e ∷ es) = ap (λ ks. e.0 ∷ ks) (keys_alike es)
 
 -- the keys of the places, in their order
 keys_stored : (m : FinMap key_cmp (Option Lease)) → keys (seen m) ≡ keys_of (entries m)
 keys_stored m =
-    ap (map (λ (e : Key × Option leases.Lease). e.0)) (entries_stored keys_total exact_keys (plain (entries m)) (subst T (sym (sorted_plain (entries m))) (entries_sorted m)))
+    ap (map (λ (e : Key × Option leases.LeaseEntry). e.0)) (entries_stored keys_total exact_keys (plain (entries m)) (subst T (sym (sorted_plain (entries m))) (entries_sorted m)))
     ∙ keys_alike (entries m)
 
 -- when the lease of a key runs out
-abbrev pub due_of : FinMap key_cmp (Option leases.Lease) → Key → Option ℕ
+abbrev pub due_of : FinMap key_cmp (Option leases.LeaseEntry) → Key → Option ℕ
 due_of m k = option_map due_moment (option_flatten (get m k))
 
 abbrev pair_of : ℕ → (Key → Option ℕ) → Key → Option ((ℕ × Key) × Unit {0})

@@ -1,6 +1,6 @@
 -- Stored leases, as plain data. Nothing here is to be believed: no public contract rests on it.
 use Rattle.std.specs.Ordering.{eq_by_cmp}
-use Rattle.std.specs.Prelude.{◌≡◌, ℕ, Bool, List, map, is_some, if◌then◌else◌, Option, Some, None, option_map}
+use Rattle.std.specs.Prelude.{ℕ, Bool, List, map, is_some, if◌then◌else◌, Option, Some, None, option_map}
 use Rattle.std.specs.List.{filter_map}
 use Rattle.std.specs.FinMap.{FinMap, entries, from_entries}
 use Rattle.disco_values.specs.Key.{key_cmp}
@@ -9,14 +9,14 @@ use Rattle.disco_lease.specs.Due.{due_cmp, due_moment, passed}
 use Rattle.disco_lease.specs.Leases as leases
 use Rattle.disco_lease.specs.declared.lease.Lease.{Lease}
 
-abbrev pub plain_lease : Lease → leases.Lease
+abbrev pub plain_lease : Lease → leases.LeaseEntry
 plain_lease l = record { duration_secs = l.duration_secs; mark = l.mark }
 
 -- the places that entries stand for
-abbrev pub seen_places : List (Key × Option Lease) → FinMap key_cmp (Option leases.Lease)
+abbrev pub seen_places : List (Key × Option Lease) → FinMap key_cmp (Option leases.LeaseEntry)
 seen_places es = from_entries (map (λ e. (e.0, option_map plain_lease e.1)) es)
 
-abbrev pub seen : FinMap key_cmp (Option Lease) → FinMap key_cmp (Option leases.Lease)
+abbrev pub seen : FinMap key_cmp (Option Lease) → FinMap key_cmp (Option leases.LeaseEntry)
 seen m = seen_places (entries m)
 
 -- the entries of an app, by their keys

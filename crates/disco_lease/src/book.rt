@@ -157,6 +157,17 @@ impl LeaseBook {
         Ok(())
     }
 
+    /// Removes the key's lease, if it has one, and its place, by one search. Takes no memory.
+    pub fn end(&mut self, key: &Key)
+        ensures leases { Sets key.now None self.old self.new }
+        ensures gone { HasPlace self.new key.now → ⊥ }
+        ensures others { KeepsOthers key.now self.old self.new }
+        ensures renewals { self.new.renewals ≡ self.old.renewals }
+        ensures closed { self.new.closed ≡ self.old.closed }
+    {
+        self.places.close(key);
+    }
+
     /// Gives back the place of a key where it has no lease. Takes no memory.
     pub fn sweep(&mut self, key: &Key)
         ensures same { IsSameLeases self.old self.new }

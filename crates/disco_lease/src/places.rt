@@ -26,7 +26,7 @@ impl Model for Places {
     ghost use Rattle.disco_lease.specs.Leases as leases;
     ghost use Rattle.disco_lease.specs.Seen.{seen};
 
-    ghost Value = { FinMap key_cmp (Option leases.Lease) };
+    ghost Value = { FinMap key_cmp (Option leases.LeaseEntry) };
 
     ghost coded = { Prim.hlevel (codes, code) };
 
