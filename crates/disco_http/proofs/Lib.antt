@@ -6,6 +6,7 @@ pub mod ChunkSteps
 pub mod Fuel
 pub mod Heads
 pub mod Known
+pub mod Lent
 pub mod Messages
 pub mod MoreBytes
 pub mod OneExchange

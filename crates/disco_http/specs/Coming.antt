@@ -1,5 +1,6 @@
 -- Only what code keeps: nothing here is to be believed.
 use Rattle.std.specs.Prelude.{◌≡◌, ◌⊎◌, ℕ, ◌+◌, ◌-◌, ◌*◌, ◌<◌, ◌≤◌, Bool, true, false, List, [], ◌++◌, length, ⊤, Ok}
+use Rattle.std.specs.Borrow.{Array, Fml, Lends, MutBor, u8}
 use Rattle.std.specs.List.{concat}
 use Rattle.disco_values.specs.declared.fault.Fault.{Fault}
 use Rattle.disco_values.specs.declared.fault.Fault.TheVariants.{BadRequest, ReadFailed}
@@ -9,6 +10,7 @@ use Rattle.disco_message.specs.declared.framing.Framing.TheVariants.{Sized, Chun
 use Rattle.disco_message.specs.declared.received.Extent.{Extent}
 use Rattle.disco_message.specs.declared.received.Extent.TheVariants.{Framed, UntilEnd}
 use Rattle.disco_message.specs.Heading.{Heading, heading}
+use Rattle.disco_http.specs.contracts.incoming.Incoming.{the_row}
 use Rattle.disco_http.specs.declared.body.Left.{Left}
 use Rattle.disco_http.specs.declared.body.Left.TheVariants.{Bytes, Line, Chunk, Trailer, ToEnd}
 use Rattle.disco_http.specs.declared.body.Turn.{Turn}
@@ -23,7 +25,7 @@ use Rattle.disco_http.specs.Chunks.{HasSize, ReadsPieces}
 use Rattle.disco_http.specs.Found.{HasNoBody}
 use Rattle.disco_http.specs.Replies.{ExtentRefused}
 use Rattle.disco_http.specs.Requests.{BeginsWithHead, HasNone, Refused}
-use Rattle.disco_http.specs.Unread.{bytes_of}
+use Rattle.disco_http.specs.Unread.{bytes_of, with_room}
 
 -- the faults with which bytes are refused: as a reply, but for a failed read
 abbrev pub is_of_bytes : Fault → Bool
@@ -135,3 +137,11 @@ WaitsOn limits old new = (given : List ℕ) → StandsFor limits old given
 abbrev pub most : Limits → Phase → List ℕ → ℕ
 most limits phase.Head unread = ((limits.body * (limits.head + 3) + limits.head) + limits.head) + (limits.head - length unread)
 most limits (phase.Body says body) unread = fuel limits.head body.left body.room (length unread)
+
+-- the same with these bytes in the room behind what is unread
+abbrev pub with_lent : Incoming → List ℕ → Incoming
+with_lent incoming came = record incoming { unread = with_room incoming.unread came }
+
+-- once the borrow ends, the room has what was written
+abbrev pub LendsRoom : MutBor Incoming → MutBor (List ℕ) → Fml
+LendsRoom incoming room = Lends the_row (Array u8 0) incoming room (with_lent incoming.now)

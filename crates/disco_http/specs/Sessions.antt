@@ -1,5 +1,6 @@
 -- What a session has done with the bytes that it was given, however they were cut.
-use Rattle.std.specs.Prelude.{◌≡◌, ◌⊎◌, ℕ, ◌-◌, ◌≤◌, Bool, List, [], ◌∷◌, ◌++◌, IsTrue, Option, drop, length, None, Some, is_some, nat_le, true, ⊤}
+use Rattle.std.specs.Prelude.{◌≡◌, ◌⊎◌, ℕ, ◌-◌, ◌<◌, ◌≤◌, Bool, List, [], ◌∷◌, ◌++◌, IsTrue, Option, drop, length, None, Some, is_some, nat_le, true, ⊤}
+use Rattle.std.specs.Borrow.{Array, Fml, Lends, MutBor, RattleType, u8}
 use Rattle.std.specs.List.{concat}
 use Rattle.disco_values.specs.declared.fault.Fault.TheVariants.{OutOfMemory}
 use Rattle.disco_values.specs.declared.fault.Fault as fault
@@ -10,7 +11,8 @@ use Rattle.disco_http.specs.Coming.{StandsFor}
 use Rattle.disco_http.specs.Requests.{HasNone, Refused, TakesRequest}
 use Rattle.disco_http.specs.Served.{end_behind, refused}
 use Rattle.disco_http.specs.declared.incoming.Incoming.{Incoming}
-use Rattle.disco_http.specs.Unread.{bytes_of}
+use Rattle.disco_http.specs.Unread.{bytes_of, room_of, with_room}
+use Rattle.disco_http.specs.contracts.steps.Session.{the_row}
 use Rattle.disco_http.specs.declared.session.End.{End}
 use Rattle.disco_http.specs.declared.session.End.TheVariants.{Closed, Fault}
 use Rattle.disco_http.specs.declared.steps.Next.{Next}
@@ -18,6 +20,7 @@ use Rattle.disco_http.specs.declared.steps.Next.TheVariants as next
 use Rattle.disco_http.specs.declared.outgoing.Outgoing.{Outgoing}
 use Rattle.disco_http.specs.declared.steps.Session.{Session}
 use Rattle.disco_http.specs.declared.steps.State.{State}
+use Rattle.disco_http.specs.declared.unread.Unread.{Unread}
 use Rattle.disco_http.specs.declared.steps.State.TheVariants.{Waits, Looks, Writes, Over}
 
 -- these requests stand at the front of what was given, one after another, and then the rest
@@ -53,12 +56,29 @@ Leaves limits incoming rest (Some Closed) = rest ≡ []
 Leaves limits incoming rest (Some (Fault f)) = ⊤
 Leaves limits incoming rest (Some end) = rest ≡ bytes_of incoming.unread
 
--- what it holds of the bytes behind the requests that it answered: where it waits for more, no whole request
+-- what it holds of the bytes behind the requests that it answered: where it waits for more, no whole request, and there is room for more
 abbrev pub Holds : {D : Type 0} → (D → List ℕ) → Limits → Incoming → State D → List ℕ → Type 0
-Holds content limits incoming Waits rest = StandsFor limits incoming rest × HasNone limits rest
+Holds content limits incoming Waits rest = StandsFor limits incoming rest × HasNone limits rest × (length (bytes_of incoming.unread) < limits.head)
 Holds content limits incoming Looks rest = StandsFor limits incoming rest
 Holds content limits incoming (Writes o) rest = Leaves limits incoming rest o.end × (o.left ≤ length (text_of content o))
 Holds content limits incoming (Over end) rest = Leaves limits incoming rest (Some end)
+
+-- the room that is lent for bytes: where it waits for some, what stands in the buffer behind those that are unread
+abbrev pub lent_by : {D : Type 0} → State D → Unread → List ℕ
+lent_by Waits unread = room_of unread
+lent_by state unread = []
+
+-- the room that a session lends
+abbrev pub lent : {D : Type 0} → Session D → List ℕ
+lent session = lent_by session.state session.incoming.unread
+
+-- the same session with these bytes in that room
+abbrev pub with_lent : {D : Type 0} → Session D → List ℕ → Session D
+with_lent session came = record session { incoming = record session.incoming { unread = with_room session.incoming.unread came } }
+
+-- once the borrow ends, the room has what was written
+abbrev pub LendsRoom : (D : RattleType) → MutBor (Session D.Denot) → MutBor (List ℕ) → Fml
+LendsRoom D session room = Lends (the_row D) (Array u8 0) session room (with_lent session.now)
 
 -- it was given these bytes, has answered these requests of them by these texts, and this is what it put out
 pub record HasDone {D : Type 0} (content : D → List ℕ) (session : Session D) (given : List ℕ) (asks : List message.RequestView) (texts : List (List ℕ))

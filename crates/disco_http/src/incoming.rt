@@ -1,5 +1,6 @@
 //! A request that comes, piece by piece.
-ghost use Rattle.std.specs.Prelude.{◌≡◌, ◌↔◌, ◌≤◌, ◌<◌, ◌++◌, [], ℕ, List, IfErr, IfNone, IfOk, IfSome, IsSome, IsTrue, OnOk, length, vec_len};
+ghost use Rattle.std.specs.Prelude.{◌≡◌, ◌↔◌, ◌+◌, ◌≤◌, ◌<◌, ◌++◌, [], ℕ, List, IfErr, IfNone, IfOk, IfSome, IsSome, IsTrue, OnOk, length, take, vec_len};
+ghost use Rattle.std.specs.Borrow.{sem};
 ghost use Rattle.disco_values.specs.declared.fault.Fault.TheVariants.{BadRequest};
 
 use crate::body::Body;
@@ -76,11 +77,11 @@ pub(crate) struct Incoming {
 }
 
 impl Incoming {
-    ghost use Rattle.disco_http.specs.Coming.{IsBetween, PhaseAt, StandsFor, WaitsOn, is_of_asked, most};
+    ghost use Rattle.disco_http.specs.Coming.{IsBetween, LendsRoom, PhaseAt, StandsFor, WaitsOn, is_of_asked, most};
     ghost use Rattle.disco_http.specs.Parts.{HasNo};
     ghost use Rattle.disco_http.specs.Requests.{HasNone, Refused, TakesRequest};
     ghost use Rattle.disco_http.specs.declared.parts.Part.TheVariants.{RequestHead};
-    ghost use Rattle.disco_http.specs.Unread.{bytes_of};
+    ghost use Rattle.disco_http.specs.Unread.{bytes_of, room_of};
     ghost use Rattle.disco_http.specs.declared.incoming.Phase.TheVariants as phase;
 
     /// Whether nothing came of the next request.
@@ -97,6 +98,15 @@ impl Incoming {
             Phase::Body(_, body) => body.bytes.capacity(),
         };
         self.unread.bytes().len().saturating_add(body)
+    }
+
+    /// So much of the room behind what came.
+    pub(crate) fn room(&mut self, size: usize) -> &mut [u8]
+        requires { self.old.unread.end + size ≤ vec_len self.old.unread.buffer }
+        ensures* writes_back { sem 𝓛 (LendsRoom self.entry result) }
+        ensures value { result.now ≡ take size (room_of self.old.unread) }
+    {
+        self.unread.room(size)
     }
 
     /// What came of the next request.

@@ -1,5 +1,6 @@
 //! One connection from its first byte to its end, step by step and without a socket.
 ghost use Rattle.std.specs.Prelude.{◌≤◌, vec_len};
+ghost use Rattle.std.specs.Borrow.{sem};
 ghost use Rattle.std.specs.Vec.{vec_capacity};
 
 use crate::incoming::{Incoming, Phase, Room};
@@ -14,10 +15,16 @@ use disco_message::{Document, HEAD_ROOM, Limits, Reply, Request};
 use disco_values::Fault;
 use std::alloc::{AllocError, Global};
 
+/// Bytes of the first room for a head.
+const HEAD: usize = 1024;
+
+/// Bytes of the first room for what comes of a body.
+const BODY: usize = 16_384;
+
 /// What a session does next.
 #[derive(Clone, Copy, Debug, PartialEq, Eq)]
 pub enum Next {
-    /// It waits for bytes: [`Session::take`] or [`Session::end_input`].
+    /// It waits for bytes: [`Session::lend`] and [`Session::came`], or [`Session::end_input`].
     Read,
     /// Bytes came at which it hasn't looked: [`Session::answer`].
     Answer,
@@ -88,13 +95,13 @@ pub struct Session<D> {
 }
 
 impl<D: Document + Drop> Session<D> {
-    ghost use Rattle.std.specs.Prelude.{◌≡◌, ◌⊎◌, ◌+◌, ◌-◌, ◌^◌, ◌≤◌, ◌<◌, ◌++◌, [], ℕ, List, IfErr, IfNone, IfOk, IfSome, IsFalse, IsSome, IsTrue, OnErr, Some, length, min, take};
+    ghost use Rattle.std.specs.Prelude.{◌≡◌, ◌⊎◌, ◌+◌, ◌-◌, ◌^◌, ◌≤◌, ◌<◌, ◌++◌, [], ℕ, List, IfErr, IfNone, IfOk, IfSome, IsFalse, IsSome, IsTrue, OnOk, Some, length, min, take};
     ghost use Rattle.disco_message.specs.RequestView as message;
     ghost use Rattle.disco_values.specs.declared.fault.Fault.TheVariants.{BadRequest, OutOfMemory};
     ghost use Rattle.disco_http.specs.Coming.{IsBetween, StandsFor, WaitsOn};
     ghost use Rattle.disco_http.specs.Requests.{Refused, TakesRequest};
     ghost use Rattle.disco_http.specs.Served.{refused};
-    ghost use Rattle.disco_http.specs.Sessions.{Answered, HasDone, IsGoing, next_of, unsent};
+    ghost use Rattle.disco_http.specs.Sessions.{Answered, HasDone, IsGoing, LendsRoom, lent, next_of, unsent, with_lent};
     ghost use Rattle.disco_http.specs.declared.incoming.Phase.TheVariants as phase;
     ghost use Rattle.disco_http.specs.Unread.{bytes_of};
     ghost use Rattle.disco_http.specs.declared.steps.State.TheVariants as state;
@@ -133,20 +140,6 @@ impl<D: Document + Drop> Session<D> {
         self.incoming.stage()
     }
 
-    /// How many bytes it takes next at most: some, where it waits for bytes.
-    pub fn room(&self) -> usize
-        ensures fits { length (bytes_of self.now.incoming.unread) + result ≤ self.now.limits.head }
-        ensures waits { 0 < result → self.now.state ≡ state.Waits }
-    {
-        match self.state {
-            State::Waits => self
-                .limits
-                .head
-                .saturating_sub(self.incoming.unread.bytes().len()),
-            _ => 0,
-        }
-    }
-
     /// How many bytes of memory it keeps of what came.
     pub fn held(&self) -> usize {
         self.incoming.held()
@@ -160,24 +153,66 @@ impl<D: Document + Drop> Session<D> {
         }
     }
 
-    /// Takes bytes that came, as many as there is room for. Answers how many.
+    /// Makes room for bytes, where it waits for some.
     ///
     /// # Errors
     ///
-    /// `AllocError` where memory is refused. Then none were taken.
-    pub fn take(&mut self, bytes: &[u8]) -> Result<usize, AllocError>
-        ensures taken { IfOk result (λ n. (given : List ℕ) (asks : List message.RequestView) (texts : List (List ℕ)) (out : List ℕ)
-            → HasDone D.content self.old given asks texts out → HasDone D.content self.new (given ++ take n bytes.now) asks texts out) }
-        ensures refused { OnErr result ((given : List ℕ) (asks : List message.RequestView) (texts : List (List ℕ)) (out : List ℕ)
-            → HasDone D.content self.old given asks texts out → HasDone D.content self.new given asks texts out) }
+    /// `AllocError` where memory is refused. Then it can't read on.
+    pub fn make_room(&mut self) -> Result<(), AllocError>
+        ensures done { (given : List ℕ) (asks : List message.RequestView) (texts : List (List ℕ)) (out : List ℕ)
+            → HasDone D.content self.old given asks texts out → HasDone D.content self.new given asks texts out }
+        ensures room { OnOk result ((given : List ℕ) (asks : List message.RequestView) (texts : List (List ℕ)) (out : List ℕ)
+            → HasDone D.content self.old given asks texts out → self.old.state ≡ state.Waits → 0 < length (lent self.new)) }
+        ensures state { self.new.state ≡ self.old.state }
     {
-        let count = bytes.len().min(self.room());
-        if count == 0 {
-            return Ok(0);
+        if let State::Waits = self.state {
+            let least = match self.incoming.phase {
+                Phase::Head => HEAD,
+                Phase::Body(_, _) => BODY,
+            };
+            self.incoming.unread.grow(least, self.limits.head)?;
         }
-        self.incoming.unread.append(&bytes[..count])?;
+        Ok(())
+    }
+
+    /// How much room it lends.
+    fn room_size(&self) -> usize
+        ensures size { result ≡ length (lent self.now) }
+        ensures waits { 0 < result → self.now.state ≡ state.Waits }
+        ensures within { self.now.incoming.unread.end + result ≤ vec_len self.now.incoming.unread.buffer }
+    {
+        let unread = &self.incoming.unread;
+        match self.state {
+            State::Waits => unread.buffer.len() - unread.end,
+            _ => 0,
+        }
+    }
+
+    /// Lends the room for bytes that come, where it waits for some. [`Session::came`] says how many came.
+    pub fn lend(&mut self) -> &mut [u8]
+        ensures* writes_back { sem 𝓛 (LendsRoom D.row self.entry result) }
+        ensures room { result.now ≡ lent self.old }
+        ensures lent { (came : List ℕ) → length came ≡ length (lent self.old) → lent (with_lent self.old came) ≡ came }
+        ensures done { (came given : List ℕ) (asks : List message.RequestView) (texts : List (List ℕ)) (out : List ℕ)
+            → HasDone D.content self.old given asks texts out → HasDone D.content (with_lent self.old came) given asks texts out }
+    {
+        let size = self.room_size();
+        self.incoming.room(size)
+    }
+
+    /// Is told that so many bytes came into the front of the room that it lent. Where none did and
+    /// nothing is unread, it gives the room back.
+    pub fn came(&mut self, alloc: Global, count: usize)
+        ensures came { (given : List ℕ) (asks : List message.RequestView) (texts : List (List ℕ)) (out : List ℕ)
+            → HasDone D.content self.old given asks texts out → HasDone D.content self.new (given ++ take count (lent self.old)) asks texts out }
+        ensures idle { count ≡ 0 → bytes_of self.old.incoming.unread ≡ [] → vec_capacity self.new.incoming.unread.buffer ≡ 0 }
+    {
+        if count.min(self.room_size()) == 0 {
+            self.incoming.unread.release(alloc);
+            return;
+        }
+        self.incoming.unread.add(count);
         self.state = State::Looks;
-        Ok(count)
     }
 
     /// Is told that the input has ended. A request of which some came is refused then.
@@ -224,6 +259,7 @@ impl<D: Document + Drop> Session<D> {
             → TakesRequest self.old.limits (given ++ more) request (bytes_of self.new.incoming.unread ++ more))) }
         ensures phase { IfOk result (λ found. IsSome found → self.new.incoming.phase ≡ phase.Head) }
         ensures waits { IfOk result (λ found. IfNone found (WaitsOn self.old.limits self.old.incoming self.new.incoming)) }
+        ensures small { IfOk result (λ found. IfNone found (length (bytes_of self.new.incoming.unread) < self.old.limits.head)) }
         ensures refused { IfErr result (λ fault. (fault ≡ OutOfMemory) ⊎ ((given more : List ℕ) → StandsFor self.old.limits self.old.incoming given
             → Refused self.old.limits fault (given ++ more))) }
         ensures limits { self.new.limits ≡ self.old.limits }

@@ -1,5 +1,7 @@
 //! Bytes that came and were not yet used.
 ghost use Rattle.std.specs.Prelude.{◌≡◌, ◌+◌, ◌≤◌, ◌<◌, ◌++◌, [], ℕ, List, max, Ok, IfOk, OnOk, OnErr, drop, length, slice_range, take, vec_len};
+ghost use Rattle.std.specs.Borrow.{sem};
+ghost use Rattle.std.specs.Vec.{vec_capacity};
 ghost use Rattle.std.specs.Io.KnownBytes.{Keeps, Consumes, IsAtEnd};
 ghost use Rattle.disco_http.specs.Causes.{Counts};
 
@@ -31,7 +33,7 @@ fn read_at<R: Source>(source: &mut R, buffer: &mut [u8], end: usize) -> Result<u
 }
 
 impl Unread {
-    ghost use Rattle.disco_http.specs.Unread.{bytes_of};
+    ghost use Rattle.disco_http.specs.Unread.{LendsRoom, bytes_of, room_of};
 
     /// No bytes, in a buffer of this size.
     pub(crate) fn new(alloc: Global, size: usize) -> Result<Unread, AllocError>
@@ -50,6 +52,7 @@ impl Unread {
     pub(crate) fn none(alloc: Global) -> Unread
         ensures none { bytes_of result ≡ [] }
         ensures size { vec_len result.buffer ≡ 0 }
+        ensures capacity { vec_capacity result.buffer ≡ 0 }
     {
         Unread {
             buffer: Vec::new(alloc),
@@ -62,23 +65,11 @@ impl Unread {
     pub(crate) fn release(&mut self, alloc: Global)
         ensures same { bytes_of self.new ≡ bytes_of self.old }
         ensures size { vec_len self.new.buffer ≤ vec_len self.old.buffer }
+        ensures none { bytes_of self.old ≡ [] → vec_capacity self.new.buffer ≡ 0 }
     {
         if self.start == self.end {
             *self = Unread::none(alloc);
         }
-    }
-
-    /// Puts bytes behind those that came. The buffer grows where it has to.
-    pub(crate) fn append(&mut self, bytes: &[u8]) -> Result<(), AllocError>
-        ensures bytes { OnOk result (bytes_of self.new ≡ bytes_of self.old ++ bytes.now) }
-        ensures refused { OnErr result (bytes_of self.new ≡ bytes_of self.old) }
-        ensures size { vec_len self.new.buffer ≤ max (vec_len self.old.buffer) (length (bytes_of self.old) + length bytes.now) }
-    {
-        self.compact();
-        self.buffer.truncate(self.end);
-        self.buffer.extend_from_slice(bytes)?;
-        self.end = self.buffer.len();
-        Ok(())
     }
 
     /// Drops the bytes, and keeps the buffer.
@@ -131,17 +122,50 @@ impl Unread {
         self.end = end - start;
     }
 
-    /// Makes room for a read.
+    /// Makes room for a read, if the bytes don't fill the buffer.
     fn make_room(&mut self)
-        requires { length (bytes_of self.old) < vec_len self.old.buffer }
         ensures same { bytes_of self.new ≡ bytes_of self.old }
         ensures size { vec_len self.new.buffer ≡ vec_len self.old.buffer }
-        ensures room { self.new.end < vec_len self.new.buffer }
+        ensures room { length (bytes_of self.old) < vec_len self.old.buffer → self.new.end < vec_len self.new.buffer }
     {
         // Where nothing is unread, what comes next is read into the memory that was used last.
         if self.start == self.end || self.end == self.buffer.len() {
             self.compact();
         }
+    }
+
+    /// Makes room for a read. A buffer that the bytes fill doubles, from `least` up to `most`.
+    pub(crate) fn grow(&mut self, least: usize, most: usize) -> Result<(), AllocError>
+        requires { 0 < least }
+        ensures same { bytes_of self.new ≡ bytes_of self.old }
+        ensures size { vec_len self.new.buffer ≤ max (vec_len self.old.buffer) most }
+        ensures room { OnOk result (length (bytes_of self.old) < most → self.new.end < vec_len self.new.buffer) }
+    {
+        self.make_room();
+        let size = self.buffer.len();
+        if self.end == size {
+            let double = size.saturating_mul(2).max(least).min(most);
+            self.buffer.resize(double.max(size), 0)?;
+        }
+        Ok(())
+    }
+
+    /// So much of the room behind the bytes.
+    pub(crate) fn room(&mut self, size: usize) -> &mut [u8]
+        requires { self.old.end + size ≤ vec_len self.old.buffer }
+        ensures* writes_back { sem 𝓛 (LendsRoom self.entry result) }
+        ensures value { result.now ≡ take size (room_of self.old) }
+    {
+        let from = self.end;
+        self.buffer.slice_mut(from..from + size)
+    }
+
+    /// So many bytes came into the room.
+    pub(crate) fn add(&mut self, count: usize)
+        ensures bytes { bytes_of self.new ≡ bytes_of self.old ++ take count (room_of self.old) }
+        ensures size { vec_len self.new.buffer ≡ vec_len self.old.buffer }
+    {
+        self.end += count.min(self.buffer.len() - self.end);
     }
 
     /// Reads once, behind the bytes. 0 is the end of the input.

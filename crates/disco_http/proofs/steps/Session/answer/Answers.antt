@@ -51,6 +51,7 @@ returns-in-Ok-None-clause-answered g c looks given asks texts out h =
     let put = subst (λ s. out ++ unsent content s ≡ concat texts) looks h.put in
     let waits = rw c.in-Ok-None.field-0-is at c.in-Ok-None.ensures.waits in
     let w = waits h.rest stands in
+    let small = rw c.in-Ok-None.field-0-is at c.in-Ok-None.ensures.small in
     let limits : new.limits ≡ self.limits = c.wait.ensures.limits ∙ c.advance.ensures.limits in
     let fronts : Fronts new.limits given asks h.rest = rw limits h.fronts in
     elim (true_or_false mid.has_ended) [
@@ -61,7 +62,7 @@ returns-in-Ok-None-clause-answered g c looks given asks texts out h =
             inr (record {
               rest = h.rest;
               fronts = fronts;
-              holds = rw (k.0, limits, k.1, k.2) (w.0, w.1);
+              holds = rw (k.0, limits, k.1, k.2) (w.0, w.1, small);
               put = rw k.0 put;
             }),
           )
