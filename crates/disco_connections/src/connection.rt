@@ -159,7 +159,7 @@ impl<D: Document + Drop, K> Connection<D, K> {
         service: &mut S,
     ) -> Option<Turn> {
         match self.session.next() {
-            Next::Read => self.read(held, room),
+            Next::Read => self.read(alloc, held),
             Next::Answer => {
                 self.session.answer(alloc, &mut room.buffers, service);
                 self.count(held);
@@ -193,27 +193,30 @@ impl<D: Document + Drop, K> Connection<D, K> {
         }
     }
 
-    /// Reads once.
-    fn read(&mut self, held: &Held, room: &mut Room) -> Option<Turn> {
+    /// Reads once, into the room that the session lends.
+    fn read(&mut self, alloc: Global, held: &Held) -> Option<Turn> {
         self.is_paused = self.held > FEW && !self.may_pass && held.is_full();
         if self.is_paused {
             return Some(Turn::Rests);
         }
+        if self.session.make_room().is_err() {
+            return Some(Turn::Over);
+        }
         let mut stream = &self.stream;
-        let most = self.session.room().min(room.input.len());
-        match stream.read(&mut room.input[..most]) {
+        let read = stream.read(self.session.lend());
+        let count = match &read {
+            Ok(count) => *count,
+            Err(_) => 0,
+        };
+        self.session.came(alloc, count);
+        match read {
             Ok(0) => {
                 self.session.end_input();
                 None
             }
-            Ok(count) => {
-                let taken = self.session.take(&room.input[..count]);
+            Ok(_) => {
                 self.count(held);
-                if taken.is_ok() {
-                    None
-                } else {
-                    Some(Turn::Over)
-                }
+                None
             }
             Err(error) => match error.kind() {
                 ErrorKind::WouldBlock => Some(Turn::Rests),
@@ -267,7 +270,7 @@ impl<D: Document + Drop, K> Connection<D, K> {
             };
         }
         let mut stream = &self.stream;
-        match stream.read(&mut room.input) {
+        match stream.read(&mut room.dropped) {
             Ok(0) => Some(Turn::Over),
             Ok(_) => None,
             Err(error) => match error.kind() {

@@ -3,14 +3,14 @@ use disco_http::Buffers;
 use disco_message::Limits;
 use std::alloc::{AllocError, Global};
 
-/// Bytes of one read, at most.
-const READ: usize = 16_384;
+/// Bytes of one read whose bytes are dropped, at most.
+const DROPPED: usize = 4096;
 
 /// What a worker lends to the connection that it serves.
 #[derive(Drop)]
 pub struct Room {
-    /// What one read gives.
-    pub(crate) input: Vec<u8>,
+    /// What still comes behind a last reply.
+    pub(crate) dropped: Vec<u8>,
     pub(crate) buffers: Buffers,
 }
 
@@ -22,7 +22,7 @@ impl Room {
     /// `AllocError` where memory is refused.
     pub fn new(alloc: Global, limits: Limits) -> Result<Room, AllocError> {
         Ok(Room {
-            input: vec![in alloc; 0; READ]?,
+            dropped: vec![in alloc; 0; DROPPED]?,
             buffers: Buffers::new(alloc, limits)?,
         })
     }
