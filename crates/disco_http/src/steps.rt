@@ -237,6 +237,7 @@ impl<D: Document + Drop> Session<D> {
     fn wait(&mut self, alloc: Global, buffers: &mut Buffers)
         ensures waits { IsFalse self.old.has_ended → (self.new.state ≡ state.Waits) × (bytes_of self.new.incoming.unread ≡ bytes_of self.old.incoming.unread)
             × (self.new.incoming.phase ≡ self.old.incoming.phase) }
+        ensures idle { IsFalse self.old.has_ended → bytes_of self.old.incoming.unread ≡ [] → vec_capacity self.new.incoming.unread.buffer ≡ 0 }
         ensures over { IsTrue self.old.has_ended → (IsBetween self.old.incoming × (self.new.state ≡ state.Over End.Closed))
             ⊎ ((IsBetween self.old.incoming → ⊥) × IsGoing D.content (refused BadRequest) (Some (End.Fault BadRequest)) self.new.state) }
         ensures limits { self.new.limits ≡ self.old.limits }
@@ -281,6 +282,7 @@ impl<D: Document + Drop> Session<D> {
     )
         ensures answered { self.old.state ≡ state.Looks → Answered D.content S.answers self.old self.new service.old service.new }
         ensures counted { (self.new.requests ≡ self.old.requests) ⊎ (self.new.requests ≡ min (self.old.requests + 1) (2 ^ 64 - 1)) }
+        ensures idle { self.old.state ≡ state.Looks → self.new.state ≡ state.Waits → bytes_of self.new.incoming.unread ≡ [] → vec_capacity self.new.incoming.unread.buffer ≡ 0 }
         ensures other { (self.old.state ≡ state.Looks → ⊥) → (self.new ≡ self.old) × (service.new ≡ service.old) }
     {
         if !matches!(self.state, State::Looks) {
