@@ -1,6 +1,4 @@
-pub mod AnsweredRequests
 pub mod BodyTurns
-pub mod BrokenWrites
 pub mod CameBefore
 pub mod ChunkSteps
 pub mod Fuel
@@ -8,9 +6,9 @@ pub mod Heads
 pub mod Known
 pub mod Messages
 pub mod MoreBytes
-pub mod OneExchange
 pub mod ReadOn
 pub mod Refusals
+pub mod ServedSessions
 pub mod SessionSteps
 pub mod Slices
 pub mod Taken
