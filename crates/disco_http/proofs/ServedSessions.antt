@@ -324,23 +324,20 @@ exchanged_on content answers stream first before s0 s1 s2 left0 left1 v0 v1 b c 
     exchanged content answers stream first before s0 s1 left0 left1 v0 v1 b c so came on.0 read on.1 on.2 few limits s2 i j replies stops ended put done incoming2 limits2 requests2
 
 -- nothing was answered yet
-pub begun : {D S : Type 0} (content : D → List ℕ) (answers : S → message.RequestView → ReplyView → S → Type 0) (session : Session D) (left : Option (List ℕ)) (now : S) (before : Option (List ℕ)) → session.state ≡ Looks → session.requests ≡ 0 → session.incoming.phase ≡ phase.Head
-    → IfSome (prepend_known (bytes_of session.incoming.unread) left) (λ stream. SoFar content answers stream now before session left now before)
-begun content answers session None now before looks none head = tt
-begun content answers session (Some more) now before looks none head =
-    let u = bytes_of session.incoming.unread in
-    let stands : PhaseAt session.limits u session.incoming.phase u = subst (λ at. PhaseAt session.limits u at u) (sym head) refl in
-    record {
-      given = u;
-      asks = [];
-      replies = [];
-      came = refl;
-      done = record { rest = u; fronts = refl; holds = rw looks stands; put = rw looks refl };
-      chain = refl;
-      counted = sym none;
-      goes = tt;
-      put = Appends-nil before;
-    }
+pub begun : {D S : Type 0} (content : D → List ℕ) (answers : S → message.RequestView → ReplyView → S → Type 0) (session : Session D) (u : List ℕ) (left : Option (List ℕ)) (now : S) (before : Option (List ℕ)) → session.requests ≡ 0 → HasDone content session u [] [] []
+    → IfSome (prepend_known u left) (λ stream. SoFar content answers stream now before session left now before)
+begun content answers session u None now before none done = tt
+begun content answers session u (Some more) now before none done = record {
+  given = u;
+  asks = [];
+  replies = [];
+  came = refl;
+  done = done;
+  chain = refl;
+  counted = sym none;
+  goes = tt;
+  put = Appends-nil before;
+}
 
 pub for_each : (first : Option (List ℕ)) (P Q : List ℕ → Type 0) → ((stream : List ℕ) → P stream → Q stream) → IfSome first P → IfSome first Q
 for_each None P Q all h = tt

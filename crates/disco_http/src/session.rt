@@ -155,40 +155,7 @@ fn put_out<W: Sink, D: Document + Drop>(session: &mut Session<D>, writer: &mut W
     }
 }
 
-/// Reads on until a reply goes out, and writes it. How the session ended, if it has.
-fn exchange<R: Source, W: Sink, S: Service>(
-    alloc: Global,
-    session: &mut Session<S::Body>,
-    source: &mut R,
-    room: &mut Room,
-    writer: &mut Writer<W>,
-    service: &mut S,
-) -> Option<End>
-    requires looks { session.old.state ≡ state.Looks }
-    requires few { session.old.requests < session.old.limits.requests }
-    requires ended { IsTrue session.old.has_ended → IsAtEnd (R.remaining source.old) }
-    requires size { vec_len session.old.incoming.unread.buffer ≡ session.old.limits.head }
-    requires places { vec_len room.old.spans ≡ session.old.limits.fields }
-    ensures step { (stream : List ℕ) (first : S) (before : Option (List ℕ))
-        → SoFar S.Body.content S.answers stream first before session.old (R.remaining source.old) service.old (W.contents (sink_of writer.old))
-        → Exchanged S.Body.content S.answers stream first before session.new (R.remaining source.new) service.new (W.contents (sink_of writer.new)) result }
-    ensures looks { result ≡ None → session.new.state ≡ state.Looks }
-    ensures goes { result ≡ None → (session.new.requests ≡ session.old.requests + 1) × (session.new.requests < session.new.limits.requests) }
-    ensures ended { IsTrue session.new.has_ended → IsAtEnd (R.remaining source.new) }
-    ensures read_cause { result ≡ Some (End.Fault ReadFailed) → Raises (R.failed source.old) (R.failed source.new) }
-    ensures write_cause { result ≡ Some (End.Fault WriteFailed) → Raises (W.failed (sink_of writer.old)) (W.failed (sink_of writer.new)) }
-    ensures none_failed { result ≡ None → (R.failed source.new ≡ R.failed source.old)
-        × (W.failed (sink_of writer.new) ≡ W.failed (sink_of writer.old)) }
-    ensures limits { session.new.limits ≡ session.old.limits }
-    ensures size { vec_len session.new.incoming.unread.buffer ≡ vec_len session.old.incoming.unread.buffer }
-    ensures places { vec_len room.new.spans ≡ vec_len room.old.spans }
-{
-    next_reply(alloc, session, source, room, &mut writer.room, service);
-    put_out(session, writer);
-    session.end()
-}
-
-/// Steps a session until it is over. How it ended.
+/// Steps a session until it is over: reads on until a reply goes out, and writes it. How it ended.
 fn answer_all<R: Source, W: Sink, S: Service>(
     alloc: Global,
     session: &mut Session<S::Body>,
@@ -212,23 +179,12 @@ fn answer_all<R: Source, W: Sink, S: Service>(
     ensures places { vec_len room.new.spans ≡ vec_len room.old.spans }
 {
     loop {
-        if let Some(end) = exchange(alloc, session, source, room, writer, service) {
+        next_reply(alloc, session, source, room, &mut writer.room, service);
+        put_out(session, writer);
+        if let Some(end) = session.end() {
             return end;
         }
     }
-}
-
-/// Gives a session what came, for what it has of that.
-fn swap<D: Document + Drop>(session: &mut Session<D>, incoming: &mut Incoming)
-    requires { vec_len incoming.old.unread.buffer ≤ session.old.limits.head }
-    ensures session { session.new.incoming ≡ incoming.old }
-    ensures incoming { incoming.new ≡ session.old.incoming }
-    ensures limits { session.new.limits ≡ session.old.limits }
-    ensures ended { session.new.has_ended ≡ session.old.has_ended }
-    ensures requests { session.new.requests ≡ session.old.requests }
-    ensures state { session.new.state ≡ session.old.state }
-{
-    mem::swap(&mut session.incoming, incoming);
 }
 
 /// Answers the requests of a connection, one after another, until it ends. Then reader and writer are
@@ -252,8 +208,8 @@ pub fn serve<R: Source, W: Sink, S: Service>(
     ensures spent { IsTrue (is_spent reader.new) × IsTrue (sinks.is_writer_spent writer.new) }
 {
     // The session has what the reader has unread, and gives it back.
-    let mut session = Session::new(alloc, reader.limits);
-    swap(&mut session, &mut reader.incoming);
+    let incoming = mem::replace(&mut reader.incoming, Incoming::none(alloc));
+    let mut session = Session::over(reader.limits, incoming);
     let end = answer_all(
         alloc,
         &mut session,
@@ -262,7 +218,7 @@ pub fn serve<R: Source, W: Sink, S: Service>(
         writer,
         service,
     );
-    swap(&mut session, &mut reader.incoming);
+    mem::swap(&mut session.incoming, &mut reader.incoming);
     reader.spent = true;
     writer.spend();
     Served {

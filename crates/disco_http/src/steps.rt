@@ -2,13 +2,12 @@
 ghost use Rattle.std.specs.Prelude.{◌≤◌, vec_len};
 ghost use Rattle.std.specs.Vec.{vec_capacity};
 
-use crate::incoming::{Incoming, Phase, Room};
+use crate::incoming::{Incoming, Room};
 use crate::outgoing::{Outgoing, answer, refuse};
 use crate::replies::{body_of, put};
 use crate::service::Service;
 use crate::session::End;
 use crate::source::Stage;
-use crate::unread::Unread;
 use crate::writer::SMALL_BODY;
 use disco_message::{Document, HEAD_ROOM, Limits, Reply};
 use disco_values::Fault;
@@ -96,22 +95,30 @@ impl<D: Document + Drop> Session<D> {
     ghost use Rattle.disco_http.specs.Served.{refused};
     ghost use Rattle.disco_http.specs.Sessions.{Answered, HasDone, IsGoing, next_of, unsent};
     ghost use Rattle.disco_http.specs.Unread.{bytes_of};
+    ghost use Rattle.disco_http.specs.declared.incoming.Phase.TheVariants as phase;
     ghost use Rattle.disco_http.specs.declared.steps.State.TheVariants as state;
 
     /// A connection of which nothing came. Takes no memory.
     pub fn new(alloc: Global, limits: Limits) -> Session<D>
         ensures done { HasDone D.content result [] [] [] [] }
         ensures limits { result.limits ≡ limits }
+    {
+        Session::over(limits, Incoming::none(alloc))
+    }
+
+    /// A connection of which this came, and was not looked at.
+    pub(crate) fn over(limits: Limits, incoming: Incoming) -> Session<D>
+        requires size { vec_len incoming.unread.buffer ≤ limits.head }
+        ensures done { incoming.phase ≡ phase.Head → HasDone D.content result (bytes_of incoming.unread) [] [] [] }
         ensures looks { result.state ≡ state.Looks }
         ensures none { result.requests ≡ 0 }
         ensures goes { IsFalse result.has_ended }
+        ensures limits { result.limits ≡ limits }
+        ensures incoming { result.incoming ≡ incoming }
     {
         Session {
             limits,
-            incoming: Incoming {
-                unread: Unread::none(alloc),
-                phase: Phase::Head,
-            },
+            incoming,
             requests: 0,
             has_ended: false,
             state: State::Looks,
