@@ -1,6 +1,4 @@
-pub mod AnsweredRequests
 pub mod BodyTurns
-pub mod BrokenWrites
 pub mod CameBefore
 pub mod ChunkSteps
 pub mod Fuel
@@ -9,9 +7,9 @@ pub mod Known
 pub mod Lent
 pub mod Messages
 pub mod MoreBytes
-pub mod OneExchange
 pub mod ReadOn
 pub mod Refusals
+pub mod ServedSessions
 pub mod SessionSteps
 pub mod Slices
 pub mod Taken

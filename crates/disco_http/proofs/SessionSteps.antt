@@ -1,20 +1,26 @@
 -- The steps of a session.
-use Rattle.std.proofs.Common.{◌≡◌, ◌⊎◌, ℕ, ◌+◌, ◌-◌, ◌≤◌, ◌++◌, List, [], ◌∷◌, ap, ◌∙◌, sym, refl, subst, append_assoc, append-nil, arith, Bool, true, false, IsTrue, IsFalse, Option, is_some, drop, inl, inr, length, length-append, length-drop, take}
+use Rattle.std.proofs.Common.{◌≡◌, ◌≢◌, ◌⊎◌, ℕ, ◌+◌, ◌-◌, ◌≤◌, ◌++◌, List, None, Some, [], ◌∷◌, ap, ◌∙◌, sym, refl, subst, append_assoc, append-nil, arith, Bool, true, false, IsTrue, IsFalse, Option, is_some, drop, inl, inr, length, length-append, length-drop, nat_le, take}
 use Rattle.std.specs.List.{concat}
 use Rattle.std.proofs.lemmas.List.{drop-drop, take-append-drop, take_all}
 use Rattle.std.proofs.lemmas.List.Folds.{concat-append}
 use Rattle.std.proofs.Math.Seq.{drop-append-add, drop-append_seam}
+use Rattle.disco_values.specs.declared.fault.Fault.TheVariants.{OutOfMemory, ReadFailed, WriteFailed}
+use Rattle.disco_values.specs.declared.fault.Fault as fault
 use Rattle.disco_message.specs.declared.limits.Limits.{Limits}
 use Rattle.disco_message.specs.RequestView as message
-use Rattle.disco_http.specs.Requests.{TakesRequest}
+use Rattle.disco_http.specs.Requests.{Refused, TakesRequest}
 use Rattle.disco_message.specs.ReplyText.{ReplyView, reply_text}
 use Rattle.disco_http.specs.declared.session.End.{End}
+use Rattle.disco_http.specs.declared.session.End.TheVariants.{Asked, Closed, Fault, Limit}
 use Rattle.disco_http.specs.declared.incoming.Incoming.{Incoming}
+use Rattle.disco_http.specs.declared.steps.Session.{Session}
 use Rattle.disco_http.specs.declared.steps.State.{State}
+use Rattle.disco_http.specs.declared.steps.State.TheVariants.{Waits, Looks, Writes, Over}
 use Rattle.disco_http.specs.declared.incoming.Phase.TheVariants as phase
-use Rattle.disco_http.specs.Coming.{PhaseAt}
+use Rattle.disco_http.specs.Coming.{PhaseAt, is_of_asked}
+use Rattle.disco_http.specs.Exchanges.{LooksAt, Pauses, StopsReading, behind}
 use Rattle.disco_http.specs.Served.{end_behind}
-use Rattle.disco_http.specs.Sessions.{Fronts, Holds, IsGoing, Leaves, text_of, unsent}
+use Rattle.disco_http.specs.Sessions.{Answered, Fronts, HasDone, Holds, IsGoing, Leaves, is_limit, text_of, unsent}
 use Rattle.disco_http.specs.Unread.{bytes_of}
 use Rattle.disco_http.proofs.MoreBytes.{body_more, head_more}
 
@@ -96,3 +102,81 @@ taken_leaves limits incoming false false head = subst (λ at. PhaseAt limits (by
 pub true_or_false : (b : Bool) → IsTrue b ⊎ IsFalse b
 true_or_false true = inl refl
 true_or_false false = inr refl
+
+not_so : (f g : fault.Fault) → f ≡ g → IsTrue (is_of_asked f) → IsFalse (is_of_asked g) → ⊥
+not_so f g is has lacks = cc (is, has, lacks)
+
+-- the faults with which bytes are refused are none of the host's
+pub of_host : (f : fault.Fault) → IsTrue (is_of_asked f) → (f ≢ ReadFailed) × (f ≢ WriteFailed)
+of_host ReadFailed h = absurd (cc h)
+of_host WriteFailed h = absurd (cc h)
+of_host f h = ((λ e. not_so f ReadFailed e h refl), (λ e. not_so f WriteFailed e h refl))
+
+leaves_same : (limits : Limits) (a b : Incoming) (rest : List ℕ) (end : Option End) → b.phase ≡ a.phase → bytes_of b.unread ≡ bytes_of a.unread → Leaves limits a rest end → Leaves limits b rest end
+leaves_same limits a b rest None at same h = rw (at, same) h
+leaves_same limits a b rest (Some Closed) at same h = h
+leaves_same limits a b rest (Some (Fault f)) at same h = h
+leaves_same limits a b rest (Some Asked) at same h = h ∙ sym same
+leaves_same limits a b rest (Some Limit) at same h = h ∙ sym same
+
+held_same : {D : Type 0} (content : D → List ℕ) (limits : Limits) (a b : Incoming) (rest : List ℕ) (state : State D) → b.phase ≡ a.phase → bytes_of b.unread ≡ bytes_of a.unread → Holds content limits a state rest → Holds content limits b state rest
+held_same content limits a b rest Waits at same h = (rw (at, same) h.0, h.1, rw same h.2)
+held_same content limits a b rest Looks at same h = rw (at, same) h
+held_same content limits a b rest (Writes o) at same h = (leaves_same limits a b rest o.end at same h.0, h.1)
+held_same content limits a b rest (Over end) at same h = leaves_same limits a b rest (Some end) at same h
+
+-- a session that keeps another buffer has done the same
+module _ {D : Type 0} (content : D → List ℕ) (a b : Session D) (at : b.incoming.phase ≡ a.incoming.phase) (same : bytes_of b.incoming.unread ≡ bytes_of a.incoming.unread) (state : b.state ≡ a.state) (limits : b.limits ≡ a.limits) (ended : b.has_ended ≡ a.has_ended) (requests : b.requests ≡ a.requests) where
+  pub done_same : (given : List ℕ) (asks : List message.RequestView) (texts : List (List ℕ)) (out : List ℕ) → HasDone content a given asks texts out → HasDone content b given asks texts out
+  done_same given asks texts out h = record {
+    rest = h.rest;
+    fronts = rw limits h.fronts;
+    holds = rw (limits, state) (held_same content a.limits a.incoming b.incoming h.rest a.state at same h.holds);
+    put = rw state h.put;
+  }
+
+  -- and what it looked at was answered
+  pub answered_same : {S : Type 0} (answers : S → message.RequestView → ReplyView → S → Type 0) (before : Session D) (old new : S)
+      → ((given : List ℕ) (asks : List message.RequestView) (texts : List (List ℕ)) (out : List ℕ) → HasDone content before given asks texts out → LooksAt content answers before.requests a old new given asks texts out)
+      → Answered content answers before b old new
+  answered_same answers before old new looked given asks texts out h =
+      let limit : is_limit a ≡ is_limit b = sym (ap (λ (l : Limits). nat_le l.requests b.requests) limits ∙ ap (λ n. nat_le a.limits.requests n) requests) in
+      elim (looked given asks texts out h) [
+        | inl x ↦ inl (x.ask, x.reply, x.told, subst (λ l. HasDone content b given (asks ++ x.ask ∷ []) (texts ++ reply_text x.reply (is_some (end_behind x.ask.closes l)) ∷ []) out) limit (done_same given (asks ++ x.ask ∷ []) _ out x.done))
+        | inr x ↦
+            inr (
+              x.0,
+              elim x.2 [
+                | inl r ↦
+                    let why : (r.fault ≡ OutOfMemory) ⊎ (((more : List ℕ) → Refused b.limits r.fault (r.rest ++ more)) ⊎ (IsTrue b.has_ended × Refused b.limits r.fault r.rest)) = inr (rw (limits, ended) r.why) in
+                    inl (r.fault, r.rest, rw limits r.fronts, why, done_same given asks _ out r.done)
+                | inr d ↦ inr (done_same given asks texts out d.1)
+              ],
+            )
+      ]
+
+-- a session that waits has looked at what came, and done no more
+pub waiting : {D S : Type 0} (content : D → List ℕ) (answers : S → message.RequestView → ReplyView → S → Type 0) (count : ℕ) (session : Session D) (old new : S) (given : List ℕ) (asks : List message.RequestView) (texts : List (List ℕ)) (out : List ℕ)
+    → session.state ≡ Waits → LooksAt content answers count session old new given asks texts out → (new ≡ old) × (session.requests ≡ count) × HasDone content session given asks texts out
+waiting content answers count session old new given asks texts out waits (inl x) = absurd (cc (x.goes.1, waits))
+waiting content answers count session old new given asks texts out waits (inr x) =
+    elim x.2 [
+      | inl r ↦ absurd (cc (r.goes.1, waits))
+      | inr d ↦ (x.0, x.1, d.1)
+    ]
+
+-- one that doesn't wait reads no more
+pub stops_reading : {D : Type 0} (content : D → List ℕ) (limits : Limits) (room : List ℕ) (count now failed fails : ℕ) (state : State D) → (state ≡ Waits → ⊥) → fails ≡ failed → Pauses content limits room count now state → StopsReading content limits room count now failed fails state
+stops_reading content limits room count now failed fails Waits not same h = absurd (not refl)
+stops_reading content limits room count now failed fails Looks not same h = elim h [ ]
+stops_reading content limits room count now failed fails (Writes o) not same h = (same, h)
+stops_reading content limits room count now failed fails (Over end) not same h = rw h (same, refl)
+
+-- it doesn't wait there
+pub stopped : {D : Type 0} (content : D → List ℕ) (limits : Limits) (room : List ℕ) (count now failed fails : ℕ) (state : State D) → StopsReading content limits room count now failed fails state → state ≡ Waits → ⊥
+stopped content limits room count now failed fails state h waits = subst (StopsReading content limits room count now failed fails) waits h
+
+-- where a session is behind a reply
+pub behind_is : {D : Type 0} (state : State D) (end : Option End) → (end ≡ None → state ≡ Looks) → ((e : End) → end ≡ Some e → state ≡ Over e) → state ≡ behind end
+behind_is state None none some = none refl
+behind_is state (Some e) none some = some e refl

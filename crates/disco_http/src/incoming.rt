@@ -84,6 +84,18 @@ impl Incoming {
     ghost use Rattle.disco_http.specs.Unread.{bytes_of, room_of};
     ghost use Rattle.disco_http.specs.declared.incoming.Phase.TheVariants as phase;
 
+    /// Nothing of a request, and no buffer.
+    pub(crate) fn none(alloc: Global) -> Incoming
+        ensures none { bytes_of result.unread ≡ [] }
+        ensures size { vec_len result.unread.buffer ≡ 0 }
+        ensures phase { result.phase ≡ phase.Head }
+    {
+        Incoming {
+            unread: Unread::none(alloc),
+            phase: Phase::Head,
+        }
+    }
+
     /// Whether nothing came of the next request.
     pub(crate) fn is_between(&self) -> bool
         ensures { IsTrue result ↔ IsBetween self.now }

@@ -1,22 +1,32 @@
 //! One connection, from its first request to its end.
-ghost use Rattle.std.specs.Prelude.{◌≡◌, ◌≢◌, ◌+◌, ◌≤◌, ◌<◌, IfErr, IfOk, IfSome, IsFalse, IsTrue, None, Some};
+ghost use Rattle.std.specs.Prelude.{◌≡◌, ◌+◌, ◌++◌, ◌≤◌, ◌<◌, [], ℕ, List, Option, IfSome, IsFalse, IsTrue, None, OnErr, OnOk, Some, vec_len, length};
+ghost use Rattle.std.specs.List.{concat};
 ghost use Rattle.std.specs.Vec.{vec_capacity};
+ghost use Rattle.std.specs.Io.KnownBytes.{Consumes, IsAtEnd};
 ghost use Rattle.disco_values.specs.declared.fault.Fault.TheVariants.{ReadFailed, WriteFailed};
-ghost use Rattle.disco_http.specs.Causes.{Raises};
+ghost use Rattle.disco_message.specs.RequestView as message;
+ghost use Rattle.disco_http.specs.Causes.{Counts, Raises};
 ghost use Rattle.disco_http.specs.Streams.{ahead, is_spent, reader_limits, source_of};
-ghost use Rattle.disco_http.specs.Exchanges.{Comes, Exchanged, IsPut};
+ghost use Rattle.disco_http.specs.Exchanges.{Exchanged, IsPut, PutsOut, Replies, SoFar, StopsReading, to_come};
 ghost use Rattle.disco_http.specs.Served.{end_behind, left_by, AnswersAll};
+ghost use Rattle.disco_http.specs.Sessions.{HasDone};
+ghost use Rattle.disco_http.specs.declared.steps.State.TheVariants as state;
 ghost use Rattle.disco_http.specs.Sinks.{sink_of};
 ghost use Rattle.disco_http.specs.Sinks as sinks;
+ghost use Rattle.disco_http.specs.Unread.{bytes_of};
 
-use crate::outgoing::{Outgoing, answer, refuse};
+use crate::incoming::{Incoming, Room};
+use crate::outgoing::Outgoing;
 use crate::reader::Reader;
 use crate::replies::body_of;
 use crate::service::Service;
-use crate::source::{Sink, Source};
+use crate::source::{Failed, Sink, Source};
+use crate::steps::{Session, State};
 use crate::writer::Writer;
+use disco_message::Document;
 use disco_values::Fault;
 use std::alloc::Global;
+use std::mem;
 
 /// Why a connection ended.
 #[derive(Clone, Copy, Debug, PartialEq, Eq)]
@@ -52,92 +62,127 @@ pub(crate) fn end_behind(closes: bool, last: bool) -> Option<End>
     }
 }
 
-/// Reads the next request and answers or refuses it. The end of the connection, where nothing goes out.
+/// Reads once for a session that waits, and tells it where the input has ended.
+fn read<R: Source, D: Document + Drop>(
+    session: &mut Session<D>,
+    source: &mut R,
+) -> Result<(), Failed>
+    requires waits { session.old.state ≡ state.Waits }
+    requires goes { IsFalse session.old.has_ended }
+    requires room { length (bytes_of session.old.incoming.unread) < vec_len session.old.incoming.unread.buffer }
+    requires size { vec_len session.old.incoming.unread.buffer ≡ session.old.limits.head }
+    ensures came { OnOk result ((came : List ℕ) × Consumes (R.remaining source.old) (R.remaining source.new) came
+        × ((given : List ℕ) (asks : List message.RequestView) (texts : List (List ℕ)) (out : List ℕ)
+        → HasDone D.content session.old given asks texts out → HasDone D.content session.new (given ++ came) asks texts out)) }
+    ensures looks { OnOk result (session.new.state ≡ state.Looks) }
+    ensures less { OnOk result (to_come session.new < to_come session.old) }
+    ensures end { OnOk result (IsTrue session.new.has_ended → IsAtEnd (R.remaining source.new)) }
+    ensures broken { OnErr result ((bytes_of session.new.incoming.unread ≡ bytes_of session.old.incoming.unread) × Consumes (R.remaining source.old) (R.remaining source.new) []) }
+    ensures goes { OnErr result (IsFalse session.new.has_ended) }
+    ensures cause { Counts (R.failed source.old) (R.failed source.new) result }
+    ensures limits { session.new.limits ≡ session.old.limits }
+    ensures requests { session.new.requests ≡ session.old.requests }
+    ensures size { vec_len session.new.incoming.unread.buffer ≡ vec_len session.old.incoming.unread.buffer }
+{
+    let count = session.incoming.unread.read_from(source)?;
+    session.has_ended = count == 0;
+    drop(mem::replace(&mut session.state, State::Looks));
+    Ok(())
+}
+
+/// Looks at what came, and reads on where the session waits, until a reply goes out or it is over.
 fn next_reply<R: Source, S: Service>(
     alloc: Global,
-    reader: &mut Reader<R>,
+    session: &mut Session<S::Body>,
+    source: &mut R,
+    room: &mut Room,
     text: &mut Vec<u8>,
     service: &mut S,
-    requests: &mut u64,
-) -> Result<Outgoing<S::Body>, End>
-    requires fresh { IsFalse (is_spent reader.old) }
+)
+    requires looks { session.old.state ≡ state.Looks }
+    requires ended { IsTrue session.old.has_ended → IsAtEnd (R.remaining source.old) }
+    requires size { vec_len session.old.incoming.unread.buffer ≡ session.old.limits.head }
+    requires places { vec_len room.old.spans ≡ session.old.limits.fields }
     requires capacity { 4352 ≤ vec_capacity text.old }
-    requires few { requests.old < (reader_limits reader.old).requests }
-    ensures comes { IfSome (ahead R.remaining reader.old) (λ stream. Comes S.Body.content S.answers (reader_limits reader.old) stream
-        (left_by R.remaining reader.new) service.old service.new requests.old requests.new result) }
-    ensures limits { reader_limits reader.new ≡ reader_limits reader.old }
-    ensures goes { IfOk result (λ o. o.end ≡ None → (requests.new ≡ requests.old + 1) × (requests.new < (reader_limits reader.old).requests)) }
-    ensures fresh { IfOk result (λ o. o.end ≡ None → IsFalse (is_spent reader.new)) }
-    ensures none_failed { IfOk result (λ o. o.end ≡ None → R.failed (source_of reader.new) ≡ R.failed (source_of reader.old)) }
-    ensures host { IfOk result (λ o. (o.end ≢ Some (End.Fault ReadFailed)) × (o.end ≢ Some (End.Fault WriteFailed))) }
-    ensures cause { IfErr result (λ end. end ≡ End.Fault ReadFailed → Raises (R.failed (source_of reader.old)) (R.failed (source_of reader.new))) }
-    ensures not_written { IfErr result (λ end. end ≢ End.Fault WriteFailed) }
-    ensures put { IfOk result (IsPut S.Body.content text.new.items) }
+    ensures came { (came : List ℕ) × Consumes (R.remaining source.old) (R.remaining source.new) came
+        × Replies S.Body.content S.answers session.old session.new service.old service.new came }
+    ensures stops { StopsReading S.Body.content session.new.limits text.new.items session.old.requests session.new.requests
+        (R.failed source.old) (R.failed source.new) session.new.state }
+    ensures ended { IsTrue session.new.has_ended → IsAtEnd (R.remaining source.new) }
+    ensures limits { session.new.limits ≡ session.old.limits }
+    ensures size { vec_len session.new.incoming.unread.buffer ≡ vec_len session.old.incoming.unread.buffer }
+    ensures places { vec_len room.new.spans ≡ vec_len room.old.spans }
     ensures capacity { vec_capacity text.old ≤ vec_capacity text.new }
 {
-    match reader.read_request(alloc) {
-        Ok(Some(request)) => Ok(answer(
-            &reader.limits,
-            requests,
-            &mut reader.room,
-            text,
-            service,
-            request,
-        )),
-        Ok(None) => Err(End::Closed),
-        Err(Fault::ReadFailed) => Err(End::Fault(Fault::ReadFailed)),
-        Err(fault) => Ok(refuse(text, fault)),
+    let mut told = session.stage();
+    source.expect(told);
+    loop {
+        session.look(alloc, room, text, service);
+        if !session.waits() {
+            return;
+        }
+        let stage = session.stage();
+        if stage != told {
+            source.expect(stage);
+            told = stage;
+        }
+        if read(session, source).is_err() {
+            session.fail(Fault::ReadFailed);
+            return;
+        }
     }
 }
 
-/// Reads a request and writes its reply. How the connection ends behind it, if it does.
-fn exchange<R: Source, W: Sink, S: Service>(
-    alloc: Global,
-    reader: &mut Reader<R>,
-    writer: &mut Writer<W>,
-    service: &mut S,
-    requests: &mut u64,
-) -> Option<End>
-    requires fresh { IsFalse (is_spent reader.old) }
-    requires few { requests.old < (reader_limits reader.old).requests }
-    ensures step { IfSome (ahead R.remaining reader.old) (λ stream.
-        Exchanged S.answers (reader_limits reader.old) stream (left_by R.remaining reader.new) service.old service.new
-        (W.contents (sink_of writer.old)) (W.contents (sink_of writer.new)) requests.old requests.new result) }
-    ensures limits { reader_limits reader.new ≡ reader_limits reader.old }
-    ensures goes { result ≡ None → (requests.new ≡ requests.old + 1) × (requests.new < (reader_limits reader.old).requests) }
-    ensures fresh { result ≡ None → IsFalse (is_spent reader.new) }
-    ensures read_cause { result ≡ Some (End.Fault ReadFailed) → Raises (R.failed (source_of reader.old)) (R.failed (source_of reader.new)) }
-    ensures write_cause { result ≡ Some (End.Fault WriteFailed) → Raises (W.failed (sink_of writer.old)) (W.failed (sink_of writer.new)) }
-    ensures none_failed { result ≡ None → (R.failed (source_of reader.new) ≡ R.failed (source_of reader.old))
-        × (W.failed (sink_of writer.new) ≡ W.failed (sink_of writer.old)) }
+/// Writes the reply that goes out, if there is one.
+fn put_out<W: Sink, D: Document + Drop>(session: &mut Session<D>, writer: &mut Writer<W>)
+    requires { (o : Outgoing D) → session.old.state ≡ state.Writes o → IsPut D.content writer.old.room.items o }
+    ensures put { PutsOut D.content session.old.state session.new.state (W.contents (sink_of writer.old)) (W.contents (sink_of writer.new))
+        (W.failed (sink_of writer.old)) (W.failed (sink_of writer.new)) }
+    ensures done { (given : List ℕ) (asks : List message.RequestView) (texts : List (List ℕ)) (out : List ℕ) → HasDone D.content session.old given asks texts out
+        → session.new.state ≡ state.Looks → HasDone D.content session.new given asks texts (concat texts) }
+    ensures incoming { session.new.incoming ≡ session.old.incoming }
+    ensures limits { session.new.limits ≡ session.old.limits }
+    ensures ended { session.new.has_ended ≡ session.old.has_ended }
+    ensures requests { session.new.requests ≡ session.old.requests }
 {
-    match next_reply(alloc, reader, &mut writer.room, service, requests) {
-        Ok(outgoing) => match writer.send(outgoing.left, body_of(&outgoing.reply)) {
-            Ok(()) => outgoing.end,
-            Err(_) => Some(End::Fault(Fault::WriteFailed)),
-        },
-        Err(end) => Some(end),
+    let State::Writes(outgoing) = &session.state else {
+        return;
+    };
+    let left = outgoing.left;
+    match writer.send(left, body_of(&outgoing.reply)) {
+        Ok(()) => session.sent(left),
+        Err(_) => session.fail(Fault::WriteFailed),
     }
 }
 
-/// Answers the requests of a connection, one after another, until it ends.
+/// Steps a session until it is over: reads on until a reply goes out, and writes it. How it ended.
 fn answer_all<R: Source, W: Sink, S: Service>(
     alloc: Global,
-    reader: &mut Reader<R>,
+    session: &mut Session<S::Body>,
+    source: &mut R,
+    room: &mut Room,
     writer: &mut Writer<W>,
     service: &mut S,
-) -> Served
-    requires { IsFalse (is_spent reader.old) }
-    ensures answers { IfSome (ahead R.remaining reader.old) (λ stream.
-        AnswersAll S.answers (reader_limits reader.old) stream (left_by R.remaining reader.new) service.old service.new
-        (W.contents (sink_of writer.old)) (W.contents (sink_of writer.new)) result) }
-    ensures read_cause { result.end ≡ End.Fault ReadFailed → Raises (R.failed (source_of reader.old)) (R.failed (source_of reader.new)) }
-    ensures write_cause { result.end ≡ End.Fault WriteFailed → Raises (W.failed (sink_of writer.old)) (W.failed (sink_of writer.new)) }
+) -> End
+    requires looks { session.old.state ≡ state.Looks }
+    requires few { session.old.requests < session.old.limits.requests }
+    requires ended { IsTrue session.old.has_ended → IsAtEnd (R.remaining source.old) }
+    requires size { vec_len session.old.incoming.unread.buffer ≡ session.old.limits.head }
+    requires places { vec_len room.old.spans ≡ session.old.limits.fields }
+    ensures answers { (stream : List ℕ) (first : S) (before : Option (List ℕ))
+        → SoFar S.Body.content S.answers stream first before session.old (R.remaining source.old) service.old (W.contents (sink_of writer.old))
+        → Exchanged S.Body.content S.answers stream first before session.new (R.remaining source.new) service.new (W.contents (sink_of writer.new)) (Some result) }
+    ensures read_cause { result ≡ End.Fault ReadFailed → Raises (R.failed source.old) (R.failed source.new) }
+    ensures write_cause { result ≡ End.Fault WriteFailed → Raises (W.failed (sink_of writer.old)) (W.failed (sink_of writer.new)) }
+    ensures limits { session.new.limits ≡ session.old.limits }
+    ensures size { vec_len session.new.incoming.unread.buffer ≡ vec_len session.old.incoming.unread.buffer }
+    ensures places { vec_len room.new.spans ≡ vec_len room.old.spans }
 {
-    let mut requests = 0;
     loop {
-        if let Some(end) = exchange(alloc, reader, writer, service, &mut requests) {
-            return Served { requests, end };
+        next_reply(alloc, session, source, room, &mut writer.room, service);
+        put_out(session, writer);
+        if let Some(end) = session.end() {
+            return end;
         }
     }
 }
@@ -162,8 +207,22 @@ pub fn serve<R: Source, W: Sink, S: Service>(
     ensures write_cause { result.end ≡ End.Fault WriteFailed → Raises (W.failed (sink_of writer.old)) (W.failed (sink_of writer.new)) }
     ensures spent { IsTrue (is_spent reader.new) × IsTrue (sinks.is_writer_spent writer.new) }
 {
-    let served = answer_all(alloc, reader, writer, service);
-    reader.spend();
+    // The session has what the reader has unread, and gives it back.
+    let incoming = mem::replace(&mut reader.incoming, Incoming::none(alloc));
+    let mut session = Session::over(reader.limits, incoming);
+    let end = answer_all(
+        alloc,
+        &mut session,
+        &mut reader.source,
+        &mut reader.room,
+        writer,
+        service,
+    );
+    mem::swap(&mut session.incoming, &mut reader.incoming);
+    reader.spent = true;
     writer.spend();
-    served
+    Served {
+        requests: session.requests,
+        end,
+    }
 }

@@ -9,9 +9,8 @@ use crate::replies::{body_of, put};
 use crate::service::Service;
 use crate::session::End;
 use crate::source::Stage;
-use crate::unread::Unread;
 use crate::writer::SMALL_BODY;
-use disco_message::{Document, HEAD_ROOM, Limits, Reply, Request};
+use disco_message::{Document, HEAD_ROOM, Limits, Reply};
 use disco_values::Fault;
 use std::alloc::{AllocError, Global};
 
@@ -84,26 +83,26 @@ impl Buffers {
 /// One connection from its first byte to its end, without a socket.
 #[derive(Drop)]
 pub struct Session<D> {
-    limits: Limits,
-    incoming: Incoming,
+    pub(crate) limits: Limits,
+    pub(crate) incoming: Incoming,
     /// How many requests were answered.
-    requests: u64,
+    pub(crate) requests: u64,
     /// The input has ended.
-    has_ended: bool,
-    state: State<D>,
+    pub(crate) has_ended: bool,
+    pub(crate) state: State<D>,
     ghost size: { vec_len incoming.unread.buffer ≤ limits.head },
 }
 
 impl<D: Document + Drop> Session<D> {
-    ghost use Rattle.std.specs.Prelude.{◌≡◌, ◌⊎◌, ◌+◌, ◌-◌, ◌^◌, ◌≤◌, ◌<◌, ◌++◌, [], ℕ, List, IfErr, IfNone, IfOk, IfSome, IsFalse, IsSome, IsTrue, OnOk, Some, length, min, take};
+    ghost use Rattle.std.specs.Prelude.{◌≡◌, ◌↔◌, ◌⊎◌, ◌+◌, ◌-◌, ◌^◌, ◌≤◌, ◌<◌, ◌++◌, [], ℕ, List, IfOk, IsFalse, IsTrue, None, OnOk, Some, length, min, take};
     ghost use Rattle.disco_message.specs.RequestView as message;
-    ghost use Rattle.disco_values.specs.declared.fault.Fault.TheVariants.{BadRequest, OutOfMemory};
-    ghost use Rattle.disco_http.specs.Coming.{IsBetween, StandsFor, WaitsOn};
-    ghost use Rattle.disco_http.specs.Requests.{Refused, TakesRequest};
+    ghost use Rattle.disco_values.specs.declared.fault.Fault.TheVariants.{BadRequest};
+    ghost use Rattle.disco_http.specs.Coming.{IsBetween, most};
+    ghost use Rattle.disco_http.specs.Exchanges.{LooksAt, Pauses, end_of};
     ghost use Rattle.disco_http.specs.Served.{refused};
     ghost use Rattle.disco_http.specs.Sessions.{Answered, HasDone, IsGoing, LendsRoom, lent, next_of, unsent, with_lent};
-    ghost use Rattle.disco_http.specs.declared.incoming.Phase.TheVariants as phase;
     ghost use Rattle.disco_http.specs.Unread.{bytes_of};
+    ghost use Rattle.disco_http.specs.declared.incoming.Phase.TheVariants as phase;
     ghost use Rattle.disco_http.specs.declared.steps.State.TheVariants as state;
 
     /// A connection of which nothing came. Takes no memory.
@@ -111,12 +110,22 @@ impl<D: Document + Drop> Session<D> {
         ensures done { HasDone D.content result [] [] [] [] }
         ensures limits { result.limits ≡ limits }
     {
+        Session::over(limits, Incoming::none(alloc))
+    }
+
+    /// A connection of which this came, and was not looked at.
+    pub(crate) fn over(limits: Limits, incoming: Incoming) -> Session<D>
+        requires size { vec_len incoming.unread.buffer ≤ limits.head }
+        ensures done { incoming.phase ≡ phase.Head → HasDone D.content result (bytes_of incoming.unread) [] [] [] }
+        ensures looks { result.state ≡ state.Looks }
+        ensures none { result.requests ≡ 0 }
+        ensures goes { IsFalse result.has_ended }
+        ensures limits { result.limits ≡ limits }
+        ensures incoming { result.incoming ≡ incoming }
+    {
         Session {
             limits,
-            incoming: Incoming {
-                unread: Unread::none(alloc),
-                phase: Phase::Head,
-            },
+            incoming,
             requests: 0,
             has_ended: false,
             state: State::Looks,
@@ -132,6 +141,23 @@ impl<D: Document + Drop> Session<D> {
             State::Looks => Next::Answer,
             State::Writes(_) => Next::Write,
             State::Over(end) => Next::Over(*end),
+        }
+    }
+
+    /// Whether it waits for bytes.
+    pub(crate) fn waits(&self) -> bool
+        ensures { IsTrue result ↔ (self.now.state ≡ state.Waits) }
+    {
+        matches!(self.state, State::Waits)
+    }
+
+    /// How it ended, if it has.
+    pub(crate) fn end(&self) -> Option<End>
+        ensures { result ≡ end_of self.now.state }
+    {
+        match self.state {
+            State::Over(end) => Some(end),
+            _ => None,
         }
     }
 
@@ -228,48 +254,92 @@ impl<D: Document + Drop> Session<D> {
 
     /// Ends at once, since a read or a write failed.
     pub fn fail(&mut self, fault: Fault)
-        ensures { self.new.state ≡ state.Over (End.Fault fault) }
+        ensures state { self.new.state ≡ state.Over (End.Fault fault) }
+        ensures incoming { self.new.incoming ≡ self.old.incoming }
+        ensures limits { self.new.limits ≡ self.old.limits }
+        ensures ended { self.new.has_ended ≡ self.old.has_ended }
+        ensures requests { self.new.requests ≡ self.old.requests }
     {
         self.state = State::Over(End::Fault(fault));
     }
 
     /// Waits for bytes. At the end of the input it is over, or refuses what came of a request.
-    fn wait(&mut self, alloc: Global, buffers: &mut Buffers)
-        ensures waits { IsFalse self.old.has_ended → (self.new.state ≡ state.Waits) × (bytes_of self.new.incoming.unread ≡ bytes_of self.old.incoming.unread)
-            × (self.new.incoming.phase ≡ self.old.incoming.phase) }
-        ensures idle { IsFalse self.old.has_ended → bytes_of self.old.incoming.unread ≡ [] → vec_capacity self.new.incoming.unread.buffer ≡ 0 }
+    fn wait(&mut self, text: &mut Vec<u8>)
+        requires { 4352 ≤ vec_capacity text.old }
+        ensures waits { IsFalse self.old.has_ended → self.new.state ≡ state.Waits }
         ensures over { IsTrue self.old.has_ended → (IsBetween self.old.incoming × (self.new.state ≡ state.Over End.Closed))
             ⊎ ((IsBetween self.old.incoming → ⊥) × IsGoing D.content (refused BadRequest) (Some (End.Fault BadRequest)) self.new.state) }
+        ensures pauses { Pauses D.content self.new.limits text.new.items self.old.requests self.new.requests self.new.state }
+        ensures incoming { self.new.incoming ≡ self.old.incoming }
         ensures limits { self.new.limits ≡ self.old.limits }
         ensures ended { self.new.has_ended ≡ self.old.has_ended }
         ensures requests { self.new.requests ≡ self.old.requests }
+        ensures capacity { vec_capacity text.old ≤ vec_capacity text.new }
     {
         if !self.has_ended {
             self.state = State::Waits;
-            self.incoming.unread.release(alloc);
         } else if self.incoming.is_between() {
             self.state = State::Over(End::Closed);
         } else {
-            self.state = State::Writes(refuse(&mut buffers.text, Fault::BadRequest));
+            self.state = State::Writes(refuse(text, Fault::BadRequest));
         }
     }
 
-    /// The next whole request of what came, if there is one.
-    fn advance(&mut self, alloc: Global, buffers: &mut Buffers) -> Result<Option<Request>, Fault>
-        ensures whole { IfOk result (λ found. IfSome found (λ request. (given more : List ℕ) → StandsFor self.old.limits self.old.incoming given
-            → TakesRequest self.old.limits (given ++ more) request (bytes_of self.new.incoming.unread ++ more))) }
-        ensures phase { IfOk result (λ found. IsSome found → self.new.incoming.phase ≡ phase.Head) }
-        ensures waits { IfOk result (λ found. IfNone found (WaitsOn self.old.limits self.old.incoming self.new.incoming)) }
-        ensures small { IfOk result (λ found. IfNone found (length (bytes_of self.new.incoming.unread) < self.old.limits.head)) }
-        ensures refused { IfErr result (λ fault. (fault ≡ OutOfMemory) ⊎ ((given more : List ℕ) → StandsFor self.old.limits self.old.incoming given
-            → Refused self.old.limits fault (given ++ more))) }
+    /// Looks at what came: the next whole request is answered by the service, and what can be none is
+    /// refused.
+    pub(crate) fn look<S: Service<Body = D>>(
+        &mut self,
+        alloc: Global,
+        room: &mut Room,
+        text: &mut Vec<u8>,
+        service: &mut S,
+    )
+        requires looks { self.old.state ≡ state.Looks }
+        requires places { vec_len room.old.spans ≡ self.old.limits.fields }
+        requires capacity { 4352 ≤ vec_capacity text.old }
+        ensures looked { (given : List ℕ) (asks : List message.RequestView) (texts : List (List ℕ)) (out : List ℕ) → HasDone D.content self.old given asks texts out
+            → LooksAt D.content S.answers self.old.requests self.new service.old service.new given asks texts out }
+        ensures pauses { Pauses D.content self.new.limits text.new.items self.old.requests self.new.requests self.new.state }
+        ensures small { self.new.state ≡ state.Waits → length (bytes_of self.new.incoming.unread) < self.new.limits.head }
+        ensures least { self.new.state ≡ state.Waits → most self.new.limits self.new.incoming.phase (bytes_of self.new.incoming.unread)
+            ≤ most self.old.limits self.old.incoming.phase (bytes_of self.old.incoming.unread) }
+        ensures goes { self.new.state ≡ state.Waits → IsFalse self.new.has_ended }
+        ensures limits { self.new.limits ≡ self.old.limits }
+        ensures ended { self.new.has_ended ≡ self.old.has_ended }
+        ensures size { vec_len self.new.incoming.unread.buffer ≡ vec_len self.old.incoming.unread.buffer }
+        ensures places { vec_len room.new.spans ≡ vec_len room.old.spans }
+        ensures capacity { vec_capacity text.old ≤ vec_capacity text.new }
+        ensures counted { (self.new.requests ≡ self.old.requests) ⊎ (self.new.requests ≡ min (self.old.requests + 1) (2 ^ 64 - 1)) }
+    {
+        match self.incoming.advance(alloc, &self.limits, room) {
+            Ok(Some(request)) => {
+                self.state = State::Writes(answer(
+                    &self.limits,
+                    &mut self.requests,
+                    room,
+                    text,
+                    service,
+                    request,
+                ));
+            }
+            Ok(None) => self.wait(text),
+            Err(fault) => self.state = State::Writes(refuse(text, fault)),
+        }
+    }
+
+    /// Gives an empty buffer back while it waits.
+    fn spare(&mut self, alloc: Global)
+        ensures bytes { bytes_of self.new.incoming.unread ≡ bytes_of self.old.incoming.unread }
+        ensures phase { self.new.incoming.phase ≡ self.old.incoming.phase }
+        ensures state { self.new.state ≡ self.old.state }
+        ensures idle { self.old.state ≡ state.Waits → bytes_of self.old.incoming.unread ≡ [] → vec_capacity self.new.incoming.unread.buffer ≡ 0 }
         ensures limits { self.new.limits ≡ self.old.limits }
         ensures ended { self.new.has_ended ≡ self.old.has_ended }
         ensures requests { self.new.requests ≡ self.old.requests }
     {
-        buffers.room.fit(self.limits.fields)?;
-        self.incoming
-            .advance(alloc, &self.limits, &mut buffers.room)
+        if let State::Waits = self.state {
+            self.incoming.unread.release(alloc);
+        }
     }
 
     /// Looks at what came: the next whole request is answered by the service, and what can be none is
@@ -288,20 +358,12 @@ impl<D: Document + Drop> Session<D> {
         if !matches!(self.state, State::Looks) {
             return;
         }
-        match self.advance(alloc, buffers) {
-            Ok(Some(request)) => {
-                self.state = State::Writes(answer(
-                    &self.limits,
-                    &mut self.requests,
-                    &mut buffers.room,
-                    &mut buffers.text,
-                    service,
-                    request,
-                ));
-            }
-            Ok(None) => self.wait(alloc, buffers),
-            Err(fault) => self.state = State::Writes(refuse(&mut buffers.text, fault)),
+        if buffers.room.fit(self.limits.fields).is_err() {
+            self.state = State::Writes(refuse(&mut buffers.text, Fault::OutOfMemory));
+            return;
         }
+        self.look(alloc, &mut buffers.room, &mut buffers.text, service);
+        self.spare(alloc);
     }
 
     /// The bytes that are to be written next: some, where there are any.
@@ -326,6 +388,12 @@ impl<D: Document + Drop> Session<D> {
     pub fn sent(&mut self, count: usize)
         ensures sent { (given : List ℕ) (asks : List message.RequestView) (texts : List (List ℕ)) (out : List ℕ) → HasDone D.content self.old given asks texts out
             → count ≤ length (unsent D.content self.old.state) → HasDone D.content self.new given asks texts (out ++ take count (unsent D.content self.old.state)) }
+        ensures whole { (o : Outgoing D) → self.old.state ≡ state.Writes o → o.left ≤ count → o.end ≡ None → self.new.state ≡ state.Looks }
+        ensures last { (o : Outgoing D) (end : End) → self.old.state ≡ state.Writes o → o.left ≤ count → o.end ≡ Some end → self.new.state ≡ state.Over end }
+        ensures incoming { self.new.incoming ≡ self.old.incoming }
+        ensures limits { self.new.limits ≡ self.old.limits }
+        ensures ended { self.new.has_ended ≡ self.old.has_ended }
+        ensures requests { self.new.requests ≡ self.old.requests }
     {
         if let State::Writes(outgoing) = &mut self.state {
             outgoing.left = outgoing.left.saturating_sub(count);

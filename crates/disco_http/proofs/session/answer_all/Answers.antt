@@ -1,54 +1,37 @@
-use Rattle.std.proofs.Common.{◌≡◌, ◌<◌, ◌-◌, IfSome, None, Some, arith, refl, rules, subst, sym, ◌∙◌}
-use Rattle.disco_message.specs.declared.limits.Limits.{Limits}
-use Rattle.disco_http.specs.Streams.{ahead}
-use Rattle.disco_http.specs.Exchanges.{Exchanged}
-use Rattle.disco_http.specs.Served.{left_by}
-use Rattle.disco_http.proofs.AnsweredRequests.{begun, ends_with, goes_on}
+use Rattle.std.proofs.Common.{◌≡◌, Some, None, rules, sym, ◌∙◌}
+use Rattle.disco_http.specs.Exchanges.{end_of}
+use Rattle.disco_http.proofs.ServedSessions.{exchanged_on}
+use Rattle.disco_http.proofs.SessionSteps.{stopped}
 use Rattle.disco_http.proofs.session.answer_all.Goals as goal
 
-pub loop-end-init : goal.loop-end-init
-loop-end-init g c =
-    let limits = c.args.reader.now.limits in
-    record {
-      so_far = begun g.S.Service.answers limits limits.requests (ahead g.R.Source.remaining c.args.reader.now) c.args.service.now (g.W.Sink.contents c.args.writer.now.sink);
-      few = limits.some_requests;
-      limits = search rules;
-      fresh = search rules;
-      read = search rules;
-      wrote = search rules;
-    }
-
-pub loop-end-smaller : goal.loop-end-smaller
-loop-end-smaller g c =
+pub returns-in-Some-clause-answers : goal.returns-in-Some-clause-answers
+returns-in-Some-clause-answers g c stream first before so =
+    let content = g.S.Body.Document.content in
     let it = c.loop-end in
-    let goes = c.in_default.ensures.goes refl in
-    let same : c.exchange.new.reader.limits ≡ it.reader.limits = c.in_default.ensures.limits in
-    let less : it.reader.limits.requests - c.exchange.new.requests < it.reader.limits.requests - it.requests = omega (arith, goes.0, it.invariant.few) in
-    subst (λ (l : Limits). l.requests - c.exchange.new.requests < it.reader.limits.requests - it.requests) (sym same) less
+    let n = c.next_reply.ensures in
+    let p = c.put_out.ensures in
+    let mid = c.next_reply.new.session in
+    let new = c.put_out.new.session in
+    let is : end_of new.state ≡ Some c.in-Some.end = sym c.end.ensures ∙ c.in-Some.is in
+    rw is at (exchanged_on content g.S.Service.answers stream first before it.session mid new _ _ it.service c.next_reply.new.service _ _ _ _ (it.invariant.so_far stream first before so) n.came.0 n.came.1 it.invariant.few n.limits n.came.2 (stopped content mid.limits c.next_reply.new.text.items it.session.requests mid.requests _ _ mid.state n.stops) n.ended p.put p.done p.incoming p.limits p.requests)
 
 pub loop-end-preserved : goal.loop-end-preserved
 loop-end-preserved g c =
+    let content = g.S.Body.Document.content in
     let it = c.loop-end in
-    let inv = it.invariant in
-    let limits = c.args.reader.now.limits in
-    let left = left_by g.R.Source.remaining c.exchange.new.reader in
-    let goes = c.in_default.ensures.goes refl in
-    let same : c.exchange.new.reader.limits ≡ it.reader.limits = c.in_default.ensures.limits in
-    let step : IfSome (ahead g.R.Source.remaining it.reader) (λ stream. Exchanged g.S.Service.answers limits stream left it.service c.exchange.new.service (g.W.Sink.contents it.writer.sink) (g.W.Sink.contents c.exchange.new.writer.sink) it.requests c.exchange.new.requests None) = rw (c.in_default.is, inv.limits) at c.exchange.ensures.step in
+    let n = c.next_reply.ensures in
+    let p = c.put_out.ensures in
+    let mid = c.next_reply.new.session in
+    let new = c.put_out.new.session in
+    let is : end_of new.state ≡ None = sym c.end.ensures ∙ c.in_default.is in
     record {
-      so_far = goes_on g.S.Service.answers limits (ahead g.R.Source.remaining c.args.reader.now) c.args.service.now it.service c.exchange.new.service (g.W.Sink.contents c.args.writer.now.sink) (g.W.Sink.contents it.writer.sink) (g.W.Sink.contents c.exchange.new.writer.sink) (ahead g.R.Source.remaining it.reader) left it.requests c.exchange.new.requests (subst (λ (l : Limits). it.requests < l.requests) inv.limits inv.few) inv.so_far step;
-      few = subst (λ (l : Limits). c.exchange.new.requests < l.requests) (sym same) goes.1;
-      limits = same ∙ inv.limits;
-      fresh = search rules;
+      so_far = λ stream first before so. rw is at (exchanged_on content g.S.Service.answers stream first before it.session mid new _ _ it.service c.next_reply.new.service _ _ _ _ (it.invariant.so_far stream first before so) n.came.0 n.came.1 it.invariant.few n.limits n.came.2 (stopped content mid.limits c.next_reply.new.text.items it.session.requests mid.requests _ _ mid.state n.stops) n.ended p.put p.done p.incoming p.limits p.requests);
+      looks = search rules;
+      few = search rules;
+      ended = search rules;
+      limits = search rules;
+      size = search rules;
+      places = search rules;
       read = search rules;
       wrote = search rules;
     }
-
-pub returns-in-Some-clause-answers : goal.returns-in-Some-clause-answers
-returns-in-Some-clause-answers g c =
-    let it = c.loop-end in
-    let inv = it.invariant in
-    let limits = c.args.reader.now.limits in
-    let left = left_by g.R.Source.remaining c.exchange.new.reader in
-    let step : IfSome (ahead g.R.Source.remaining it.reader) (λ stream. Exchanged g.S.Service.answers limits stream left it.service c.exchange.new.service (g.W.Sink.contents it.writer.sink) (g.W.Sink.contents c.exchange.new.writer.sink) it.requests c.exchange.new.requests (Some c.in-Some.end)) = rw (c.in-Some.is, inv.limits) at c.exchange.ensures.step in
-    ends_with g.S.Service.answers limits (ahead g.R.Source.remaining c.args.reader.now) c.args.service.now it.service c.exchange.new.service (g.W.Sink.contents c.args.writer.now.sink) (g.W.Sink.contents it.writer.sink) (g.W.Sink.contents c.exchange.new.writer.sink) (ahead g.R.Source.remaining it.reader) left it.requests c.exchange.new.requests c.in-Some.end (subst (λ (l : Limits). it.requests < l.requests) inv.limits inv.few) inv.so_far step

@@ -1,5 +1,6 @@
-use Rattle.std.proofs.Common.{[], refl, sym}
+use Rattle.std.proofs.Common.{[], subst}
+use Rattle.disco_http.specs.Sessions.{HasDone}
 use Rattle.disco_http.proofs.steps.Session.new.Goals as goal
 
 pub returns-clause-done : goal.returns-clause-done
-returns-clause-done g c = record { rest = []; fronts = refl; holds = sym c.none.ensures.none; put = refl }
+returns-clause-done g c = subst (λ xs. HasDone g.D.Document.content c.over.result xs [] [] []) c.none.ensures.none (c.over.ensures.done c.none.ensures.phase)
