@@ -14,7 +14,8 @@ use Rattle.disco_http.specs.declared.incoming.Incoming.{Incoming}
 use Rattle.disco_http.specs.Unread.{bytes_of, room_of, with_room}
 use Rattle.disco_http.specs.contracts.steps.Session.{the_row}
 use Rattle.disco_http.specs.declared.session.End.{End}
-use Rattle.disco_http.specs.declared.session.End.TheVariants.{Closed, Fault}
+use Rattle.disco_http.specs.declared.session.End.TheVariants.{Closed}
+use Rattle.disco_http.specs.declared.session.End.TheVariants as ends
 use Rattle.disco_http.specs.declared.steps.Next.{Next}
 use Rattle.disco_http.specs.declared.steps.Next.TheVariants as next
 use Rattle.disco_http.specs.declared.outgoing.Outgoing.{Outgoing}
@@ -53,7 +54,7 @@ next_of (Over end) = next.Over end
 abbrev pub Leaves : Limits → Incoming → List ℕ → Option End → Type 0
 Leaves limits incoming rest None = StandsFor limits incoming rest
 Leaves limits incoming rest (Some Closed) = rest ≡ []
-Leaves limits incoming rest (Some (Fault f)) = ⊤
+Leaves limits incoming rest (Some (ends.Fault f)) = ⊤
 Leaves limits incoming rest (Some end) = rest ≡ bytes_of incoming.unread
 
 -- what it holds of the bytes behind the requests that it answered: where it waits for more, no whole request, and there is room for more
