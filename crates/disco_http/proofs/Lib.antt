@@ -7,6 +7,7 @@ pub mod Known
 pub mod Messages
 pub mod MoreBytes
 pub mod ReadOn
+pub mod ReadingSessions
 pub mod Refusals
 pub mod ServedSessions
 pub mod SessionSteps

@@ -76,9 +76,8 @@ fn read<R: Source, D: Document + Drop>(
         → HasDone D.content session.old given asks texts out → HasDone D.content session.new (given ++ came) asks texts out)) }
     ensures looks { OnOk result (session.new.state ≡ state.Looks) }
     ensures less { OnOk result (to_come session.new < to_come session.old) }
-    ensures end { OnOk result (IsTrue session.new.has_ended → IsAtEnd (R.remaining source.new)) }
-    ensures broken { OnErr result ((bytes_of session.new.incoming.unread ≡ bytes_of session.old.incoming.unread) × Consumes (R.remaining source.old) (R.remaining source.new) []) }
-    ensures goes { OnErr result (IsFalse session.new.has_ended) }
+    ensures ended { IsTrue session.new.has_ended → IsAtEnd (R.remaining source.new) }
+    ensures none { OnErr result (Consumes (R.remaining source.old) (R.remaining source.new) []) }
     ensures cause { Counts (R.failed source.old) (R.failed source.new) result }
     ensures limits { session.new.limits ≡ session.old.limits }
     ensures requests { session.new.requests ≡ session.old.requests }

@@ -1,7 +1,7 @@
 use Rattle.std.proofs.Common.{◌≡◌, Some, None, rules, sym, ◌∙◌}
 use Rattle.disco_http.specs.Exchanges.{end_of}
 use Rattle.disco_http.proofs.ServedSessions.{exchanged_on}
-use Rattle.disco_http.proofs.SessionSteps.{stopped}
+use Rattle.disco_http.proofs.ReadingSessions.{stopped}
 use Rattle.disco_http.proofs.session.answer_all.Goals as goal
 
 pub returns-in-Some-clause-answers : goal.returns-in-Some-clause-answers
