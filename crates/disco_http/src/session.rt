@@ -115,7 +115,7 @@ fn next_reply<R: Source, S: Service>(
 {
     let mut told = session.stage();
     source.expect(told);
-    loop {
+    'reads: loop {
         session.look(alloc, room, text, service);
         if !session.waits() {
             return;
@@ -177,7 +177,7 @@ fn answer_all<R: Source, W: Sink, S: Service>(
     ensures size { vec_len session.new.incoming.unread.buffer ≡ vec_len session.old.incoming.unread.buffer }
     ensures places { vec_len room.new.spans ≡ vec_len room.old.spans }
 {
-    loop {
+    'replies: loop {
         next_reply(alloc, session, source, room, &mut writer.room, service);
         put_out(session, writer);
         if let Some(end) = session.end() {

@@ -9,13 +9,13 @@ use Rattle.disco_http.proofs.session.next_reply.Goals as goal
 
 pub returns-then-not-waits-clause-came : goal.returns-then-not-waits-clause-came
 returns-then-not-waits-clause-came g c =
-    let it = c.loop-alloc in
+    let it = c.reads in
     let on = it.invariant.came in
     (on.0, on.1, λ given asks texts out h. inl (looked_on g.S.Body.Document.content g.S.Service.answers c.args.session.now it.session c.look.new.self c.args.service.now it.service c.look.new.service on.0 on.2 it.invariant.requests c.look.ensures.looked given asks texts out h))
 
 pub returns-then-is_err-clause-came : goal.returns-then-is_err-clause-came
 returns-then-is_err-clause-came g c =
-    let it = c.loop-alloc in
+    let it = c.reads in
     let on = it.invariant.came in
     let first = g.R.Source.remaining c.args.source.now in
     let mid = c.look.new.self in
@@ -30,10 +30,10 @@ returns-then-is_err-clause-came g c =
       λ given asks texts out h. inr (breaks_off g.S.Body.Document.content g.S.Service.answers c.args.session.now it.session mid c.args.service.now it.service c.look.new.service on.0 on.2 it.invariant.requests c.look.ensures.looked waits new c.fail.ensures.state limits requests given asks texts out h),
     )
 
-pub loop-alloc-preserved : goal.loop-alloc-preserved
-loop-alloc-preserved g c =
+pub reads-preserved : goal.reads-preserved
+reads-preserved g c =
     let content = g.S.Body.Document.content in
-    let it = c.loop-alloc in
+    let it = c.reads in
     let on = it.invariant.came in
     let mid = c.look.new.self in
     let new = c.read.new.session in
