@@ -8,6 +8,7 @@ pub mod Lent
 pub mod Messages
 pub mod MoreBytes
 pub mod ReadOn
+pub mod ReadingSessions
 pub mod Refusals
 pub mod ServedSessions
 pub mod SessionSteps

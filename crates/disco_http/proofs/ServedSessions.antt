@@ -162,6 +162,12 @@ pub ends_as : {S : Type 0} (answers : S → message.RequestView → ReplyView �
 ends_as answers stream first now before after left l m i j k n at limits incoming requests h = rw (limits, incoming, requests) h
 
 module _ {D S : Type 0} (content : D → List ℕ) (answers : S → message.RequestView → ReplyView → S → Type 0) (stream : List ℕ) (first : S) (before : Option (List ℕ)) (s0 s1 : Session D) (left0 left1 : Option (List ℕ)) (v0 v1 : S) (b c : Option (List ℕ)) (so : SoFar content answers stream first before s0 left0 v0 b) (came more : List ℕ) (read : Consumes left0 left1 came) (left_is : left1 ≡ Some more) (stream_is : stream ≡ (so.given ++ came) ++ more) (few : s0.requests < s0.limits.requests) (limits : s1.limits ≡ s0.limits) where
+  abbrev Answer : Type 0
+  Answer = AnswersHere content answers s0.requests s1 v0 v1 (so.given ++ came) so.asks (open_texts so.replies) (concat (open_texts so.replies))
+
+  abbrev Refusal : Type 0
+  Refusal = RefusesHere content s1 (so.given ++ came) so.asks (open_texts so.replies) (concat (open_texts so.replies))
+
   abbrev Ends : End → Type 0
   Ends at = AnswersAll answers s1.limits stream (left_at s1.incoming left1) first v1 before c (record { requests = s1.requests; end = at })
 
@@ -176,7 +182,7 @@ module _ {D S : Type 0} (content : D → List ℕ) (answers : S → message.Requ
   fronts : (asks : List message.RequestView) (rest : List ℕ) → Fronts s1.limits (so.given ++ came) asks rest → Fronts s1.limits stream asks (rest ++ more)
   fronts asks rest h = subst (λ xs. Fronts s1.limits xs asks (rest ++ more)) (sym stream_is) (fronts_more s1.limits (so.given ++ came) rest more asks h)
 
-  module _ (x : AnswersHere content answers s0.requests s1 v0 v1 (so.given ++ came) so.asks (open_texts so.replies) (concat (open_texts so.replies))) where
+  module _ (x : Answer) where
     count : length so.asks + 1 ≡ s1.requests
     count =
         let less : s0.requests < s1.limits.requests = subst (λ (l : Limits). s0.requests < l.requests) (sym limits) few in
@@ -242,7 +248,7 @@ module _ {D S : Type 0} (content : D → List ℕ) (answers : S → message.Requ
       put,
     )
 
-    ends_refused_by : (at : End) (x : RefusesHere content s1 (so.given ++ came) so.asks (open_texts so.replies) (concat (open_texts so.replies))) → (IsTrue s1.has_ended → more ≡ []) → Written at (Fault x.fault) before c (open_texts so.replies ++ reply_text (refused x.fault) true ∷ []) → Ends at
+    ends_refused_by : (at : End) (x : Refusal) → (IsTrue s1.has_ended → more ≡ []) → Written at (Fault x.fault) before c (open_texts so.replies ++ reply_text (refused x.fault) true ∷ []) → Ends at
     ends_refused_by at x none put =
         let text = texts-end so.replies (Fault x.fault) refl ∙ ap (λ xs. open_texts so.replies ++ xs) (refusal_text x.fault x.read x.wrote) in
         ends_here at (Fault x.fault) x.rest x.fronts (ends_refused s1.limits (x.rest ++ more) (left_at s1.incoming left1) x.fault x.read x.wrote (refused_on s1 x.fault x.rest more none x.why)) (rw text put)
@@ -266,7 +272,7 @@ module _ {D S : Type 0} (content : D → List ℕ) (answers : S → message.Requ
     over at is h =
         subst Goal (sym is) (ends_as answers stream first v1 before c left1 s1.limits s2.limits s1.incoming s2.incoming s1.requests s2.requests at limits2 incoming2 requests2 h)
 
-    wrote_answer : (x : AnswersHere content answers s0.requests s1 v0 v1 (so.given ++ came) so.asks (open_texts so.replies) (concat (open_texts so.replies))) (e : Option End) → end_behind x.ask.closes (is_limit s1) ≡ e → s2.state ≡ behind e → Appends b c (reply_text x.reply (is_some e)) → Goal s2.state
+    wrote_answer : (x : Answer) (e : Option End) → end_behind x.ask.closes (is_limit s1) ≡ e → s2.state ≡ behind e → Appends b c (reply_text x.reply (is_some e)) → Goal s2.state
     wrote_answer x None is state out =
         let text = subst (λ (e : Option End). HasDone content s1 (so.given ++ came) (so.asks ++ x.ask ∷ []) (open_texts so.replies ++ reply_text x.reply (is_some e) ∷ []) (concat (open_texts so.replies))) is x.done in
         subst Goal (sym state) (goes_answered x s2 limits2 requests2 is out (done _ _ _ _ text state))
@@ -274,7 +280,7 @@ module _ {D S : Type 0} (content : D → List ℕ) (answers : S → message.Requ
         let closing : Closing (end_behind x.ask.closes (is_limit s1)) end = rw is refl in
         over end state (ends_answered x end end closing (one_out end before b c (open_texts so.replies) (reply_text x.reply (is_some (end_behind x.ask.closes (is_limit s1)))) (by_end x.ask.closes (is_limit s1) end is) so.put (rw is out)))
 
-    answered : (x : AnswersHere content answers s0.requests s1 v0 v1 (so.given ++ came) so.asks (open_texts so.replies) (concat (open_texts so.replies))) → Goal s2.state
+    answered : (x : Answer) → Goal s2.state
     answered x =
         let e = end_behind x.ask.closes (is_limit s1) in
         let text = going_text content s1.state x.reply e x.goes in
@@ -285,7 +291,7 @@ module _ {D S : Type 0} (content : D → List ℕ) (answers : S → message.Requ
               over (Fault WriteFailed) w.0 (ends_answered x (Fault WriteFailed) k.0 k.1 (front_out k.0 before b c (open_texts so.replies) (reply_text x.reply (is_some e)) (last_reply x.ask.closes (is_limit s1) k.0 k.1).1 so.put (subst (AppendsProperFront b c) text w.1)))
         ]
 
-    refusal : v1 ≡ v0 → s1.requests ≡ s0.requests → (x : RefusesHere content s1 (so.given ++ came) so.asks (open_texts so.replies) (concat (open_texts so.replies))) → Goal s2.state
+    refusal : v1 ≡ v0 → s1.requests ≡ s0.requests → (x : Refusal) → Goal s2.state
     refusal same count x =
         let text = going_text content s1.state (refused x.fault) (Some (Fault x.fault)) x.goes in
         elim (subst (λ s. PutsOut content s s2.state b c i j) x.goes.1 put) [

@@ -18,7 +18,7 @@ use Rattle.disco_http.specs.declared.steps.State.{State}
 use Rattle.disco_http.specs.declared.steps.State.TheVariants.{Waits, Looks, Writes, Over}
 use Rattle.disco_http.specs.declared.incoming.Phase.TheVariants as phase
 use Rattle.disco_http.specs.Coming.{PhaseAt, is_of_asked}
-use Rattle.disco_http.specs.Exchanges.{LooksAt, Pauses, StopsReading, behind}
+use Rattle.disco_http.specs.Exchanges.{LooksAt, behind}
 use Rattle.disco_http.specs.Served.{end_behind}
 use Rattle.disco_http.specs.Sessions.{Answered, Fronts, HasDone, Holds, IsGoing, Leaves, is_limit, text_of, unsent}
 use Rattle.disco_http.specs.Unread.{bytes_of}
@@ -154,27 +154,6 @@ module _ {D : Type 0} (content : D → List ℕ) (a b : Session D) (at : b.incom
               ],
             )
       ]
-
--- a session that waits has looked at what came, and done no more
-pub waiting : {D S : Type 0} (content : D → List ℕ) (answers : S → message.RequestView → ReplyView → S → Type 0) (count : ℕ) (session : Session D) (old new : S) (given : List ℕ) (asks : List message.RequestView) (texts : List (List ℕ)) (out : List ℕ)
-    → session.state ≡ Waits → LooksAt content answers count session old new given asks texts out → (new ≡ old) × (session.requests ≡ count) × HasDone content session given asks texts out
-waiting content answers count session old new given asks texts out waits (inl x) = absurd (cc (x.goes.1, waits))
-waiting content answers count session old new given asks texts out waits (inr x) =
-    elim x.2 [
-      | inl r ↦ absurd (cc (r.goes.1, waits))
-      | inr d ↦ (x.0, x.1, d.1)
-    ]
-
--- one that doesn't wait reads no more
-pub stops_reading : {D : Type 0} (content : D → List ℕ) (limits : Limits) (room : List ℕ) (count now failed fails : ℕ) (state : State D) → (state ≡ Waits → ⊥) → fails ≡ failed → Pauses content limits room count now state → StopsReading content limits room count now failed fails state
-stops_reading content limits room count now failed fails Waits not same h = absurd (not refl)
-stops_reading content limits room count now failed fails Looks not same h = elim h [ ]
-stops_reading content limits room count now failed fails (Writes o) not same h = (same, h)
-stops_reading content limits room count now failed fails (Over end) not same h = rw h (same, refl)
-
--- it doesn't wait there
-pub stopped : {D : Type 0} (content : D → List ℕ) (limits : Limits) (room : List ℕ) (count now failed fails : ℕ) (state : State D) → StopsReading content limits room count now failed fails state → state ≡ Waits → ⊥
-stopped content limits room count now failed fails state h waits = subst (StopsReading content limits room count now failed fails) waits h
 
 -- where a session is behind a reply
 pub behind_is : {D : Type 0} (state : State D) (end : Option End) → (end ≡ None → state ≡ Looks) → ((e : End) → end ≡ Some e → state ≡ Over e) → state ≡ behind end

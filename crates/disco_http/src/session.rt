@@ -76,9 +76,8 @@ fn read<R: Source, D: Document + Drop>(
         → HasDone D.content session.old given asks texts out → HasDone D.content session.new (given ++ came) asks texts out)) }
     ensures looks { OnOk result (session.new.state ≡ state.Looks) }
     ensures less { OnOk result (to_come session.new < to_come session.old) }
-    ensures end { OnOk result (IsTrue session.new.has_ended → IsAtEnd (R.remaining source.new)) }
-    ensures broken { OnErr result ((bytes_of session.new.incoming.unread ≡ bytes_of session.old.incoming.unread) × Consumes (R.remaining source.old) (R.remaining source.new) []) }
-    ensures goes { OnErr result (IsFalse session.new.has_ended) }
+    ensures ended { IsTrue session.new.has_ended → IsAtEnd (R.remaining source.new) }
+    ensures none { OnErr result (Consumes (R.remaining source.old) (R.remaining source.new) []) }
     ensures cause { Counts (R.failed source.old) (R.failed source.new) result }
     ensures limits { session.new.limits ≡ session.old.limits }
     ensures requests { session.new.requests ≡ session.old.requests }
@@ -116,7 +115,7 @@ fn next_reply<R: Source, S: Service>(
 {
     let mut told = session.stage();
     source.expect(told);
-    loop {
+    'reads: loop {
         session.look(alloc, room, text, service);
         if !session.waits() {
             return;
@@ -178,7 +177,7 @@ fn answer_all<R: Source, W: Sink, S: Service>(
     ensures size { vec_len session.new.incoming.unread.buffer ≡ vec_len session.old.incoming.unread.buffer }
     ensures places { vec_len room.new.spans ≡ vec_len room.old.spans }
 {
-    loop {
+    'replies: loop {
         next_reply(alloc, session, source, room, &mut writer.room, service);
         put_out(session, writer);
         if let Some(end) = session.end() {

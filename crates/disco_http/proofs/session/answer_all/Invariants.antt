@@ -4,8 +4,8 @@ use Rattle.disco_http.specs.Exchanges.{SoFar}
 use Rattle.disco_http.specs.declared.steps.State.TheVariants.{Looks}
 use Rattle.disco_http.proofs.session.answer_all.Given as goal
 
-abbrev pub invariant-loop-end : goal.invariant-loop-end
-invariant-loop-end g l = record {
+abbrev pub invariant-replies : goal.invariant-replies
+invariant-replies g l = record {
   so_far : (stream : List ℕ) (first : _) (before : Option (List ℕ)) → SoFar g.S.Body.Document.content g.S.Service.answers stream first before l.fn.session (g.R.Source.remaining l.fn.source) l.fn.service (g.W.Sink.contents l.fn.writer.sink)
       → SoFar g.S.Body.Document.content g.S.Service.answers stream first before l.session (g.R.Source.remaining l.source) l.service (g.W.Sink.contents l.writer.sink);
   looks : l.session.state ≡ Looks;
@@ -18,5 +18,5 @@ invariant-loop-end g l = record {
   wrote : g.W.Sink.failed l.writer.sink ≡ g.W.Sink.failed l.fn.writer.sink;
 }
 
-abbrev pub decreases-loop-end : goal.decreases-loop-end
-decreases-loop-end g l = l.session.limits.requests - l.session.requests
+abbrev pub decreases-replies : goal.decreases-replies
+decreases-replies g l = l.session.limits.requests - l.session.requests

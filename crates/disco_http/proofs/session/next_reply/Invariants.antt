@@ -5,8 +5,8 @@ use Rattle.disco_http.specs.Exchanges.{GoesOn, to_come}
 use Rattle.disco_http.specs.declared.steps.State.TheVariants.{Looks}
 use Rattle.disco_http.proofs.session.next_reply.Given as goal
 
-abbrev pub invariant-loop-alloc : goal.invariant-loop-alloc
-invariant-loop-alloc g l = record {
+abbrev pub invariant-reads : goal.invariant-reads
+invariant-reads g l = record {
   came : (came : List ℕ) × Consumes (g.R.Source.remaining l.fn.source) (g.R.Source.remaining l.source) came
       × GoesOn g.S.Body.Document.content l.fn.session l.session l.fn.service l.service came;
   looks : l.session.state ≡ Looks;
@@ -19,5 +19,5 @@ invariant-loop-alloc g l = record {
   failed : g.R.Source.failed l.source ≡ g.R.Source.failed l.fn.source;
 }
 
-abbrev pub decreases-loop-alloc : goal.decreases-loop-alloc
-decreases-loop-alloc g l = to_come l.session
+abbrev pub decreases-reads : goal.decreases-reads
+decreases-reads g l = to_come l.session
