@@ -31,11 +31,6 @@ stays_as k v o is = λ q. one q (same_key q k) refl
 moved_to : (k : Key) (o : Option LeaseEntry) (old v w : Leases) → w ≡ v → Sets k o old v → Sets k o old w
 moved_to k o old v w same sets = λ q. ap (λ (x : Leases). lease_at x q) same ∙ sets q
 
--- a lease that ends, or is missing, is gone
-pub ended : {A : Type 0} (r : Result A Fault) (k : Key) (old new : Leases) → OnOk r (Sets k None old new) → OnErr r (new ≡ old) → OnErr r (lease_at old k ≡ None) → Sets k None old new
-ended (Ok x) k old new sets same none = sets
-ended (Err e) k old new sets same none = moved_to k None old old new same (stays_as k old None none)
-
 none_moves : (now : ℕ) (o : Option LeaseEntry) → o ≡ None → o ≡ option_map (extended now) o
 none_moves now None is = refl
 none_moves now (Some l) is = absurd (cc)
@@ -57,10 +52,6 @@ is_set k o old new sets = sets k ∙ ap (λ b. cond b o (lease_at old k)) (itsel
 pub on_ok : {A : Type 0} (r : Result A Fault) (P : Type 0) → P → OnOk r P
 on_ok (Ok x) P p = p
 on_ok (Err e) P p = tt
-
--- a sweep leaves what was set
-pub kept_by_sweep : (k : Key) (o : Option LeaseEntry) (old mid new : Leases) → leases.IsSameLeases mid new → Sets k o old mid → Sets k o old new
-kept_by_sweep k o old mid new same sets = λ q. same.leases q ∙ sets q
 
 -- ---- places that are given back
 
