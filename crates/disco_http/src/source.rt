@@ -83,6 +83,7 @@ pub struct Counted<T> {
 }
 
 impl<T> Counted<T> {
+    /// A reader or writer of which no failure was counted yet.
     pub fn new(inner: T) -> Counted<T>
         ensures inner { result.inner ≡ inner }
         ensures none { result.failures ≡ 0 }
