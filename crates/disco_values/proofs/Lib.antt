@@ -3,5 +3,4 @@ mod InUpperCase
 mod Merged
 pub mod Orders
 pub mod Parsed
-pub mod Printed
 mod Puts

@@ -1,8 +1,7 @@
 //! Numbers in decimal digits.
-ghost use Rattle.std.specs.Prelude.{◌≡◌, ◌≤◌, ◌<◌, ◌+◌, ◌*◌, ◌^◌, ◌++◌, true, length, vec_len, SomeIff};
+ghost use Rattle.std.specs.Prelude.{◌≡◌, ◌<◌, ◌+◌, ◌*◌, ◌^◌, true, SomeIff};
 ghost use Rattle.std.specs.Char.{digit_value, is_ascii_digit};
-ghost use Rattle.disco_values.specs.Digits.{digits_number, digits};
-ghost use Rattle.std.specs.Vec.{vec_capacity};
+ghost use Rattle.disco_values.specs.Digits.{digits_number};
 
 /// The number with one more digit behind it, where the byte is a digit and the number stays below
 /// 2^64.
@@ -28,17 +27,4 @@ pub fn number_of_digits(text: &str) -> Option<u64>
         number = with_digit(number, *byte)?;
     }
     Some(number)
-}
-
-/// Pushes a number in decimal digits, none for 0, into room that is there. Takes no memory.
-pub fn push_digits(out: &mut Vec<u8>, number: u64)
-    requires { vec_len out.old + length (digits number) ≤ vec_capacity out.old }
-    ensures text { out.new.items ≡ out.old.items ++ digits number }
-    ensures len { vec_len out.new ≡ vec_len out.old + length (digits number) }
-    ensures capacity { vec_capacity out.new ≡ vec_capacity out.old }
-{
-    if number > 0 {
-        push_digits(out, number / 10);
-        out.push_reserved(48 + (number % 10) as u8);
-    }
 }

@@ -25,7 +25,7 @@ mod text;
 pub use action::{Action, action_of};
 pub use bytes::Bytes;
 pub use cert::Cert;
-pub use digits::{number_of_digits, push_digits};
+pub use digits::number_of_digits;
 pub use doc_key::DocKey;
 pub use entries::Entries;
 pub use fault::{Fault, Field};
