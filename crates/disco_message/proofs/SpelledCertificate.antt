@@ -1,62 +1,40 @@
 -- A certificate that is spelled is read as itself.
-use Rattle.std.proofs.Common.{◌≡◌, ℕ, ◌+◌, ◌<◌, ◌^◌, Bool, true, false, List, [], ◌∷◌, ◌++◌, length, map, take, drop, Some, codes, ◌==◌, if◌then◌else◌, refl, ap, sym, ◌∙◌, arith, append_assoc}
+use Rattle.std.proofs.Common.{◌≡◌, ℕ, zero, suc, ◌+◌, ◌/◌, ◌%◌, ◌<◌, Bool, true, false, List, [], ◌∷◌, ◌++◌, take, drop, Some, codes, ◌==◌, if◌then◌else◌, refl, ap, ◌∙◌, arith, append_assoc}
 use native.Mathlib.Numerals.{unary_clauses}
 use Rattle.std.specs.Char.{is_ascii_digit}
-use Rattle.std.specs.Fmt.{decimal}
-use Rattle.std.specs.Int.Digits.{digits_of}
-use Rattle.std.specs.List.{AllByRecursion, after_first, before_first, list_all}
+use Rattle.std.specs.Fmt.{decimal, digit_glyph, digits, digits_onto}
+use Rattle.std.specs.List.{after_first, before_first, list_all}
 use Rattle.std.proofs.lemmas.Bool.Decides.{nat_tests}
-use Rattle.std.proofs.lemmas.Fmt.{decimal-digits_of, decimal_digit}
-use Rattle.std.proofs.lemmas.Int.Digits.{all_below_base_digits_of}
-use Rattle.disco_values.specs.Digits.{digits, digits_number}
+use Rattle.disco_values.specs.Digits.{digits_number}
 use Rattle.disco_values.proofs.Parsed.{digits_again}
-use Rattle.disco_values.proofs.Printed.{length-digits-step}
 use Rattle.disco_values.specs.declared.cert.Cert.{Cert}
 use Rattle.disco_message.specs.Certificate.{behind_space, cert_by, cert_spelled, is_blank}
 use Rattle.disco_message.specs.Laws.{IsInRange}
-use Rattle.disco_message.specs.ReplyText.{number_text}
 
 -- run, base and version as they are written
 abbrev pub cert_text : Cert → List ℕ
-cert_text c = number_text c.run ++ codes " " ++ number_text c.base ++ codes " " ++ number_text c.version
+cert_text c = decimal c.run ++ codes " " ++ decimal c.base ++ codes " " ++ decimal c.version
 
 -- ---- numbers
 
-all_digits : (ds : List ℕ) → AllByRecursion (λ d. d < 10) ds → list_all is_ascii_digit (map (λ d. 48 + d) ds) ≡ true
-all_digits [] all = refl
-all_digits (d ∷ ds) all = grind (arith, nat_tests, all.0, all_digits ds all.1)
+onto_digits : (k n : ℕ) (ds : List ℕ) → list_all is_ascii_digit ds ≡ true → list_all is_ascii_digit (digits_onto k 10 false n ds) ≡ true
+onto_digits zero n ds all = all
+onto_digits (suc k) n ds all = by (n / 10 == 0) (onto_digits k (n / 10) (digit_glyph false (n % 10) ∷ ds) more)
+  where
+    last : is_ascii_digit (digit_glyph false (n % 10)) ≡ true
+    last = let small : n % 10 < 10 = omega arith in grind (arith, nat_tests, small)
 
-are_digits : (n : ℕ) → list_all is_ascii_digit (digits n) ≡ true
+    more : list_all is_ascii_digit (digit_glyph false (n % 10) ∷ ds) ≡ true
+    more = rw last all
+
+    by : (t : Bool) → list_all is_ascii_digit (digits_onto k 10 false (n / 10) (digit_glyph false (n % 10) ∷ ds)) ≡ true
+        → list_all is_ascii_digit (if t then digit_glyph false (n % 10) ∷ ds else digits_onto k 10 false (n / 10) (digit_glyph false (n % 10) ∷ ds)) ≡ true
+    by true rest = more
+    by false rest = rest
+
+pub number_digits : (n : ℕ) → list_all is_ascii_digit (decimal n) ≡ true
 unfolding digits
-are_digits n = all_digits (digits_of 10 n) (all_below_base_digits_of 10 n (omega arith))
-
-pub number_digits : (n : ℕ) → list_all is_ascii_digit (number_text n) ≡ true
-number_digits n = by (n == 0)
-  where
-    by : (t : Bool) → list_all is_ascii_digit (if t then 48 ∷ [] else digits n) ≡ true
-    by true = refl
-    by false = are_digits n
-
-as_decimal : (n : ℕ) → 0 < n → n < 2 ^ 64 → digits n ≡ decimal n
-unfolding digits
-as_decimal n some small = sym (decimal-digits_of n some small)
-
-number_decimal : (n : ℕ) → n < 2 ^ 64 → number_text n ≡ decimal n
-number_decimal n small = by (n == 0) refl
-  where
-    by : (t : Bool) → (n == 0) ≡ t → (if t then 48 ∷ [] else digits n) ≡ decimal n
-    by true e = let zero : n ≡ 0 = grind (arith, nat_tests, e) in rw zero (sym (decimal_digit 0 (omega arith)))
-    by false e = as_decimal n (grind (arith, nat_tests, e)) small
-
-number_again : (n : ℕ) → n < 2 ^ 64 → digits_number (number_text n) ≡ Some n
-number_again n small = ap digits_number (number_decimal n small) ∙ digits_again n small
-
-pub number_some : (n : ℕ) → 0 < length (number_text n)
-number_some n = by (n == 0) refl
-  where
-    by : (t : Bool) → (n == 0) ≡ t → 0 < length (if t then 48 ∷ [] else digits n)
-    by true e = omega arith
-    by false e = let some : 0 < n = grind (arith, nat_tests, e) in omega (arith, length-digits-step n some)
+number_digits n = onto_digits 64 n [] refl
 
 -- ---- parts
 
@@ -109,6 +87,6 @@ spelled_parts r b v rs bs =
 
 pub spelled_again : (c : Cert) → IsInRange c → cert_spelled (cert_text c) ≡ Some c
 spelled_again c fits =
-    ap cert_spelled (parted (number_text c.run) (number_text c.base) (number_text c.version))
-    ∙ spelled_parts (number_text c.run) (number_text c.base) (number_text c.version) (number_digits c.run) (number_digits c.base)
-    ∙ rw (number_again c.run fits.0, number_again c.base fits.1, number_again c.version fits.2) refl
+    ap cert_spelled (parted (decimal c.run) (decimal c.base) (decimal c.version))
+    ∙ spelled_parts (decimal c.run) (decimal c.base) (decimal c.version) (number_digits c.run) (number_digits c.base)
+    ∙ rw (digits_again c.run fits.0, digits_again c.base fits.1, digits_again c.version fits.2) refl

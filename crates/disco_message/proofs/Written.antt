@@ -1,8 +1,9 @@
 -- The head of a reply, as the tree that its reader makes of it.
-use Rattle.std.proofs.Common.{◌≡◌, ℕ, Bool, true, false, ◌&&◌, ◌||◌, ◌<◌, List, [], ◌∷◌, ◌++◌, length, map, reverse, All, Option, Some, None, IfSome, codes, ◌==◌, nat_lt, if◌then◌else◌, refl, ap, sym, ◌∙◌, arith, append_assoc, append-nil}
+use Rattle.std.proofs.Common.{◌≡◌, ℕ, Bool, true, false, ◌&&◌, ◌||◌, ◌<◌, List, [], ◌∷◌, ◌++◌, length, map, reverse, All, Option, Some, None, IfSome, codes, decimal, ◌==◌, nat_lt, if◌then◌else◌, refl, ap, sym, ◌∙◌, arith, append_assoc, append-nil}
 use Rattle.std.specs.Char.{is_ascii_digit}
 use Rattle.std.specs.List.{flat_map, list_all}
 use Rattle.std.proofs.lemmas.Bool.Decides.{nat_tests}
+use Rattle.std.proofs.lemmas.Fmt.{decimal_nonempty}
 use Rattle.std.proofs.lemmas.Grind.{flat_map-append}
 use Rattle.std.proofs.lemmas.List.{length-reverse, map-append, reverse-append}
 use Rattle.std.proofs.lemmas.List.Folds.{list_all-append}
@@ -17,11 +18,11 @@ use Rattle.disco_values.specs.declared.cert.Cert.{Cert}
 use Rattle.disco_message.specs.Certificate.{cert_spelled, only_cert}
 use Rattle.disco_message.specs.Fields.{eq_ignore_case, field_values}
 use Rattle.disco_message.specs.Laws.{CertificateLaw, IsInRange}
-use Rattle.disco_message.specs.ReplyText.{allow_line, body_lines, certificate_line, close_line, content_lines, length_line, number_text, reply_head, type_line}
+use Rattle.disco_message.specs.ReplyText.{allow_line, body_lines, certificate_line, close_line, content_lines, length_line, reply_head, type_line}
 use Rattle.disco_message.specs.StatusLine.{allowed, phrase, status_line}
 use Rattle.disco_message.specs.declared.status_line.Allow.{Allow}
 use Rattle.disco_message.specs.declared.status_line.Allow.TheVariants.{Get, GetPost, GetPutDelete, PutDelete, Put}
-use Rattle.disco_message.proofs.SpelledCertificate.{cert_text, number_digits, number_some, first_digit, more_digits, parted, spelled_again}
+use Rattle.disco_message.proofs.SpelledCertificate.{cert_text, number_digits, first_digit, more_digits, parted, spelled_again}
 use Rattle.disco_message.proofs.StatusLines.{left_of, right_of, digits_good, phrase_good}
 
 -- ---- the fields
@@ -30,7 +31,7 @@ abbrev field : List ℕ → List ℕ → Field
 field name value = record { name = name; raw = 32 ∷ value; end = crlf }
 
 abbrev length_field : ℕ → Field
-length_field n = field (codes "Content-Length") (number_text n)
+length_field n = field (codes "Content-Length") (decimal n)
 
 abbrev content_fields : Option ℕ → List Field
 content_fields None = length_field 0 ∷ []
@@ -116,16 +117,16 @@ joined p xs ys a b = list_all-append p xs ys ∙ rw (a, b) refl
 cert_bytes : (c : Cert) → list_all is_value_byte (cert_text c) ≡ true
 cert_bytes c =
     let test = is_value_byte in
-    let r = number_text c.run in
-    let b = number_text c.base in
-    let v = number_text c.version in
-    let of : (n : ℕ) → list_all test (number_text n) ≡ true = λ n. value_bytes (number_text n) (number_digits n) in
+    let r = decimal c.run in
+    let b = decimal c.base in
+    let v = decimal c.version in
+    let of : (n : ℕ) → list_all test (decimal n) ≡ true = λ n. value_bytes (decimal n) (number_digits n) in
     joined test (r ++ codes " " ++ b ++ codes " ") v (joined test (r ++ codes " " ++ b) (codes " ") (joined test (r ++ codes " ") b (joined test r (codes " ") (of c.run) refl) (of c.base)) refl) (of c.version)
 
 content_good : (size : Option ℕ) → list_all is_field (content_fields size) ≡ true
 unfolding is_token_byte
-content_good None = rw (value_bytes (number_text 0) (number_digits 0)) refl
-content_good (Some n) = rw (value_bytes (number_text n) (number_digits n)) refl
+content_good None = rw (value_bytes (decimal 0) (number_digits 0)) refl
+content_good (Some n) = rw (value_bytes (decimal n) (number_digits n)) refl
 
 body_good : (s : ℕ) (size : Option ℕ) → list_all is_field (body_fields s size) ≡ true
 body_good s size = by (s == 204)
@@ -213,21 +214,21 @@ skip_digits (d ∷ ds) rest e some = let other : (d == 32 || d == 9) ≡ false =
 digits_back : (ds : List ℕ) → list_all is_ascii_digit ds ≡ true → list_all is_ascii_digit (reverse ds) ≡ true
 digits_back ds e = list_all-from_AllPass is_ascii_digit (reverse ds) (AllPass-reverse is_ascii_digit ds (AllPass-from_list_all is_ascii_digit ds e))
 
-trimmed : (c : Cert) → trim_ows (32 ∷ cert_text c) ≡ cert_text c
-trimmed c =
-    let r = number_text c.run in
-    let b = number_text c.base in
-    let v = number_text c.version in
-    let front : skip_ows (cert_text c) ≡ cert_text c = ap skip_ows (parted r b v) ∙ skip_digits r (32 ∷ (b ++ 32 ∷ v)) (number_digits c.run) (number_some c.run) ∙ sym (parted r b v) in
+trimmed : (c : Cert) → IsInRange c → trim_ows (32 ∷ cert_text c) ≡ cert_text c
+trimmed c fits =
+    let r = decimal c.run in
+    let b = decimal c.base in
+    let v = decimal c.version in
+    let front : skip_ows (cert_text c) ≡ cert_text c = ap skip_ows (parted r b v) ∙ skip_digits r (32 ∷ (b ++ 32 ∷ v)) (number_digits c.run) (decimal_nonempty c.run fits.0) ∙ sym (parted r b v) in
     let turned = reverse-append (r ++ codes " " ++ b ++ codes " ") v in
-    let some : 0 < length (reverse v) = omega (arith, length-reverse v, number_some c.version) in
+    let some : 0 < length (reverse v) = omega (arith, length-reverse v, decimal_nonempty c.version fits.2) in
     let back : skip_ows (reverse (cert_text c)) ≡ reverse (cert_text c) = ap skip_ows turned ∙ skip_digits (reverse v) (reverse (r ++ codes " " ++ b ++ codes " ")) (digits_back v (number_digits c.version)) some ∙ sym turned in
     trim_ows_space (cert_text c) front back
 
 certificate_shown : (cert : Option Cert) → IfSome cert IsInRange → only_cert (shown (certificate_fields cert)) ≡ cert
 unfolding eq_ignore_case
 certificate_shown None fits = refl
-certificate_shown (Some c) fits = ap cert_spelled (trimmed c) ∙ spelled_again c fits
+certificate_shown (Some c) fits = ap cert_spelled (trimmed c fits) ∙ spelled_again c fits
 
 fields_shown : (s : ℕ) (allow : Option Allow) (size : Option ℕ) (cert : Option Cert) (last : Bool) → shown (fields s allow size cert last) ≡ shown (certificate_fields cert)
 fields_shown s allow size cert last =

@@ -1,7 +1,7 @@
 -- The bytes of a reply (RFC 9112, sections 2 to 6).
-use Rattle.std.specs.Prelude.{ℕ, Bool, true, false, List, [], ◌∷◌, ◌++◌, Option, Some, None, option_map, unwrap_or, if◌then◌else◌, ◌==◌, length, codes}
+use Rattle.std.specs.Prelude.{ℕ, Bool, true, false, List, [], ◌++◌, Option, Some, None, option_map, unwrap_or, if◌then◌else◌, ◌==◌, length, codes}
 use Rattle.std.specs.Option.{option_map_or}
-use Rattle.disco_values.specs.Digits.{digits}
+use Rattle.std.specs.Fmt.{decimal}
 use Rattle.disco_values.specs.declared.cert.Cert.{Cert}
 use Rattle.disco_message.specs.declared.reply.Reply.{Reply}
 use Rattle.disco_message.specs.declared.status_line.Allow.{Allow}
@@ -18,24 +18,20 @@ pub record ReplyView : Type 0 where
 abbrev pub reply_view : {D : Type 0} → (D → List ℕ) → Reply D → ReplyView
 reply_view bytes r = record { status = r.status; allow = r.allow; document = option_map bytes r.document; cert = r.cert }
 
--- a number in decimal digits
-abbrev pub number_text : ℕ → List ℕ
-number_text n = if n == 0 then 48 ∷ [] else digits n
-
 -- the field Content-Type: a document is JSON
 unfoldable pub type_line : List ℕ
 type_line = codes "Content-Type: application/json\r\n"
 
 -- the field Content-Length
 unfoldable pub length_line : ℕ → List ℕ
-length_line n = codes "Content-Length: " ++ number_text n ++ codes "\r\n"
+length_line n = codes "Content-Length: " ++ decimal n ++ codes "\r\n"
 
 -- the field X-Discovery-Certificate: run, base and version of the document, with a space between them (this project's
 -- own rule)
 unfoldable pub certificate_line : Option Cert → List ℕ
 certificate_line None = []
-certificate_line (Some c) = codes "X-Discovery-Certificate: " ++ number_text c.run ++ codes " " ++ number_text c.base
-    ++ codes " " ++ number_text c.version ++ codes "\r\n"
+certificate_line (Some c) = codes "X-Discovery-Certificate: " ++ decimal c.run ++ codes " " ++ decimal c.base
+    ++ codes " " ++ decimal c.version ++ codes "\r\n"
 
 -- the field Allow: the methods of the path
 unfoldable pub allow_line : Option Allow → List ℕ

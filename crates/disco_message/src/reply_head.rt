@@ -1,12 +1,13 @@
 //! The head of a reply, pushed into room that is there.
-ghost use Rattle.std.specs.Prelude.{◌≡◌, ◌≤◌, ◌+◌, ◌++◌, codes, length, vec_len};
+ghost use Rattle.std.specs.Prelude.{◌≡◌, ◌≤◌, ◌+◌, ◌++◌, codes, decimal, length, vec_len};
 ghost use Rattle.std.specs.Vec.{vec_capacity};
-ghost use Rattle.disco_message.specs.ReplyText.{number_text, type_line, length_line, certificate_line, allow_line, close_line, body_lines, reply_head};
+ghost use Rattle.disco_message.specs.ReplyText.{type_line, length_line, certificate_line, allow_line, close_line, body_lines, reply_head};
 ghost use Rattle.disco_message.specs.StatusLine.{status_line};
 
 use crate::status_line::{Allow, phrase};
-use disco_values::{Cert, push_digits};
+use disco_values::Cert;
 use http::StatusCode;
+use itoa::Buffer;
 
 /// How many bytes have room for the head of any reply.
 pub const HEAD_ROOM: usize = 256;
@@ -24,15 +25,12 @@ pub fn push_bytes(out: &mut Vec<u8>, bytes: &[u8])
 /// Pushes a number in decimal digits.
 fn push_number(out: &mut Vec<u8>, number: u64)
     requires { vec_len out.old + 20 ≤ vec_capacity out.old }
-    ensures text { out.new.items ≡ out.old.items ++ number_text number }
+    ensures text { out.new.items ≡ out.old.items ++ decimal number }
     ensures len { vec_len out.new ≤ vec_len out.old + 20 }
     ensures capacity { vec_capacity out.old ≤ vec_capacity out.new }
 {
-    if number == 0 {
-        out.push_reserved(b'0');
-    } else {
-        push_digits(out, number);
-    }
+    let mut digits = Buffer::new();
+    push_bytes(out, digits.format(number).as_bytes());
 }
 
 #[tactic(auto, unfolding(crate::specs::ReplyText::type_line))]
@@ -78,7 +76,7 @@ fn push_length(out: &mut Vec<u8>, size: u64)
 /// Pushes a number and a space behind it.
 fn push_spaced(out: &mut Vec<u8>, number: u64)
     requires { vec_len out.old + 21 ≤ vec_capacity out.old }
-    ensures text { out.new.items ≡ out.old.items ++ (number_text number ++ codes " ") }
+    ensures text { out.new.items ≡ out.old.items ++ (decimal number ++ codes " ") }
     ensures len { vec_len out.new ≤ vec_len out.old + 21 }
     ensures capacity { vec_capacity out.old ≤ vec_capacity out.new }
 {
