@@ -7,7 +7,6 @@ use Rattle.std.proofs.lemmas.Int.Digits.{all_below_base_digits_of, same_from_dig
 use Rattle.disco_values.specs.declared.status.Status.{Status}
 use Rattle.disco_values.specs.declared.status.Status.TheVariants.{Up, Down, Starting, OutOfService, Unknown}
 use Rattle.disco_history.specs.Hash.{then_piece, hash_by, count_of}
-use Rattle.disco_values.specs.Digits.{digits}
 use Rattle.disco_history.specs.Laws.{HashLaw}
 
 same_head : (x y : ℕ) (xs ys : List ℕ) → x ∷ xs ≡ y ∷ ys → x ≡ y
@@ -15,6 +14,9 @@ same_head x y xs ys e = cc
 
 same_tail : (x y : ℕ) (xs ys : List ℕ) → x ∷ xs ≡ y ∷ ys → xs ≡ ys
 same_tail x y xs ys e = cc
+
+abbrev digits : ℕ → List ℕ
+digits n = map (λ d. 48 + d) (digits_of 10 n)
 
 -- digits up to an underscore
 cut : (ds es x y : List ℕ) → AllByRecursion (λ d. d < 10) ds → AllByRecursion (λ d. d < 10) es → map (λ d. 48 + d) ds ++ 95 ∷ x ≡ map (λ d. 48 + d) es ++ 95 ∷ y → (ds ≡ es) × (x ≡ y)
@@ -28,7 +30,6 @@ cut (d ∷ ds) (f ∷ es) x y p q e =
     ((λ i. k i ∷ rest.0 i), rest.1)
 
 cut_number : (m n : ℕ) (x y : List ℕ) → digits m ++ 95 ∷ x ≡ digits n ++ 95 ∷ y → (m ≡ n) × (x ≡ y)
-unfolding digits
 cut_number m n x y e =
     let both = cut (digits_of 10 m) (digits_of 10 n) x y (all_below_base_digits_of 10 m (omega arith)) (all_below_base_digits_of 10 n (omega arith)) e in
     (same_from_digits_of 10 m n (omega arith) both.0, both.1)

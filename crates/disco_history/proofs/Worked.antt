@@ -2,7 +2,6 @@
 use Rattle.std.proofs.Common.{[], ◌∷◌, map, refl, ◌∙◌, ap, codes, cond, Option, Some, None, option_and_then}
 use Rattle.disco_instance.specs.Row.{Row}
 use Rattle.disco_values.specs.declared.status.Status.TheVariants.{Down}
-use Rattle.disco_values.specs.Digits.{digits}
 use Rattle.disco_history.specs.Change.{prefix}
 use Rattle.disco_history.specs.Mentions.{mention_of}
 use Rattle.disco_history.specs.Query.{Selector, asks_for, of_app, of_vip}
@@ -14,7 +13,6 @@ abbrev asked : Selector → Option Row → Option Row
 asked a o = option_and_then (λ r. cond (asks_for a r) (Some r) None) o
 
 pub worked : Worked
-unfolding digits
 worked = record {
   hash_code = refl;
   count_of_two_digits = refl;

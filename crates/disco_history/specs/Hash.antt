@@ -1,6 +1,6 @@
 -- The hash code: how many records have each status (Eureka's apps__hashcode).
-use Rattle.std.specs.Prelude.{ℕ, ◌==◌, List, [], ◌∷◌, ◌++◌, count_by, if◌then◌else◌}
-use Rattle.disco_values.specs.Digits.{digits}
+use Rattle.std.specs.Prelude.{ℕ, ◌==◌, ◌+◌, List, [], ◌∷◌, ◌++◌, count_by, map, if◌then◌else◌}
+use Rattle.std.specs.Int.Digits.{digits_of}
 use Rattle.disco_instance.specs.Row.{Row}
 use Rattle.disco_values.specs.Status.{is_same, status_name}
 use Rattle.disco_values.specs.declared.status.Status.{Status}
@@ -12,7 +12,7 @@ count_of rows status = count_by (λ r. is_same r.status status) rows
 
 -- a name, an underscore, a number and an underscore, where the number isn't 0; and then the rest
 abbrev pub then_piece : List ℕ → ℕ → List ℕ → List ℕ
-then_piece name n rest = if n == 0 then rest else name ++ 95 ∷ (digits n ++ 95 ∷ rest)
+then_piece name n rest = if n == 0 then rest else name ++ 95 ∷ (map (λ d. 48 + d) (digits_of 10 n) ++ 95 ∷ rest)
 
 -- the hash code of so many instances of each status
 abbrev pub hash_by : (Status → ℕ) → List ℕ

@@ -9,8 +9,7 @@ use Rattle.disco_values.specs.declared.status.Status.{Status}
 use Rattle.disco_values.specs.declared.status.Status.TheVariants.{Up, Down, Unknown}
 use Rattle.disco_history.specs.Change.{Entry, prefix}
 use Rattle.disco_history.specs.Forms.{default_lease, formed}
-use Rattle.disco_history.specs.Hash.{hash}
-use Rattle.disco_values.specs.Digits.{digits}
+use Rattle.disco_history.specs.Hash.{hash, then_piece}
 use Rattle.disco_history.specs.Mentions.{delta, mention_of, overlay}
 use Rattle.disco_history.specs.Query.{of_app, of_vip, restrict, vips}
 use Rattle.disco_history.specs.Registry.{registry_of, mentions_of}
@@ -57,7 +56,7 @@ story =
 pub record Worked : Type 0 where
   pub hash_code : hash (instance (codes "A") (codes "1") Up ∷ instance (codes "A") (codes "2") Down ∷ instance (codes "B") (codes "1") Up ∷ []) ≡
       codes "DOWN_1_UP_2_"
-  pub count_of_two_digits : digits 10 ≡ codes "10"
+  pub count_of_two_digits : then_piece (codes "UP") 10 [] ≡ codes "UP_10_"
   pub empty_hash_code : hash [] ≡ []
   pub vips_of : vips (codes ",a,,b") ≡ codes "a" ∷ codes "b" ∷ []
   pub registry : get (registry_of story) a1 ≡ Some (instance (codes "A") (codes "1") Down)
