@@ -2,9 +2,10 @@
 use Rattle.std.specs.Arc.{arc_value}
 use Rattle.std.specs.Prelude.{ℕ, List, string_bytes}
 use Rattle.disco_values.specs.declared.storage.Storage.{Storage}
-use Rattle.disco_values.specs.declared.storage.Storage.TheVariants.{Inline, Heap, Shared}
+use Rattle.disco_values.specs.declared.storage.Storage.TheVariants.{Inline, Heap, Shared, Static}
 
 abbrev pub bytes_in : Storage → List ℕ
 bytes_in (Inline text) = text
 bytes_in (Heap text) = string_bytes text
 bytes_in (Shared text) = string_bytes (arc_value text)
+bytes_in (Static text) = text.now

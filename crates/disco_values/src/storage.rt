@@ -7,7 +7,7 @@ use crate::inline_text::InlineText;
 use std::alloc::{AllocError, Global};
 use std::sync::Arc;
 
-/// How the bytes of a text are stored: inline, owned or shared.
+/// How the bytes of a text are stored: inline, owned, shared or in the program.
 #[derive(Debug, Drop)]
 pub(crate) enum Storage {
     /// In the text itself: most texts are short, and take no memory of their own.
@@ -16,6 +16,8 @@ pub(crate) enum Storage {
     Heap(String),
     /// In memory that it shares with its copies.
     Shared(Arc<String, Global>),
+    /// In the program.
+    Static(&'static str),
 }
 
 impl Storage {
@@ -26,10 +28,11 @@ impl Storage {
             Storage::Inline(text) => text.as_str(),
             Storage::Heap(text) => text.as_str(),
             Storage::Shared(text) => text.as_str(),
+            Storage::Static(text) => text,
         }
     }
 
-    /// The same bytes, inline or in memory that copies share.
+    /// The same bytes, in memory that copies share where they need any.
     pub(crate) fn shared(self, alloc: Global) -> Result<Storage, AllocError>
         ensures { IfOk result (λ s. bytes_in s ≡ bytes_in self) }
     {
@@ -37,6 +40,7 @@ impl Storage {
             Storage::Inline(text) => Ok(Storage::Inline(text)),
             Storage::Heap(text) => Ok(Storage::Shared(Arc::new(alloc, text)?)),
             Storage::Shared(text) => Ok(Storage::Shared(text)),
+            Storage::Static(text) => Ok(Storage::Static(text)),
         }
     }
 }
@@ -61,6 +65,7 @@ impl Clone for Storage {
             Storage::Inline(text) => Ok(Storage::Inline(text.copy())),
             Storage::Heap(text) => Storage::Heap(text.clone()?).shared(*text.allocator()),
             Storage::Shared(text) => Ok(Storage::Shared(Arc::try_clone(text)?)),
+            Storage::Static(text) => Ok(Storage::Static(text)),
         }
     }
 }

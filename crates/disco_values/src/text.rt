@@ -128,6 +128,20 @@ impl Text {
         in_memory(text)
     }
 
+    /// A text of the program. Neither it nor a copy of it takes memory.
+    pub fn from_static(text: &'static str) -> Text
+        ensures { result ≡ text.now }
+    {
+        if text.len() <= MOST_INLINE {
+            return inline(text);
+        }
+        let bytes = text.as_bytes();
+        Text {
+            front: front_of(bytes, bytes.len()),
+            storage: Storage::Static(text),
+        }
+    }
+
     /// The empty text. Takes no memory.
     pub fn empty(alloc: Global) -> Text
         ensures { result ≡ [] }
@@ -159,6 +173,7 @@ impl Text {
             Storage::Inline(text) => String::from_str(alloc, text.as_str()),
             Storage::Heap(text) => Ok(text),
             Storage::Shared(text) => unshared(text, alloc),
+            Storage::Static(text) => String::from_str(alloc, text),
         }
     }
 
