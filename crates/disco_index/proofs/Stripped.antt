@@ -1,5 +1,5 @@
 -- The rest of a text behind one text after another.
-use Rattle.std.proofs.Common.{◌≡◌, ℕ, suc, ◌==◌, Bool, true, false, ◌&&◌, ◌+◌, ◌<◌, cond, List, [], ◌∷◌, ◌++◌, length, Option, Some, None, option_and_then, codes, take, drop, arith, refl, sym, ap, ◌∙◌}
+use Rattle.std.proofs.Common.{◌≡◌, ℕ, suc, ◌==◌, Bool, true, false, ◌&&◌, ◌+◌, ◌<◌, ◌^◌, cond, List, [], ◌∷◌, ◌++◌, length, Option, Some, None, option_and_then, codes, decimal, take, drop, arith, refl, sym, ap, ◌∙◌}
 use Rattle.std.specs.Borrow.{Bor}
 use Rattle.std.specs.Option.{MatchOption, option_copied}
 use Rattle.std.specs.Str.{bytes_eq}
@@ -8,7 +8,6 @@ use Rattle.disco_values.specs.Status.{status_name}
 use Rattle.disco_values.specs.declared.status.Status.{Status}
 use Rattle.disco_values.specs.declared.status.Status.TheVariants.{Up, Down, Starting, OutOfService, Unknown}
 use Rattle.disco_history.specs.Hash.{hash_by, then_piece}
-use Rattle.disco_values.specs.Digits.{digits}
 use Rattle.disco_index.proofs.Texts.{pieces_hash, pushed}
 use Rattle.disco_index.specs.Behind.{behind}
 
@@ -39,12 +38,6 @@ ends-behind (c ∷ p) (d ∷ t) = one (d == c) (ends-behind p t)
     one true ih = ih
     one false ih = refl
 
-pub stop : (p q t : List ℕ) → behind p t ≡ None → behind (p ++ q) t ≡ None
-stop p q t none = behind-append p q t ∙ ap (option_and_then (behind q)) none
-
-pub go_on : (p q t rest : List ℕ) → behind p t ≡ Some rest → behind (p ++ q) t ≡ behind q rest
-go_on p q t rest some = behind-append p q t ∙ ap (option_and_then (behind q)) some
-
 -- by the front of the text
 pub behind-front : (p t : List ℕ) → behind p t ≡ cond (bytes_eq (take (length p) t) p) (Some (drop (length p) t)) None
 behind-front [] [] = refl
@@ -68,12 +61,12 @@ abbrev pub then : List ℕ → Option (List ℕ) → Option (List ℕ)
 then p rest = option_and_then (behind p) rest
 
 -- behind a piece, one part after another
-pub behind-piece : (name : List ℕ) (n : ℕ) (t : List ℕ) → 0 < n → behind (then_piece name n []) t ≡ then (95 ∷ []) (then (digits n) (then (95 ∷ []) (behind name t)))
-behind-piece name n t lt =
-    ap (λ p. behind p t) (sym (pushed name [] n lt))
-    ∙ behind-append ((name ++ codes "_") ++ digits n) (95 ∷ []) t
-    ∙ ap (then (95 ∷ [])) (behind-append (name ++ codes "_") (digits n) t
-    ∙ ap (then (digits n)) (behind-append name (95 ∷ []) t))
+pub behind-piece : (name : List ℕ) (n : ℕ) (t : List ℕ) → 0 < n → n < 2 ^ 64 → behind (then_piece name n []) t ≡ then (95 ∷ []) (then (decimal n) (then (95 ∷ []) (behind name t)))
+behind-piece name n t lt small =
+    ap (λ p. behind p t) (sym (pushed name [] n lt small))
+    ∙ behind-append ((name ++ codes "_") ++ decimal n) (95 ∷ []) t
+    ∙ ap (then (95 ∷ [])) (behind-append (name ++ codes "_") (decimal n) t
+    ∙ ap (then (decimal n)) (behind-append name (95 ∷ []) t))
 
 -- behind the piece of a status, where there is something
 abbrev pub on : (Status → ℕ) → Status → Option (List ℕ) → Option (List ℕ)

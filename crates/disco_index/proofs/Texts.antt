@@ -1,12 +1,15 @@
 -- The hash code by pieces.
-use Rattle.std.proofs.Common.{◌≡◌, ℕ, ◌==◌, ◌<◌, ◌^◌, Bool, true, false, cond, List, [], ◌∷◌, ◌++◌, codes, decimal, refl, sym, ap, ◌∙◌, append_assoc, append-nil, arith}
+use Rattle.std.proofs.Common.{◌≡◌, ℕ, ◌+◌, ◌==◌, ◌<◌, ◌^◌, Bool, true, false, cond, List, [], ◌∷◌, ◌++◌, codes, decimal, map, refl, sym, ap, ◌∙◌, append_assoc, append-nil, arith}
+use Rattle.std.specs.Int.Digits.{digits_of}
 use Rattle.std.proofs.lemmas.Bool.Decides.{nat_tests}
 use Rattle.std.proofs.lemmas.Fmt.{decimal-digits_of}
 use Rattle.disco_values.specs.Status.{status_name}
 use Rattle.disco_values.specs.declared.status.Status.{Status}
 use Rattle.disco_values.specs.declared.status.Status.TheVariants.{Up, Down, Starting, OutOfService, Unknown}
 use Rattle.disco_history.specs.Hash.{hash_by, then_piece}
-use Rattle.disco_values.specs.Digits.{digits}
+
+abbrev digits : ℕ → List ℕ
+digits n = map (λ d. 48 + d) (digits_of 10 n)
 
 joined : (name ds rest : List ℕ) (b : Bool) → cond b rest (name ++ 95 ∷ (ds ++ 95 ∷ rest)) ≡ cond b [] (name ++ 95 ∷ (ds ++ 95 ∷ [])) ++ rest
 joined name ds rest true = refl
@@ -44,13 +47,8 @@ none : (n : ℕ) → n ≡ 0 → (n == 0) ≡ true
 none n e = grind (arith, nat_tests, e)
 
 -- what is pushed for a number above 0
-pub pushed : (name old : List ℕ) (n : ℕ) → 0 < n → (((old ++ name) ++ codes "_") ++ digits n) ++ codes "_" ≡ old ++ then_piece name n []
-pushed name old n lt = one_piece name (digits n) old (n == 0) (some n lt)
-
--- the same, by the digits that are printed
-pub written : (name old : List ℕ) (n : ℕ) → 0 < n → n < 2 ^ 64 → (((old ++ name) ++ codes "_") ++ decimal n) ++ codes "_" ≡ old ++ then_piece name n []
-unfolding digits
-written name old n lt small = ap (λ ds. (((old ++ name) ++ codes "_") ++ ds) ++ codes "_") (decimal-digits_of n lt small) ∙ pushed name old n lt
+pub pushed : (name old : List ℕ) (n : ℕ) → 0 < n → n < 2 ^ 64 → (((old ++ name) ++ codes "_") ++ decimal n) ++ codes "_" ≡ old ++ then_piece name n []
+pushed name old n lt small = ap (λ ds. (((old ++ name) ++ codes "_") ++ ds) ++ codes "_") (decimal-digits_of n lt small) ∙ one_piece name (digits n) old (n == 0) (some n lt)
 
 -- nothing is pushed for 0
 pub not_pushed : (name old : List ℕ) (n : ℕ) → n ≡ 0 → old ≡ old ++ then_piece name n []

@@ -139,11 +139,11 @@ impl Counts {
         ensures { IfOk result (λ t. string_bytes t ≡ hash_by (count_in self.now)) }
     {
         let mut text = String::new(alloc);
-        write_piece(&mut text, alloc, Status::Down, self.down)?;
-        write_piece(&mut text, alloc, Status::OutOfService, self.out_of_service)?;
-        write_piece(&mut text, alloc, Status::Starting, self.starting)?;
-        write_piece(&mut text, alloc, Status::Unknown, self.unknown)?;
-        write_piece(&mut text, alloc, Status::Up, self.up)?;
+        write_piece(&mut text, Status::Down, self.down)?;
+        write_piece(&mut text, Status::OutOfService, self.out_of_service)?;
+        write_piece(&mut text, Status::Starting, self.starting)?;
+        write_piece(&mut text, Status::Unknown, self.unknown)?;
+        write_piece(&mut text, Status::Up, self.up)?;
         Ok(text)
     }
 

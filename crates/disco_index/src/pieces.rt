@@ -4,22 +4,19 @@ ghost use Rattle.std.specs.Vec.{vec_capacity};
 ghost use Rattle.disco_values.specs.Status.{status_name};
 ghost use Rattle.disco_history.specs.Hash.{then_piece};
 
-use disco_values::{Status, push_digits};
-use std::alloc::{AllocError, Global};
+use disco_values::Status;
+use itoa::Buffer;
+use std::alloc::AllocError;
 
 /// Writes the piece of a status behind a text.
-pub(crate) fn write_piece(
-    text: &mut String,
-    alloc: Global,
-    status: Status,
-    count: u64,
-) -> Result<(), AllocError>
+pub(crate) fn write_piece(text: &mut String, status: Status, count: u64) -> Result<(), AllocError>
     ensures { OnOk result (string_bytes text.new ≡ string_bytes text.old ++ then_piece (status_name status) count []) }
 {
     if count > 0 {
+        let mut digits = Buffer::new();
         text.push_str(status.name())?;
         text.push_str("_")?;
-        text.push_str(format!(in alloc; "{count}")?.as_str())?;
+        text.push_str(digits.format(count))?;
         text.push_str("_")?;
     }
     Ok(())
@@ -44,9 +41,10 @@ pub(crate) fn push_piece(out: &mut Vec<u8>, status: Status, count: u64)
     ensures capacity { vec_capacity out.new ≡ vec_capacity out.old }
 {
     if count > 0 {
+        let mut digits = Buffer::new();
         push_text(out, status.name());
         out.push_reserved(b'_');
-        push_digits(out, count);
+        push_text(out, digits.format(count));
         out.push_reserved(b'_');
     }
 }
