@@ -1,4 +1,5 @@
 pub mod ByApp
 mod Full
+mod Kept
 pub mod Lengths
 pub mod Stored

@@ -3,7 +3,7 @@ use Rattle.std.proofs.Common.{◌≡◌, ℕ, Bool, true, false, ◌&&◌, cond,
 use Rattle.std.specs.BTreeMap.{BTreeMap, UpdatesBy, is_at}
 use Rattle.std.specs.Cmp.{IsTotalOrder, eq_by_cmp_equiv}
 use Rattle.std.specs.Cmp.Lexicographic.{nat_list_cmp_total}
-use Rattle.std.specs.FinMap.{FinMap, entries, find, empty, from_entries, from_sorted, entries-from_sorted, get, get-from_entries, get-from_sorted, insert, remove, same_map, get-empty, get-insert, get-remove}
+use Rattle.std.specs.FinMap.{FinMap, entries, entries_sorted, find, empty, from_entries, from_sorted, entries-from_sorted, get, get-entries, get-from_entries, get-from_sorted, insert, remove, same_map, get-empty, get-insert, get-remove}
 use Rattle.std.specs.FinMap.Entries.{below_all, is_sorted}
 use Rattle.std.specs.List.{AllByRecursion}
 use Rattle.std.specs.List.Sorted.{IsStrictlySortedBy}
@@ -60,6 +60,28 @@ pub in_order : {X : Type 0} (es : List (Text × X)) → IsStrictlySortedBy text_
 in_order [] h = tt
 in_order (e ∷ es) h = both _ _ (all_below e.0 es (sorted_head text_cmp e.0 (keys_of es) h)) (in_order es (sorted_tail text_cmp e.0 (keys_of es) h))
 
+first : (a b : Bool) → T (a && b) → T a
+first true b h = tt
+first false b h = h
+
+second : (a b : Bool) → T (a && b) → T b
+second true b h = h
+second false b h = absurd h
+
+is_less : (o : Ordering) → T (is_lt o) → o ≡ Less
+is_less Less h = refl
+is_less Equal h = absurd h
+is_less Greater h = absurd h
+
+each_below : {X : Type 0} (k : Text) (es : List (Text × X)) → T (below_all text_cmp k es) → AllByRecursion (λ y. text_cmp k y ≡ Less) (keys_of es)
+each_below k [] h = tt
+each_below k (e ∷ es) h = (is_less _ (first _ _ h), each_below k es (second _ _ h))
+
+each_above : {X : Type 0} (es : List (Text × X)) → T (is_sorted text_cmp es) → IsStrictlySortedBy text_cmp (keys_of es)
+unfolding IsStrictlySortedBy
+each_above [] h = tt
+each_above (e ∷ es) h = (each_below e.0 es (first _ _ h), each_above es (second _ _ h))
+
 module _ {V : Type 0} where
   abbrev pub ids_of : List (Text × V) → FinMap text_cmp V
   ids_of es = from_entries es
@@ -85,6 +107,13 @@ module _ {V : Type 0} where
   stored es ordered =
       let sorted = in_order es ordered in
       ap entries (same_map texts_total exact_bytes (ids_of es) (from_sorted es) (λ q. get-from_entries texts_total es q ∙ sym (get-from_sorted text_cmp es q sorted))) ∙ entries-from_sorted text_cmp es sorted
+
+  -- its entries stand in order
+  pub ids_sorted : (m : FinMap text_cmp V) → IsStrictlySortedBy text_cmp (keys_of (entries m))
+  ids_sorted m = each_above (entries m) (entries_sorted m)
+
+  pub get_at : (m : FinMap text_cmp V) (q : Text) → get m q ≡ at_text (entries m) q
+  get_at m q = get-entries m q ∙ find_lookup q (entries m)
 
   pub stored_none : (es : List (Text × V)) → ids_of es ≡ empty → length es ≡ 0
   stored_none [] e = refl

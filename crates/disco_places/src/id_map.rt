@@ -1,120 +1,76 @@
 //! Values by id.
 ghost use Rattle.std.specs.Prelude.{◌≡◌, ◌↔◌, IsSome, IsTrue, None, OnErr, OnOk, Some, false, is_some};
-ghost use Rattle.std.specs.BTreeMap as tree;
 ghost use Rattle.std.specs.FinMap as finmap;
 ghost use Rattle.std.specs.Fn.{FnOnceReturnsAt};
 ghost use Rattle.std.specs.Option.{option_copied, option_flatten};
-ghost use Rattle.disco_places.specs.KeyMaps.{Replaces, text_cmp};
+ghost use Rattle.disco_places.specs.KeyMaps.{Replaces};
 
+use crate::ids::{Ids, is_same, remove, swap, update, with_entry};
+use crate::iter::Iter;
 use disco_values::Text;
 use std::alloc::{AllocError, Global};
-use std::collections::BTreeMap;
 use std::marker::Model;
 use std::mem;
 
-/// A value for each of some ids of one app.
+/// A value for each of some ids of one app. One id alone takes no memory but its own.
 #[derive(Drop)]
 pub struct IdMap<V> {
-    ids: BTreeMap<Text, V>,
+    ids: Ids<V>,
 }
 
 impl<V> Model for IdMap<V> {
-    ghost use Rattle.std.specs.FinMap.{FinMap, code, from_entries};
+    ghost use Rattle.std.specs.FinMap.{FinMap, code};
     ghost use Rattle.disco_values.specs.contracts.text.Text as text;
+    ghost use Rattle.disco_places.specs.Ids.{map_in};
     ghost use Rattle.disco_places.specs.KeyMaps.{text_cmp};
 
     ghost Value = { FinMap text_cmp V };
 
     ghost coded = { code text.the_row.coded V.code };
 
-    ghost view = { λ m. from_entries m.ids.entries };
-}
-
-fn swap<V: Drop>(ids: &mut BTreeMap<Text, V>, id: &Text, value: V) -> Option<V>
-    ensures before { result ≡ tree.get text_cmp ids.old id.now }
-    ensures there { IsSome (tree.get text_cmp ids.old id.now) → tree.Updates text_cmp ids.old ids.new id.now (Some value) }
-    ensures none { tree.get text_cmp ids.old id.now ≡ None → ids.new ≡ ids.old }
-{
-    match ids.get_mut(id) {
-        Some(place) => Some(mem::replace(place, value)),
-        None => None,
-    }
-}
-
-fn change<V: Drop, F: FnOnce(&V) -> V + Drop>(place: &mut Option<V>, f: F) -> bool
-    requires { F.IsAlwaysCallable f }
-    ensures there { result ≡ is_some place.old }
-    ensures changed { IsTrue result → (x : _) × (y : _) × (place.old ≡ Some x) × FnOnceReturnsAt F.FnOnce f x y × (place.new ≡ Some y) }
-    ensures same { result ≡ false → place.new ≡ place.old }
-{
-    match place {
-        Some(value) => {
-            *value = f(value);
-            true
-        }
-        None => false,
-    }
-}
-
-fn update<V: Drop, F: FnOnce(&V) -> V + Drop>(
-    ids: &mut BTreeMap<Text, Option<V>>,
-    id: &Text,
-    f: F,
-) -> bool
-    requires { F.IsAlwaysCallable f }
-    ensures there { result ≡ is_some (option_flatten (tree.get text_cmp ids.old id.now)) }
-    ensures changed { IsTrue result → (x : _) × (y : _) × (option_flatten (tree.get text_cmp ids.old id.now) ≡ Some x)
-        × FnOnceReturnsAt F.FnOnce f x y × tree.Updates text_cmp ids.old ids.new id.now (Some (Some y)) }
-    ensures same { result ≡ false → (q : _) → tree.get text_cmp ids.new q ≡ tree.get text_cmp ids.old q }
-{
-    match ids.get_mut(id) {
-        Some(place) => change(place, f),
-        None => false,
-    }
-}
-
-fn unset<V: Drop>(ids: &mut BTreeMap<Text, V>, id: &Text) -> bool
-    ensures there { result ≡ is_some (tree.get text_cmp ids.old id.now) }
-    ensures out { tree.Updates text_cmp ids.old ids.new id.now None }
-{
-    ids.remove(id).is_some()
+    ghost view = { λ m. map_in m.ids };
 }
 
 impl<V: Drop> IdMap<V> {
-    pub(crate) fn new(alloc: Global) -> IdMap<V>
+    pub(crate) fn new() -> IdMap<V>
         ensures { result ≡ finmap.empty }
     {
-        IdMap {
-            ids: BTreeMap::new(alloc),
-        }
+        IdMap { ids: Ids::Empty }
     }
 
     pub(crate) fn is_empty(&self) -> bool
         ensures { IsTrue result ↔ (self.now ≡ finmap.empty) }
     {
-        self.ids.is_empty()
+        match &self.ids {
+            Ids::Empty => true,
+            Ids::One(_, _) => false,
+            Ids::Many(ids) => ids.is_empty(),
+        }
     }
 
-    pub(crate) fn get(&self, id: &Text) -> Option<&V>
+    /// The value of an id.
+    pub fn get(&self, id: &Text) -> Option<&V>
         ensures { option_copied result ≡ finmap.get self.now id.now }
     {
-        self.ids.get(id)
+        match &self.ids {
+            Ids::Empty => None,
+            Ids::One(own, value) => { if is_same(id, own) { Some(value) } else { None } }
+            Ids::Many(ids) => ids.get(id),
+        }
     }
 
     /// Whether an id has a value.
     pub(crate) fn has(&self, id: &Text) -> bool
         ensures { result ≡ is_some (finmap.get self.now id.now) }
     {
-        self.ids.contains_key(id)
+        self.get(id).is_some()
     }
 
-    /// The values in the order of their ids.
-    pub fn as_map(&self) -> &BTreeMap<Text, V>
-        ensures { result.now.entries ≡ finmap.entries self.now }
+    /// The ids and their values, in the order of the ids.
+    pub fn iter(&self) -> Iter<'_, V>
+        ensures { result ≡ finmap.entries self.now }
     {
-        // For the proof alone: the ids of a map stand in order, each once.
-        let _len = self.ids.len();
-        &self.ids
+        Iter::new(&self.ids)
     }
 
     /// Puts a value of an id in.
@@ -122,13 +78,15 @@ impl<V: Drop> IdMap<V> {
     /// # Errors
     ///
     /// `AllocError` where memory is refused. The values are then as they were.
-    pub(crate) fn insert(&mut self, id: &Text, value: V) -> Result<(), AllocError>
+    pub(crate) fn insert(&mut self, alloc: Global, id: &Text, value: V) -> Result<(), AllocError>
         ensures ok { OnOk result (self.new ≡ finmap.insert self.old id.now value) }
         ensures err { OnErr result (self.new ≡ self.old) }
     {
         let own = id.clone()?;
-        let _before = self.ids.insert(own, value)?;
-        Ok(())
+        let before = mem::replace(&mut self.ids, Ids::Empty);
+        let (after, done) = with_entry(alloc, before, own, value);
+        drop(mem::replace(&mut self.ids, after));
+        done
     }
 
     /// Replaces the value of an id, where it has one, and answers the old one. Takes no memory.
@@ -145,7 +103,7 @@ impl<V: Drop> IdMap<V> {
         ensures there { result ≡ is_some (finmap.get self.old id.now) }
         ensures out { self.new ≡ finmap.remove self.old id.now }
     {
-        unset(&mut self.ids, id)
+        remove(&mut self.ids, id)
     }
 }
 
@@ -159,5 +117,17 @@ impl<V: Drop> IdMap<Option<V>> {
         ensures same { result ≡ false → self.new ≡ self.old }
     {
         update(&mut self.ids, id, f)
+    }
+}
+
+impl<'a, V: Drop> IntoIterator for &'a IdMap<V> {
+    type Item = (&'a Text, &'a V);
+
+    type IntoIter = Iter<'a, V>;
+
+    ghost into_iter_gives = { λ m r. r ≡ finmap.entries m.now };
+
+    fn into_iter(self) -> Iter<'a, V> {
+        self.iter()
     }
 }

@@ -56,10 +56,10 @@ fn insert_in<V: Drop>(
     ensures full { HasNoBareApp apps.old.entries → HasNoBareApp apps.new.entries }
 {
     if let Some(ids) = apps.get_mut(&key.app) {
-        return ids.insert(&key.id, value);
+        return ids.insert(alloc, &key.id, value);
     }
-    let mut ids = IdMap::new(alloc);
-    ids.insert(&key.id, value)?;
+    let mut ids = IdMap::new();
+    ids.insert(alloc, &key.id, value)?;
     apps.insert(key.app.clone()?, ids)?;
     Ok(())
 }

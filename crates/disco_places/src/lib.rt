@@ -2,9 +2,13 @@
 #![tactic(auto)]
 
 mod id_map;
+mod ids;
+mod iter;
 mod key_map;
 mod places;
+mod rest;
 
 pub use id_map::IdMap;
+pub use iter::Iter;
 pub use key_map::KeyMap;
 pub use places::Places;

@@ -3,7 +3,7 @@ use Rattle.std.specs.BTreeMap.{UpdatesBy}
 use Rattle.std.specs.Option.{option_flatten}
 use Rattle.disco_places.specs.KeyMaps.{text_cmp}
 use Rattle.disco_places.proofs.Stored.{lent, unchanged}
-use Rattle.disco_places.proofs.id_map.update.Goals as goal
+use Rattle.disco_places.proofs.ids.update_in_tree.Goals as goal
 
 pub returns-in-Some-clause-changed : goal.returns-in-Some-clause-changed
 returns-in-Some-clause-changed g c = λ t.
