@@ -1,6 +1,6 @@
 -- Stored leases, as plain data. Nothing here is to be believed: no public contract rests on it.
 use Rattle.std.specs.Ordering.{eq_by_cmp}
-use Rattle.std.specs.Prelude.{ℕ, Bool, List, map, is_some, if◌then◌else◌, Option, Some, None, option_map}
+use Rattle.std.specs.Prelude.{ℕ, ◌+◌, ◌*◌, Bool, List, map, is_some, if◌then◌else◌, Option, Some, None, option_map}
 use Rattle.std.specs.List.{filter_map}
 use Rattle.std.specs.FinMap.{FinMap, entries, from_entries}
 use Rattle.disco_values.specs.Key.{key_cmp}
@@ -10,7 +10,7 @@ use Rattle.disco_lease.specs.Leases as leases
 use Rattle.disco_lease.specs.declared.lease.Lease.{Lease}
 
 abbrev pub plain_lease : Lease → leases.LeaseEntry
-plain_lease l = record { duration_secs = l.duration_secs; mark = l.mark }
+plain_lease l = record { duration_secs = l.duration_secs; mark = if l.is_extended then l.moment + l.duration_secs * 1000 else l.moment }
 
 -- the places that entries stand for
 abbrev pub seen_places : List (Key × Option Lease) → FinMap key_cmp (Option leases.LeaseEntry)

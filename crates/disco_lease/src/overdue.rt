@@ -55,11 +55,11 @@ fn add(
 fn collect_ids(
     overdue: &mut Overdue,
     app: &Text,
-    ids: &BTreeMap<Text, Option<Lease>>,
+    ids: &IdMap<Option<Lease>>,
     now: u64,
 ) -> Result<(), AllocError>
     ensures { OnOk result ((q : ℕ × Key) → finmap.get (seen_due overdue.new.entries) q ≡
-        option_or (finmap.find due_cmp q (pairs now (ids_with_app app.now ids.now.entries))) (finmap.get (seen_due overdue.old.entries) q)) }
+        option_or (finmap.find due_cmp q (pairs now (ids_with_app app.now (finmap.entries ids.now)))) (finmap.get (seen_due overdue.old.entries) q)) }
 {
     for (id, place) in ids {
         add(overdue, app, id, place, now)?;
@@ -72,7 +72,7 @@ fn collect(alloc: Global, apps: &Apps, now: u64) -> Result<Overdue, AllocError>
 {
     let mut overdue = BTreeMap::new(alloc);
     for (app, ids) in apps {
-        collect_ids(&mut overdue, app, ids.as_map(), now)?;
+        collect_ids(&mut overdue, app, ids, now)?;
     }
     Ok(overdue)
 }
@@ -99,8 +99,8 @@ pub(crate) fn has_run_out(place: &Option<Lease>, now: u64) -> bool
 }
 
 /// Whether a lease of an app has run out by a moment.
-fn any_in(ids: &BTreeMap<Text, Option<Lease>>, now: u64) -> bool
-    ensures { result ≡ list_any (λ e. has_run_out now e.1) ids.now.entries }
+fn any_in(ids: &IdMap<Option<Lease>>, now: u64) -> bool
+    ensures { result ≡ list_any (λ e. has_run_out now e.1) (finmap.entries ids.now) }
 {
     for (_, place) in ids {
         if has_run_out(place, now) {
@@ -115,7 +115,7 @@ pub(crate) fn any_overdue(apps: &Apps, now: u64) -> bool
     ensures { result ≡ list_any (λ e. has_run_out now e.1) (of_apps apps.now.entries) }
 {
     for (_, ids) in apps {
-        if any_in(ids.as_map(), now) {
+        if any_in(ids, now) {
             return true;
         }
     }

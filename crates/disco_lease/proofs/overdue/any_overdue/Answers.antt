@@ -1,4 +1,4 @@
-use Rattle.std.proofs.Common.{◌≡◌, ◌||◌, Bool, true, false, List, ℕ, Option, sym, ap, ◌∙◌}
+use Rattle.std.proofs.Common.{◌||◌, Option, sym, ap, ◌∙◌}
 use Rattle.std.specs.List.{list_any}
 use Rattle.disco_values.specs.declared.key.Key.{Key}
 use Rattle.disco_places.specs.KeyMaps.{of_apps}
@@ -9,7 +9,7 @@ use Rattle.disco_lease.proofs.overdue.any_overdue.Goals as goal
 
 pub returns-then-any_in : goal.returns-then-any_in
 returns-then-any_in c =
-    let here = sym (c.any_in.ensures ∙ ap (list_any (λ (e : List ℕ × Option Lease). has_run_out c.args.now e.1)) c.as_map.ensures) ∙ c.if-any_in.true in
+    let here = sym c.any_in.ensures ∙ c.if-any_in.true in
     let rest = list_any (λ (e : Key × Option Lease). has_run_out c.args.now e.1) (of_apps c.next.new.self) in
     ap (λ b. b || rest) (sym here)
     ∙ sym (any_more c.args.now (c.in-Some.field-0-0.now, c.in-Some.ids.now) c.next.new.self)
@@ -18,7 +18,7 @@ returns-then-any_in c =
 
 pub loop-ids-preserved : goal.loop-ids-preserved
 loop-ids-preserved c =
-    let here = sym (c.any_in.ensures ∙ ap (list_any (λ (e : List ℕ × Option Lease). has_run_out c.args.now e.1)) c.as_map.ensures) ∙ c.if-any_in.false in
+    let here = sym c.any_in.ensures ∙ c.if-any_in.false in
     let rest = list_any (λ (e : Key × Option Lease). has_run_out c.args.now e.1) (of_apps c.next.new.self) in
     ap (λ b. b || rest) (sym here)
     ∙ sym (any_more c.args.now (c.in-Some.field-0-0.now, c.in-Some.ids.now) c.next.new.self)

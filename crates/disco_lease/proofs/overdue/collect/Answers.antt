@@ -1,11 +1,8 @@
-use Rattle.std.proofs.Common.{◌≡◌, ap, ◌∙◌}
-use Rattle.std.proofs.lemmas.Map.Iter.{rest_all}
+use Rattle.std.proofs.Common.{ap}
 use Rattle.std.specs.FinMap.{find, get}
-use Rattle.std.specs.Map.Iter.{deref_pair}
-use Rattle.std.specs.Option.{option_or}
 use Rattle.disco_places.specs.KeyMaps.{of_apps}
 use Rattle.disco_lease.specs.Due.{due_cmp}
-use Rattle.disco_lease.specs.Seen.{ids_with_app, pairs, seen_due}
+use Rattle.disco_lease.specs.Seen.{pairs, seen_due}
 use Rattle.disco_lease.proofs.CollectedKeys.{all_there, app_more, none_yet}
 use Rattle.disco_lease.proofs.overdue.collect.Goals as goal
 
@@ -16,7 +13,7 @@ pub loop-app-preserved : goal.loop-app-preserved
 loop-app-preserved c = λ q.
     app_more c.args.now (c.in-Some.app.now, c.in-Some.ids.now) c.next.new.self c.loop-app.app-iterator (get (seen_due c.loop-app.overdue.entries) q) (get (seen_due c.collect_ids.new.overdue.entries) q) (find due_cmp q (pairs c.args.now (of_apps c.args.apps.now.entries))) q
     c.in-Some.ensures.steps
-    (c.in_ok-collect_ids.ensures q ∙ ap (λ es. option_or (find due_cmp q (pairs c.args.now (ids_with_app c.in-Some.app.now es))) (get (seen_due c.loop-app.overdue.entries) q)) c.as_map.ensures)
+    (c.in_ok-collect_ids.ensures q)
     (c.loop-app.invariant q)
 
 pub returns : goal.returns

@@ -1,5 +1,4 @@
-use Rattle.std.proofs.Common.{◌≡◌, Option, true, false, sym, ap, ◌∙◌}
-use Rattle.std.specs.FinMap.{entries}
+use Rattle.std.proofs.Common.{Option, sym, ap, ◌∙◌}
 use Rattle.std.specs.List.{list_any}
 use Rattle.disco_values.specs.declared.key.Key.{Key}
 use Rattle.disco_lease.specs.Seen.{has_run_out}
