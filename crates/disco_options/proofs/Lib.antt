@@ -1,3 +1,4 @@
 mod FirstKinds
 mod Given
+mod Refusals
 pub mod Said

@@ -1,5 +1,5 @@
 -- Messages and exit statuses of failed runs (this project's own format).
-use Rattle.std.specs.Prelude.{◌≡◌, ◌⊎◌, ℕ, List, Option, ◌++◌, codes, decimal}
+use Rattle.std.specs.Prelude.{◌≡◌, ◌⊎◌, ℕ, List, [], Option, ◌++◌, codes, decimal}
 use Rattle.std.specs.Io.KnownBytes.{Appends, append_known}
 use Rattle.std.specs.declared.io.ErrorKind.{ErrorKind as IoKind}
 use Rattle.std.specs.declared.io.ErrorKind.TheVariants as io
@@ -10,7 +10,7 @@ use Rattle.disco_http.specs.Causes.{Raises}
 use Rattle.disco_http.specs.Writes.{AppendsProperFront}
 use Rattle.disco_values.specs.Fault.{fault_number}
 use Rattle.disco_values.specs.declared.fault.Fault.{Fault}
-use Rattle.disco_values.specs.declared.fault.Fault.TheVariants.{BadEvent}
+use Rattle.disco_values.specs.declared.fault.Fault.TheVariants.{BadEvent, ReadFailed}
 
 -- `discovery: fault N`, and the number of the line where it can't be read
 abbrev pub report_line : Fault → List ℕ
@@ -21,13 +21,22 @@ report_line fault = codes "discovery: fault " ++ decimal (fault_number fault) ++
 abbrev pub Says : Fault → Option (List ℕ) → Option (List ℕ) → ℕ → ℕ → Type 0
 Says fault old new before now = Appends old new (report_line fault) ⊎ (AppendsProperFront old new (report_line fault) × Raises before now)
 
--- what was written ends with the line of some fault, or with a front of it, where a write failed
-abbrev pub SaysAny : Option (List ℕ) → Option (List ℕ) → ℕ → ℕ → Type 0
-SaysAny old new before now = (fault : Fault) × (first : List ℕ) × Says fault (append_known old first) new before now
+-- the line that says what the host refused at which address, and its cause
+abbrev pub IsCauseLine : List ℕ → Type 0
+IsCauseLine line = (what address cause : List ℕ) × (line ≡ codes "discovery: " ++ what ++ codes " " ++ address ++ codes ": " ++ cause ++ codes "\n")
 
--- some text is written, or a front of it, where a write failed; the numbers count failures before and after
-abbrev pub AddsText : Option (List ℕ) → Option (List ℕ) → ℕ → ℕ → Type 0
-AddsText old new before now = (text : List ℕ) × Appends old new text × ((now ≡ before) ⊎ Raises before now)
+-- such a line, or a front of it, where a write failed, or nothing; the numbers count failures before and after
+abbrev pub TellsCause : List ℕ → ℕ → ℕ → Type 0
+TellsCause text before now = (text ≡ []) ⊎ ((rest : List ℕ) × IsCauseLine (text ++ rest) × ((rest ≡ []) ⊎ Raises before now))
+
+-- what stands in front of the line of a fault: the cause of a failed read, and else nothing
+abbrev pub StandsBefore : Fault → List ℕ → ℕ → ℕ → Type 0
+StandsBefore ReadFailed text before now = TellsCause text before now
+StandsBefore fault text before now = text ≡ []
+
+-- the line of some fault is written, or a front of it, where a write failed, with what stands in front of it
+abbrev pub SaysAny : Option (List ℕ) → Option (List ℕ) → ℕ → ℕ → Type 0
+SaysAny old new before now = (fault : Fault) × (text : List ℕ) × StandsBefore fault text before now × Says fault (append_known old text) new before now
 
 -- the status for words that give no settings: 0 for help, 1 for want of memory, 2 for a mistake
 abbrev pub status_of_kind : ErrorKind → ℕ
@@ -36,9 +45,13 @@ status_of_kind kind.DisplayHelp = 0
 status_of_kind kind.DisplayVersion = 0
 status_of_kind _ = 2
 
+-- one of these kinds has this status
+abbrev pub IsStatusOf : Kinds → ℕ → Type 0
+IsStatusOf kinds status = (k : ErrorKind) × IsAmong k kinds × (status ≡ status_of_kind k)
+
 -- the status is 1, or that of one of these kinds
 abbrev pub IsStatusAmong : Kinds → ℕ → Type 0
-IsStatusAmong kinds status = (status ≡ 1) ⊎ ((k : ErrorKind) × IsAmong k kinds × (status ≡ status_of_kind k))
+IsStatusAmong kinds status = (status ≡ 1) ⊎ IsStatusOf kinds status
 
 -- the status where the words can't be had: 1 for want of memory, 2 where one isn't text
 abbrev pub status_without_words : IoKind → ℕ

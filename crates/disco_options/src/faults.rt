@@ -1,18 +1,20 @@
 //! Messages of failed runs on standard error, and exit statuses.
-ghost use Rattle.std.specs.Prelude.{◌≡◌, ◌≢◌, ◌⊎◌, ◌++◌, IfSome, OnOk, codes, decimal};
+ghost use Rattle.std.specs.Prelude.{◌≡◌, ◌≢◌, ◌⊎◌, ◌++◌, ℕ, List, IfErr, IfOk, IfSome, OnOk, codes, decimal, string_bytes};
 ghost use Rattle.std.specs.Io.KnownBytes.{Appends};
 ghost use Rattle.std.specs.IoError.{error_kind};
-ghost use Rattle.clap.specs.Words.{kind_of};
-ghost use Rattle.disco_options.specs.Faults.{AddsText, Says, SaysAny, report_line, status_of_kind, status_without_words};
+ghost use Rattle.clap.specs.Words.{HasKind, Kinds, kind_of};
+ghost use Rattle.disco_options.specs.Ending.{EndsBy};
+ghost use Rattle.disco_options.specs.Faults.{IsCauseLine, Says, SaysAny, TellsCause, report_line, status_of_kind, status_without_words};
+ghost use Rattle.disco_http.specs.Causes.{Raises};
 ghost use Rattle.disco_http.specs.Writes.{WritesBytes};
-ghost use Rattle.disco_values.specs.declared.fault.Fault.TheVariants.{OutOfMemory};
+ghost use Rattle.disco_values.specs.declared.fault.Fault.TheVariants.{OutOfMemory, WriteFailed};
 
 use clap::Error;
 use clap::error::ErrorKind;
 use disco_http::{Sink, write_all};
 use disco_values::Fault;
 use itoa::Buffer;
-use std::alloc::Global;
+use std::alloc::{AllocError, Global};
 use std::fmt::Display;
 use std::io;
 
@@ -57,6 +59,7 @@ fn write_report<E: Sink>(fault: &Fault, errors: &mut E) -> Result<(), Fault>
 pub fn report<E: Sink>(fault: &Fault, errors: &mut E) -> u8
     ensures status { result ≡ 1 }
     ensures says { Says fault.now (E.contents errors.old) (E.contents errors.new) (E.failed errors.old) (E.failed errors.new) }
+    ensures counted { (E.failed errors.new ≡ E.failed errors.old) ⊎ Raises (E.failed errors.old) (E.failed errors.new) }
     ensures told { SaysAny (E.contents errors.old) (E.contents errors.new) (E.failed errors.old) (E.failed errors.new) }
 {
     match write_report(fault, errors) {
@@ -65,7 +68,21 @@ pub fn report<E: Sink>(fault: &Fault, errors: &mut E) -> u8
     }
 }
 
-/// Tells why the host refuses an address.
+/// The line that says what the host refuses at an address, and why.
+fn cause_line<A: Display>(
+    alloc: Global,
+    what: &str,
+    address: &A,
+    error: &io::Error,
+) -> Result<String, AllocError>
+    ensures { IfOk result (λ line. IsCauseLine (string_bytes line)) }
+{
+    let address = format!(in alloc; "{address}")?;
+    let cause = format!(in alloc; "{error}")?;
+    format!(in alloc; "discovery: {what} {address}: {cause}\n")
+}
+
+/// Tells what the host refuses at an address, and why, where there is memory for it.
 fn explain<A: Display, E: Sink>(
     alloc: Global,
     what: &str,
@@ -73,12 +90,14 @@ fn explain<A: Display, E: Sink>(
     error: &io::Error,
     errors: &mut E,
 )
-    ensures { AddsText (E.contents errors.old) (E.contents errors.new) (E.failed errors.old) (E.failed errors.new) }
+    ensures { (text : List ℕ) × Appends (E.contents errors.old) (E.contents errors.new) text
+        × TellsCause text (E.failed errors.old) (E.failed errors.new)
+        × ((E.failed errors.new ≡ E.failed errors.old) ⊎ Raises (E.failed errors.old) (E.failed errors.new)) }
 {
-    let Ok(text) = format!(in alloc; "discovery: {what} {address}: {error}\n") else {
+    let Ok(line) = cause_line(alloc, what, address, error) else {
         return;
     };
-    let _ = write_all(errors, text.as_bytes());
+    let _ = write_all(errors, line.as_bytes());
 }
 
 /// Tells what the host refuses at an address, and why, where there is memory for it. Writes the line
@@ -114,7 +133,8 @@ pub(crate) fn status_of(error: &Error) -> u8
 
 /// Shows a text. Refused as `WriteFailed`, with a front of it written, and as `OutOfMemory`.
 fn show<D: Display + Drop, W: Sink>(alloc: Global, text: D, out: &mut W) -> Result<(), Fault>
-    ensures { OnOk result (IfSome (D.output text) (Appends (W.contents out.old) (W.contents out.new))) }
+    ensures shown { OnOk result (IfSome (D.output text) (Appends (W.contents out.old) (W.contents out.new))) }
+    ensures refused { IfErr result (λ fault. (fault ≡ OutOfMemory) ⊎ (fault ≡ WriteFailed)) }
 {
     let text = format!(in alloc; "{text}")?;
     write_all(out, text.as_bytes())
@@ -128,10 +148,10 @@ pub fn refused<W: Sink, E: Sink>(alloc: Global, error: &Error, out: &mut W, erro
         ⊎ ((status_of_kind (kind_of error.now) ≡ 0) × (result ≡ 1)) }
 
     ensures unwritten { status_of_kind (kind_of error.now) ≢ 0 → out.new ≡ out.old }
-    ensures silent { result ≡ 0 → errors.new ≡ errors.old }
     ensures memory { status_of_kind (kind_of error.now) ≡ 1
         → Says OutOfMemory (E.contents errors.old) (E.contents errors.new) (E.failed errors.old) (E.failed errors.new) }
-    ensures told { result ≡ 1 → SaysAny (E.contents errors.old) (E.contents errors.new) (E.failed errors.old) (E.failed errors.new) }
+    ensures ends { (faults : Kinds) → HasKind faults error.now
+        → EndsBy E.contents E.failed faults result out.old out.new errors.old errors.new }
 {
     match status_of(error) {
         0 => match show(alloc, error, out) {

@@ -1,9 +1,10 @@
 use Rattle.std.proofs.Common.{map}
 use Rattle.std.specs.Prelude.{string_bytes}
+use Rattle.clap.specs.Kinds.{or_else}
 use Rattle.disco_options.specs.Options.{faults_of}
 use Rattle.disco_options.specs.declared.subcommand.Subcommand.TheVariants.{Fleet}
 use Rattle.disco_prog.specs.Fleets.{ask_for_no_run, faults_of_restart}
-use Rattle.disco_prog.proofs.Restarts.{carried_out, refused_words}
+use Rattle.disco_prog.proofs.Restarts.{carried_out, has_either}
 use Rattle.disco_prog.proofs.fleets.fleet.Goals as goal
 
 pub returns-in-Ok : goal.returns-in-Ok
@@ -14,5 +15,6 @@ returns-in-Ok g c =
 pub returns-in-Err : goal.returns-in-Err
 returns-in-Err g c =
     let words = map string_bytes c.args.words.now in
-    let r = c.refused.ensures in
-    refused_words g.E.Sink.contents g.E.Sink.failed c.refused.result c.args.out.now c.refused.new.out c.args.errors.now c.refused.new.errors (faults_of Fleet words) (faults_of_restart (ask_for_no_run words)) _ c.in-Err.ensures.faults r.status r.unwritten r.silent r.told
+    let kinds = faults_of Fleet words in
+    let others = faults_of_restart (ask_for_no_run words) in
+    c.refused.ensures.ends (or_else kinds others) (has_either kinds others c.in-Err.error c.in-Err.ensures.faults)
