@@ -6,7 +6,7 @@ use Rattle.std.proofs.lemmas.List.Folds.{find-append}
 use Rattle.std.proofs.lemmas.Map.Keys.{sorted_head, sorted_tail}
 use Rattle.std.proofs.lemmas.Map.Text.{is_eq-slice_cmp}
 use Rattle.std.specs.Cmp.Lexicographic.{nat_list_eq_equiv}
-use Rattle.std.specs.FinMap.{FinMap, entries, entries_sorted, get-entries, values}
+use Rattle.std.specs.FinMap.{FinMap, entries, entries_sorted, get, get-entries, values}
 use Rattle.std.specs.FinMap.Entries as found
 use Rattle.std.specs.List.{AllByRecursion, cons_option, filter_map, find}
 use Rattle.std.specs.List.Sorted.{IsStrictlySortedBy}
@@ -24,7 +24,7 @@ use Rattle.disco_history.specs.declared.held.Held.{Held}
 use Rattle.disco_history.proofs.PlaceLemmas.{values_filled}
 use Rattle.disco_history.proofs.Sorted.{Own, own}
 use Rattle.disco_places.specs.KeyMaps.{ById, of_app, of_apps, text_cmp}
-use Rattle.disco_places.proofs.Stored.{at_text, text_is}
+use Rattle.disco_places.proofs.Stored.{at_text, get_at, ids_sorted, text_is}
 use Rattle.disco_registry.specs.Records.{AreInPlace, AreKeyed, AreKeyedById, key_of_held, mentions_held}
 
 abbrev Entries : Type 0
@@ -160,9 +160,9 @@ pub others_keyed : (e : List ℕ × ById (Option Held)) (es : Apps) → AreKeyed
 others_keyed e es each = keyed_later (of_app e) (of_apps es) each
 
 -- what stands under an id of one app is the first record that shows it
-pub under_id : (id : List ℕ) (es : IdEntries) → IsStrictlySortedBy text_cmp (keys_of es) → AreKeyedById es → option_map entry_of (option_flatten (at_text es id)) ≡ find (is_of_id id) (shown_in es)
-under_id id [] sorted each = refl
-under_id id (e ∷ es) sorted each = by (is_eq (text_cmp id e.0)) refl e.1 each.0 (under_id id es (sorted_tail text_cmp e.0 (keys_of es) sorted) each.1)
+under_entries : (id : List ℕ) (es : IdEntries) → IsStrictlySortedBy text_cmp (keys_of es) → AreKeyedById es → option_map entry_of (option_flatten (at_text es id)) ≡ find (is_of_id id) (shown_in es)
+under_entries id [] sorted each = refl
+under_entries id (e ∷ es) sorted each = by (is_eq (text_cmp id e.0)) refl e.1 each.0 (under_entries id es (sorted_tail text_cmp e.0 (keys_of es) sorted) each.1)
   where
     rest : Option Entry
     rest = find (is_of_id id) (shown_in es)
@@ -179,3 +179,6 @@ under_id id (e ∷ es) sorted each = by (is_eq (text_cmp id e.0)) refl e.1 each.
     by false is None key later = later
     by true is (Some h) key later = sym (test h true is key)
     by false is (Some h) key later = later ∙ sym (test h false is key)
+
+pub under_id : (id : List ℕ) (m : ById (Option Held)) → AreKeyedById (entries m) → option_map entry_of (option_flatten (get m id)) ≡ find (is_of_id id) (shown_in (entries m))
+under_id id m each = ap (λ (o : Option (Option Held)). option_map entry_of (option_flatten o)) (get_at m id) ∙ under_entries id (entries m) (ids_sorted m) each

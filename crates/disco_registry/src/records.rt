@@ -91,8 +91,8 @@ fn has_id(place: &Option<Held>, id: &str) -> bool
 }
 
 /// The records in places, shared.
-fn shared_in(alloc: Global, ids: &BTreeMap<Text, Option<Held>>) -> Result<Vec<Held>, AllocError>
-    ensures { IfOk result (λ v. map entry_of v.items ≡ filter_map (λ e. option_map entry_of e.1) ids.now.entries) }
+fn shared_in(alloc: Global, ids: &IdMap<Option<Held>>) -> Result<Vec<Held>, AllocError>
+    ensures { IfOk result (λ v. map entry_of v.items ≡ filter_map (λ e. option_map entry_of e.1) (finmap.entries ids.now)) }
 {
     let mut list = Vec::new(alloc);
     for (_, place) in ids {
@@ -104,8 +104,8 @@ fn shared_in(alloc: Global, ids: &BTreeMap<Text, Option<Held>>) -> Result<Vec<He
 }
 
 /// The first record of an id in the places of one app.
-fn first_in<'a>(ids: &'a BTreeMap<Text, Option<Held>>, id: &str) -> Option<&'a Held>
-    ensures { option_map (λ h. entry_of h.now) result ≡ find (is_of_id id.now) (filter_map (λ e. option_map entry_of e.1) ids.now.entries) }
+fn first_in<'a>(ids: &'a IdMap<Option<Held>>, id: &str) -> Option<&'a Held>
+    ensures { option_map (λ h. entry_of h.now) result ≡ find (is_of_id id.now) (filter_map (λ e. option_map entry_of e.1) (finmap.entries ids.now)) }
 {
     for (_, place) in ids {
         if has_id(place, id) {
@@ -120,7 +120,7 @@ fn first_of_id<'a>(apps: &'a BTreeMap<Text, IdMap<Option<Held>>>, id: &str) -> O
     ensures { option_map (λ h. entry_of h.now) result ≡ find (is_of_id id.now) (filter_map (λ e. option_map entry_of e.1) (of_apps apps.now.entries)) }
 {
     for (_, ids) in apps {
-        if let Some(held) = first_in(ids.as_map(), id) {
+        if let Some(held) = first_in(ids, id) {
             return Some(held);
         }
     }
@@ -128,12 +128,10 @@ fn first_of_id<'a>(apps: &'a BTreeMap<Text, IdMap<Option<Held>>>, id: &str) -> O
 }
 
 /// The record that stands under an id in the places of one app.
-fn found_in<'a>(ids: &'a BTreeMap<Text, Option<Held>>, id: &Text) -> Option<&'a Held>
-    requires { AreKeyedById ids.now.entries }
-    ensures { option_map (λ h. entry_of h.now) result ≡ find (is_of_id id.now) (filter_map (λ e. option_map entry_of e.1) ids.now.entries) }
+fn found_in<'a>(ids: &'a IdMap<Option<Held>>, id: &Text) -> Option<&'a Held>
+    requires { AreKeyedById (finmap.entries ids.now) }
+    ensures { option_map (λ h. entry_of h.now) result ≡ find (is_of_id id.now) (filter_map (λ e. option_map entry_of e.1) (finmap.entries ids.now)) }
 {
-    // For the proof alone: the ids of a map stand in order, each once.
-    let _len = ids.len();
     match ids.get(id) {
         Some(place) => place.as_ref(),
         None => None,
@@ -146,7 +144,7 @@ fn found_under<'a>(apps: &'a BTreeMap<Text, IdMap<Option<Held>>>, id: &Text) -> 
     ensures { option_map (λ h. entry_of h.now) result ≡ find (is_of_id id.now) (filter_map (λ e. option_map entry_of e.1) (of_apps apps.now.entries)) }
 {
     for (_, ids) in apps {
-        if let Some(held) = found_in(ids.as_map(), id) {
+        if let Some(held) = found_in(ids, id) {
             return Some(held);
         }
     }
@@ -216,7 +214,7 @@ impl Records {
         // For the proof alone: the apps of a map stand in order, each once.
         let _len = apps.len();
         match apps.get(app) {
-            Some(ids) => Ok(shared_in(alloc, ids.as_map())?),
+            Some(ids) => Ok(shared_in(alloc, ids)?),
             None => Ok(Vec::new(alloc)),
         }
     }

@@ -1,4 +1,5 @@
 use Rattle.std.proofs.Common.{◌≡◌, ℕ, List, Option, option_map}
+use Rattle.std.specs.FinMap.{entries}
 use Rattle.std.specs.List.{filter_map, find}
 use Rattle.disco_history.specs.Apps.{is_of_id}
 use Rattle.disco_history.specs.Held.{entry_of}
@@ -8,4 +9,4 @@ use Rattle.disco_registry.proofs.records.first_in.Given as goal
 abbrev pub invariant-loop-place : goal.invariant-loop-place
 invariant-loop-place l =
     find (is_of_id l.id) (filter_map (λ (e : List ℕ × Option Held). option_map entry_of e.1) l.place-iterator)
-    ≡ find (is_of_id l.id) (filter_map (λ (e : List ℕ × Option Held). option_map entry_of e.1) l.ids.entries)
+    ≡ find (is_of_id l.id) (filter_map (λ (e : List ℕ × Option Held). option_map entry_of e.1) (entries l.ids))

@@ -9,10 +9,10 @@ use Rattle.disco_registry.proofs.records.found_in.Goals as goal
 pub returns-in-Some : goal.returns-in-Some
 returns-in-Some c =
     map_copied c.as_ref.result ∙ ap (option_map entry_of) c.as_ref.ensures.value
-    ∙ ap (λ (o : Option (Option Held)). option_map entry_of (option_flatten o)) c.in-Some.ensures.value
-    ∙ under_id c.args.id.now c.args.ids.now.entries c.len-len.ensures.ordered c.requires
+    ∙ ap (λ (o : Option (Option Held)). option_map entry_of (option_flatten o)) c.in-Some.ensures
+    ∙ under_id c.args.id.now c.args.ids.now c.requires
 
 pub returns-in-None : goal.returns-in-None
 returns-in-None c =
-    ap (λ (o : Option (Option Held)). option_map entry_of (option_flatten o)) c.in-None.ensures.value
-    ∙ under_id c.args.id.now c.args.ids.now.entries c.len-len.ensures.ordered c.requires
+    ap (λ (o : Option (Option Held)). option_map entry_of (option_flatten o)) c.in-None.ensures
+    ∙ under_id c.args.id.now c.args.ids.now c.requires
