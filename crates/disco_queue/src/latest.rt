@@ -8,10 +8,10 @@ ghost use Rattle.disco_queue.specs.Seen.{change_of};
 
 use crate::kept::Kept;
 use disco_history::Change;
-use disco_places::KeyMap;
+use disco_places::{IdMap, KeyMap};
 use disco_values::Text;
 use std::alloc::{AllocError, Global};
-use std::collections::{BTreeMap, VecDeque};
+use std::collections::VecDeque;
 
 /// The last kept change of a key, with the key's app and its id before it.
 pub type Latest<'a> = (&'a Text, &'a Text, &'a Change);
@@ -34,13 +34,13 @@ fn numbered(kept: &VecDeque<Kept>, before: u64, number: u64) -> Option<&Change>
 fn add_numbered<'a>(
     found: &mut Vec<Latest<'a>>,
     app: &'a Text,
-    ids: &'a BTreeMap<Text, u64>,
+    ids: &'a IdMap<u64>,
     kept: &'a VecDeque<Kept>,
     before: u64,
 ) -> Result<(), AllocError>
     requires { All (λ p. is_proper p.2.now ≡ true) found.old.items }
     ensures changes { OnOk result (map keyed_change found.new.items ≡ map keyed_change found.old.items
-        ++ numbered_ids (numbered before (map change_of kept.now.items)) app.now ids.now.entries) }
+        ++ numbered_ids (numbered before (map change_of kept.now.items)) app.now (entries ids.now)) }
     ensures proper { OnOk result (All (λ p. is_proper p.2.now ≡ true) found.new.items) }
 {
     for (id, number) in ids {
@@ -63,7 +63,7 @@ pub(crate) fn numbered_in<'a>(
 {
     let mut found = Vec::with_capacity(alloc, places.len())?;
     for (app, ids) in places.apps() {
-        add_numbered(&mut found, app, ids.as_map(), kept, before)?;
+        add_numbered(&mut found, app, ids, kept, before)?;
     }
     Ok(found)
 }
