@@ -1,4 +1,3 @@
 mod FirstKinds
 mod Given
-mod Refusals
 pub mod Said
