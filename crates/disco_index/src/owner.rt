@@ -1,5 +1,5 @@
 //! Owners of places: instances, each with one of its addresses.
-ghost use Rattle.std.specs.Prelude.{◌≡◌, IfOk};
+ghost use Rattle.std.specs.Prelude.{◌≡◌, IfOk, IfSome};
 
 use disco_values::{Key, Text};
 use std::alloc::{AllocError, Global};
@@ -13,7 +13,8 @@ pub(crate) struct Owner {
     key: Key,
 }
 
-/// An instance with one of its addresses, shared by the places under the vips of that address.
+/// An instance with one of its addresses, shared by the places under the vips of that address. Vips and
+/// secure vips of equal addresses have one owner.
 #[derive(Drop)]
 pub(crate) struct SharedOwner {
     owner: Arc<Owner, Global>,
@@ -40,6 +41,25 @@ impl SharedOwner {
         Ok(SharedOwner {
             owner: Arc::new(alloc, owner)?,
         })
+    }
+
+    /// The other owner where it has this address, else a new one.
+    pub(crate) fn with_address(
+        alloc: Global,
+        address: &Text,
+        key: &Key,
+        other: Option<SharedOwner>,
+    ) -> Result<SharedOwner, AllocError>
+        requires { IfSome other (λ o. o.key ≡ key.now) }
+        ensures address { IfOk result (λ s. s.address ≡ address.now) }
+        ensures key { IfOk result (λ s. s.key ≡ key.now) }
+    {
+        if let Some(other) = other {
+            if other.address() == address.as_str() {
+                return Ok(other);
+            }
+        }
+        SharedOwner::new(alloc, address, key)
     }
 
     /// The same owner for one more place. Nothing of it is copied.

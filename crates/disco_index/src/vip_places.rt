@@ -1,5 +1,5 @@
 //! The places of keys under the vips of one kind of address.
-ghost use Rattle.std.specs.Prelude.{◌≡◌, ◌∷◌, ◌≤◌, [], IfOk, OnErr, OnOk, false, length, map};
+ghost use Rattle.std.specs.Prelude.{◌≡◌, ◌∷◌, ◌≤◌, [], IfOk, IfSome, OnErr, OnOk, false, length, map};
 ghost use Rattle.std.specs.FinMap.{empty};
 ghost use Rattle.disco_history.specs.Query.{vips};
 ghost use Rattle.disco_history.specs.Slots.{written};
@@ -48,18 +48,27 @@ impl VipPlaces {
     }
 
     /// Makes an empty place for a key under each vip of an address, where there is none. Places that
-    /// are there take this address as their own.
-    pub(crate) fn ready(&mut self, address: &Text, key: &Key) -> Result<(), AllocError>
+    /// are there take this address as their own. Answers their owner: the other one where it has this
+    /// address, and none where there are no vips.
+    pub(crate) fn ready(
+        &mut self,
+        address: &Text,
+        key: &Key,
+        other: Option<SharedOwner>,
+    ) -> Result<Option<SharedOwner>, AllocError>
+        requires { IfSome other (λ o. o.key ≡ key.now) }
+        ensures owner { IfOk result (λ o. IfSome o (λ o. o.key ≡ key.now)) }
         ensures ok { OnOk result (Alters opened_vip (vips address.now) key.now self.old self.new) }
         ensures same { IsSameIn self.old self.new }
         ensures others { OthersOf (vips address.now) key.now self.old self.new }
         ensures places { KeepsPlacesIn self.old self.new }
     {
         if next_vip(address.as_str()).is_none() {
-            return Ok(());
+            return Ok(None);
         }
-        let owner = SharedOwner::new(self.alloc, address, key)?;
-        Ok(self.open_all(&owner)?)
+        let owner = SharedOwner::with_address(self.alloc, address, key, other)?;
+        self.open_all(&owner)?;
+        Ok(Some(owner))
     }
 
     /// Sets under each vip of an address whether the key's instance is there, where it has a place.

@@ -164,11 +164,10 @@ impl VipIndex {
         ensures places { KeepsVipPlaces self.old self.new }
     {
         let details = &rec.details;
-        self.vips.ready(&details.vip_address, &rec.key)?;
-        Ok(
-            self.secure_vips
-                .ready(&details.secure_vip_address, &rec.key)?,
-        )
+        let owner = self.vips.ready(&details.vip_address, &rec.key, None)?;
+        self.secure_vips
+            .ready(&details.secure_vip_address, &rec.key, owner)?;
+        Ok(())
     }
 
     /// Sets under each of the record's vips whether its instance is there, where it has a place.
