@@ -21,7 +21,7 @@ pub(crate) enum Ids<V> {
     Empty,
     /// One id, without memory of its own.
     One(Text, V),
-    /// Any number of ids.
+    /// Ids in a tree, which stays a tree when ids go.
     Many(BTreeMap<Text, V>),
 }
 
@@ -32,6 +32,7 @@ pub(crate) fn is_same(id: &Text, own: &Text) -> bool
     id.cmp(own).is_eq()
 }
 
+/// Replaces the value of an id in a tree, where it has one, and answers the old one.
 fn swap_in_tree<V: Drop>(ids: &mut BTreeMap<Text, V>, id: &Text, value: V) -> Option<V>
     ensures before { result ≡ tree.get text_cmp ids.old id.now }
     ensures there { IsSome (tree.get text_cmp ids.old id.now) → tree.Updates text_cmp ids.old ids.new id.now (Some value) }
@@ -43,7 +44,7 @@ fn swap_in_tree<V: Drop>(ids: &mut BTreeMap<Text, V>, id: &Text, value: V) -> Op
     }
 }
 
-/// The same where there is one id.
+/// The same of an id that stands alone.
 fn swap_one<V: Drop>(own: &Text, place: &mut V, id: &Text, value: V) -> Option<V>
     ensures before { result ≡ cond (is_at (text_cmp id.now) own.now) (Some place.old) None }
     ensures after { place.new ≡ cond (is_at (text_cmp id.now) own.now) value place.old }
@@ -68,6 +69,7 @@ pub(crate) fn swap<V: Drop>(ids: &mut Ids<V>, id: &Text, value: V) -> Option<V>
     }
 }
 
+/// Applies a function to the value of a place, if it has one. Answers whether there is one.
 fn change<V: Drop, F: FnOnce(&V) -> V + Drop>(place: &mut Option<V>, f: F) -> bool
     requires { F.IsAlwaysCallable f }
     ensures there { result ≡ is_some place.old }
@@ -83,6 +85,7 @@ fn change<V: Drop, F: FnOnce(&V) -> V + Drop>(place: &mut Option<V>, f: F) -> bo
     }
 }
 
+/// Applies a function to the value of an id in a tree, if it has one. Answers whether there is one.
 fn update_in_tree<V: Drop, F: FnOnce(&V) -> V + Drop>(
     ids: &mut BTreeMap<Text, Option<V>>,
     id: &Text,
@@ -100,7 +103,7 @@ fn update_in_tree<V: Drop, F: FnOnce(&V) -> V + Drop>(
     }
 }
 
-/// The same where there is one id.
+/// The same of an id that stands alone.
 fn update_one<V: Drop, F: FnOnce(&V) -> V + Drop>(
     own: &Text,
     place: &mut Option<V>,
@@ -138,6 +141,7 @@ pub(crate) fn update<V: Drop, F: FnOnce(&V) -> V + Drop>(
     }
 }
 
+/// Removes an id from a tree. Answers whether it was there.
 fn unset<V: Drop>(ids: &mut BTreeMap<Text, V>, id: &Text) -> bool
     ensures there { result ≡ is_some (tree.get text_cmp ids.old id.now) }
     ensures out { tree.Updates text_cmp ids.old ids.new id.now None }
