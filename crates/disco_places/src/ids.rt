@@ -44,18 +44,6 @@ fn swap_in_tree<V: Drop>(ids: &mut BTreeMap<Text, V>, id: &Text, value: V) -> Op
     }
 }
 
-/// The same of an id that stands alone.
-fn swap_one<V: Drop>(own: &Text, place: &mut V, id: &Text, value: V) -> Option<V>
-    ensures before { result ≡ cond (is_at (text_cmp id.now) own.now) (Some place.old) None }
-    ensures after { place.new ≡ cond (is_at (text_cmp id.now) own.now) value place.old }
-{
-    if is_same(id, own) {
-        Some(mem::replace(place, value))
-    } else {
-        None
-    }
-}
-
 /// Replaces the value of an id, where it has one, and answers the old one.
 pub(crate) fn swap<V: Drop>(ids: &mut Ids<V>, id: &Text, value: V) -> Option<V>
     ensures before { result ≡ finmap.get (map_in ids.old) id.now }
@@ -64,7 +52,8 @@ pub(crate) fn swap<V: Drop>(ids: &mut Ids<V>, id: &Text, value: V) -> Option<V>
 {
     match ids {
         Ids::Empty => None,
-        Ids::One(own, place) => swap_one(own, place, id, value),
+        Ids::One(own, _) if !is_same(id, own) => None,
+        Ids::One(_, place) => Some(mem::replace(place, value)),
         Ids::Many(ids) => swap_in_tree(ids, id, value),
     }
 }
@@ -103,26 +92,6 @@ fn update_in_tree<V: Drop, F: FnOnce(&V) -> V + Drop>(
     }
 }
 
-/// The same of an id that stands alone.
-fn update_one<V: Drop, F: FnOnce(&V) -> V + Drop>(
-    own: &Text,
-    place: &mut Option<V>,
-    id: &Text,
-    f: F,
-) -> bool
-    requires { F.IsAlwaysCallable f }
-    ensures there { result ≡ cond (is_at (text_cmp id.now) own.now) (is_some place.old) false }
-    ensures changed { IsTrue result → (x : _) × (y : _) × (is_at (text_cmp id.now) own.now ≡ true) × (place.old ≡ Some x)
-        × FnOnceReturnsAt F.FnOnce f x y × (place.new ≡ Some y) }
-    ensures same { result ≡ false → place.new ≡ place.old }
-{
-    if is_same(id, own) {
-        change(place, f)
-    } else {
-        false
-    }
-}
-
 /// Applies a function to the value of an id, if it has one. Answers whether there is one.
 pub(crate) fn update<V: Drop, F: FnOnce(&V) -> V + Drop>(
     ids: &mut Ids<Option<V>>,
@@ -136,7 +105,8 @@ pub(crate) fn update<V: Drop, F: FnOnce(&V) -> V + Drop>(
 {
     match ids {
         Ids::Empty => false,
-        Ids::One(own, place) => update_one(own, place, id, f),
+        Ids::One(own, _) if !is_same(id, own) => false,
+        Ids::One(_, place) => change(place, f),
         Ids::Many(ids) => update_in_tree(ids, id, f),
     }
 }

@@ -1,4 +1,5 @@
-use Rattle.std.proofs.Common.{refl, sym, ap, ◌∙◌}
+use Rattle.std.proofs.Common.{◌≡◌, Some, cond, false, refl, rules, sym, true, ap, ◌∙◌}
+use Rattle.std.specs.BTreeMap.{is_at}
 use Rattle.std.specs.FinMap.{from_entries, get-empty}
 use Rattle.disco_places.specs.KeyMaps.{text_cmp}
 use Rattle.disco_places.proofs.Kept.{get_one, none_there, swap_none, swap_there}
@@ -12,13 +13,32 @@ pub returns-in-Empty-clause-there : goal.returns-in-Empty-clause-there
 returns-in-Empty-clause-there g c = rw c.in-Empty.is (λ there. absurd (none_there _ c.args.id.now there))
 
 pub returns-in-One-clause-before : goal.returns-in-One-clause-before
-returns-in-One-clause-before g c = rw c.in-One.is (c.swap_one.ensures.before ∙ sym (get_one c.in-One.own c.args.id.now c.in-One.place _ refl))
+returns-in-One-clause-before g c =
+    let other : is_at (text_cmp c.args.id.now) c.in-One.own ≡ false = search rules in
+    rw c.in-One.is (sym (get_one c.in-One.own c.args.id.now c.in-One.field-1 false other))
 
 pub returns-in-One-clause-there : goal.returns-in-One-clause-there
-returns-in-One-clause-there g c = rw c.in-One.is (swap_there c.in-One.own c.args.id.now c.in-One.place c.args.value c.swap_one.new.place _ refl c.swap_one.ensures.after)
+returns-in-One-clause-there g c =
+    let other : is_at (text_cmp c.args.id.now) c.in-One.own ≡ false = search rules in
+    let x = c.in-One.field-1 in
+    rw c.in-One.is (swap_there c.in-One.own c.args.id.now x c.args.value x _ refl (sym (ap (λ b. cond b c.args.value x) other)))
 
-pub returns-in-One-clause-none : goal.returns-in-One-clause-none
-returns-in-One-clause-none g c = rw c.in-One.is (swap_none c.in-One.own c.args.id.now c.in-One.place c.args.value c.swap_one.new.place _ refl c.swap_one.ensures.after)
+pub returns-in-One-2-clause-before : goal.returns-in-One-2-clause-before
+returns-in-One-2-clause-before g c =
+    let own : is_at (text_cmp c.args.id.now) c.in-One.own ≡ true = search rules in
+    rw c.in-One.is (ap Some c.replace.ensures.value ∙ sym (get_one c.in-One.own c.args.id.now c.in-One.field-1 true own))
+
+pub returns-in-One-2-clause-there : goal.returns-in-One-2-clause-there
+returns-in-One-2-clause-there g c =
+    let own : is_at (text_cmp c.args.id.now) c.in-One.own ≡ true = search rules in
+    let x = c.in-One.field-1 in
+    rw c.in-One.is (swap_there c.in-One.own c.args.id.now x c.args.value c.replace.new.dest _ refl (c.replace.ensures.after ∙ sym (ap (λ b. cond b c.args.value x) own)))
+
+pub returns-in-One-2-clause-none : goal.returns-in-One-2-clause-none
+returns-in-One-2-clause-none g c =
+    let own : is_at (text_cmp c.args.id.now) c.in-One.own ≡ true = search rules in
+    let x = c.in-One.field-1 in
+    rw c.in-One.is (swap_none c.in-One.own c.args.id.now x c.args.value c.replace.new.dest _ refl (c.replace.ensures.after ∙ sym (ap (λ b. cond b c.args.value x) own)))
 
 pub returns-in-Many-clause-before : goal.returns-in-Many-clause-before
 returns-in-Many-clause-before g c = rw c.in-Many.is (c.swap_in_tree.ensures.before ∙ sym (get_stored c.in-Many.ids.entries c.args.id.now))

@@ -1,4 +1,5 @@
-use Rattle.std.proofs.Common.{Some, true, is_some, sym, ap, ◌∙◌}
+use Rattle.std.proofs.Common.{◌≡◌, Some, cond, false, true, is_some, rules, sym, ap, ◌∙◌}
+use Rattle.std.specs.BTreeMap.{is_at}
 use Rattle.std.specs.FinMap.{get-empty}
 use Rattle.std.specs.Option.{option_flatten}
 use Rattle.disco_places.specs.KeyMaps.{text_cmp}
@@ -10,19 +11,29 @@ pub returns-in-Empty-clause-there : goal.returns-in-Empty-clause-there
 returns-in-Empty-clause-there g c = rw c.in-Empty.is (ap (λ o. is_some (option_flatten o)) (sym (get-empty text_cmp c.args.id.now)))
 
 pub returns-in-One-clause-there : goal.returns-in-One-clause-there
-returns-in-One-clause-there g c = rw c.in-One.is (c.update_one.ensures.there ∙ flat_there c.in-One.own c.args.id.now c.in-One.place)
+returns-in-One-clause-there g c =
+    let other : is_at (text_cmp c.args.id.now) c.in-One.own ≡ false = search rules in
+    let p = c.in-One.field-1 in
+    rw c.in-One.is (sym (ap (λ b. cond b (is_some p) false) other) ∙ flat_there c.in-One.own c.args.id.now p)
 
-pub returns-in-One-clause-changed : goal.returns-in-One-clause-changed
-returns-in-One-clause-changed g c = rw c.in-One.is (λ t.
+pub returns-in-One-2-clause-there : goal.returns-in-One-2-clause-there
+returns-in-One-2-clause-there g c =
+    let own : is_at (text_cmp c.args.id.now) c.in-One.own ≡ true = search rules in
+    let p = c.in-One.field-1 in
+    rw c.in-One.is (c.change.ensures.there ∙ sym (ap (λ b. cond b (is_some p) false) own) ∙ flat_there c.in-One.own c.args.id.now p)
+
+pub returns-in-One-2-clause-changed : goal.returns-in-One-2-clause-changed
+returns-in-One-2-clause-changed g c = rw c.in-One.is (λ t.
     let own = c.in-One.own in
     let k = c.args.id.now in
-    let p = c.in-One.place in
-    let made = c.update_one.ensures.changed t in (
+    let p = c.in-One.field-1 in
+    let is : is_at (text_cmp k) own ≡ true = search rules in
+    let made = c.change.ensures.changed t in (
       made.0,
       made.1,
-      ap option_flatten (get_one own k p true made.2) ∙ made.3,
-      made.4,
-      ap (one own) made.5 ∙ put_over own k p (Some made.1) made.2,
+      ap option_flatten (get_one own k p true is) ∙ made.2,
+      made.3,
+      ap (one own) made.4 ∙ put_over own k p (Some made.1) is,
     ))
 
 pub returns-in-Many-clause-there : goal.returns-in-Many-clause-there
