@@ -35,9 +35,9 @@ fn piece<'t>(app: &'t Text, place: &'t Option<Bytes>) -> Option<Piece<'t>>
 fn walk_ids<'t>(
     list: &mut Vec<Piece<'t>>,
     app: &'t Text,
-    ids: &'t BTreeMap<Text, Option<Bytes>>,
+    ids: &'t IdMap<Option<Bytes>>,
 ) -> Result<(), AllocError>
-    ensures { OnOk result (shown_by list.new.items ≡ shown_by list.old.items ++ walked_ids app.now ids.now.entries) }
+    ensures { OnOk result (shown_by list.new.items ≡ shown_by list.old.items ++ walked_ids app.now (finmap.entries ids.now)) }
 {
     for (_, place) in ids {
         if let Some(piece) = piece(app, place) {
@@ -57,7 +57,7 @@ fn walk<'t>(
 {
     let mut list = Vec::with_capacity(alloc, room)?;
     for (app, ids) in apps {
-        walk_ids(&mut list, app, ids.as_map())?;
+        walk_ids(&mut list, app, ids)?;
     }
     Ok(list)
 }
@@ -66,9 +66,9 @@ fn walk<'t>(
 fn walk_keyed_ids<'t>(
     list: &mut Vec<KeyedText<'t>>,
     app: &'t Text,
-    ids: &'t BTreeMap<Text, Option<Bytes>>,
+    ids: &'t IdMap<Option<Bytes>>,
 ) -> Result<(), AllocError>
-    ensures { OnOk result (map keyed_text list.new.items ≡ map keyed_text list.old.items ++ keyed_ids app.now ids.now.entries) }
+    ensures { OnOk result (map keyed_text list.new.items ≡ map keyed_text list.old.items ++ keyed_ids app.now (finmap.entries ids.now)) }
 {
     for (id, place) in ids {
         if let Some(text) = place {
@@ -88,7 +88,7 @@ fn walk_keyed<'t>(
 {
     let mut list = Vec::with_capacity(alloc, room)?;
     for (app, ids) in apps {
-        walk_keyed_ids(&mut list, app, ids.as_map())?;
+        walk_keyed_ids(&mut list, app, ids)?;
     }
     Ok(list)
 }

@@ -1,5 +1,4 @@
-use Rattle.std.proofs.Common.{◌++◌, ap, ◌∙◌}
-use Rattle.disco_writer.specs.Joined.{shown_by, walked, walked_ids}
+use Rattle.disco_writer.specs.Joined.{shown_by, walked}
 use Rattle.disco_places.specs.KeyMaps.{of_apps}
 use Rattle.disco_writer.proofs.Apps.{walk_more}
 use Rattle.disco_writer.proofs.places.walk.Goals as goal
@@ -8,4 +7,4 @@ pub loop-app-preserved : goal.loop-app-preserved
 loop-app-preserved c =
     walk_more (shown_by c.loop-app.list.items) (shown_by c.walk_ids.new.list.items) (c.in-Some.app.now, c.in-Some.ids.now) c.next.new.self c.loop-app.app-iterator (walked (of_apps c.args.apps.now.entries))
     c.in-Some.ensures.steps c.loop-app.invariant
-    (c.in_ok-walk_ids.ensures ∙ ap (λ es. shown_by c.loop-app.list.items ++ walked_ids c.in-Some.app.now es) c.as_map.ensures)
+    c.in_ok-walk_ids.ensures
