@@ -13,8 +13,8 @@ use Rattle.disco_http.specs.declared.body.Left.{Left}
 use Rattle.disco_http.specs.declared.body.Left.TheVariants.{Line, Chunk, Trailer}
 use Rattle.disco_http.specs.declared.parts.Part.TheVariants as part
 use Rattle.disco_http.specs.Chunks.{HasSize, LacksChunk, LineRefused, NextRefused, ReadsPieces}
-use Rattle.disco_http.specs.Coming.{Awaits, BodyAt, PiecesAt, ReadsWhole}
-use Rattle.disco_http.specs.Found.{HasNoChunks, IsLine, IsTrailer}
+use Rattle.disco_http.specs.Coming.{Awaits, BodyAt, PiecesAt}
+use Rattle.disco_http.specs.Found.{HasNoChunks, IsLine}
 use Rattle.disco_http.specs.Parts.{HasNo, SomeFront}
 use Rattle.disco_http.specs.Replies.{ExtentRefused}
 use Rattle.disco_http.proofs.CameBefore.{no_chunked, no_data, no_fields, no_line_came, no_more}
@@ -207,15 +207,6 @@ module _ (limits : Limits) (given bytes : List ℕ) (room : ℕ) where
       go (Framed (Sized n)) k = elim k [ ]
       go (Framed Chunked) k =
           awaits limits given bytes k.0 u k.1 (no_fields limits k.0 u k.2 none) (omega (arith, k.3, ap length k.1.2)) (inr (inr (u, k.2, inr (few, none))))
-      go UntilEnd k = elim k [ ]
-
-  pub trailer_done : (extent : Extent) (left : Left) (few len : ℕ) (u v : List ℕ) → left ≡ Trailer → few ≡ limits.fields → length u ≤ limits.head → IsTrailer few u len → v ≡ drop len u → BodyAt limits extent given bytes left room u → ReadsWhole limits extent given bytes v
-  trailer_done extent left few len u v is fields small t rest h = go extent (subst (λ (l : Left). BodyAt limits extent given bytes l room u) is h)
-    where
-      go : (e : Extent) → BodyAt limits e given bytes Trailer room u → ReadsWhole limits e given bytes v
-      go (Framed (Sized n)) k = elim k [ ]
-      go (Framed Chunked) k =
-          (k.1.0, k.0, k.1.1, (u, k.2, (t.1.0, t.1.1, rw rest t.1.2, omega (arith, t.0, t.1.3, small), omega (arith, t.1.4, fields))), k.1.2, k.3)
       go UntilEnd k = elim k [ ]
 
 -- a line that was found has its size

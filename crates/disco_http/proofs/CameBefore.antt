@@ -32,21 +32,11 @@ module _ (IsSo : List ℕ → Type 0) where
   came_read None b front k so = tt
   came_read (Some stream) b front k so = (front, k, so)
 
-  -- what is known of what came is known of less
-  pub came_so : (a b : Option (List ℕ)) (IsMore : List ℕ → Type 0) → ((xs : List ℕ) → IsMore xs → IsSo xs) → IfSome a (λ stream. Came IsMore stream b) → IfSome a (λ stream. Came IsSo stream b)
-  came_so None b IsMore so h = tt
-  came_so (Some stream) b IsMore so h = (h.0, h.1, so h.0 h.2)
-
   -- what came behind other bytes came, with these in front
-  pub came_behind : (stream front after : List ℕ) (b : Option (List ℕ)) (IsMore : List ℕ → Type 0) → stream ≡ front ++ after → ((xs : List ℕ) → IsMore xs → IsSo (front ++ xs)) → Came IsMore after b → Came IsSo stream b
+  came_behind : (stream front after : List ℕ) (b : Option (List ℕ)) (IsMore : List ℕ → Type 0) → stream ≡ front ++ after → ((xs : List ℕ) → IsMore xs → IsSo (front ++ xs)) → Came IsMore after b → Came IsSo stream b
   came_behind stream front after None IsMore is so h = elim h.1 [ ]
   came_behind stream front after (Some left) IsMore is so h =
       (front ++ h.0, is ∙ ap (λ (xs : List ℕ). front ++ xs) h.1 ∙ sym (append_assoc front h.0 left), so h.0 h.2)
-
-  pub came_past : (a b c : Option (List ℕ)) (front : List ℕ) (IsMore : List ℕ → Type 0) → Consumes a b front → ((xs : List ℕ) → IsMore xs → IsSo (front ++ xs)) → IfSome b (λ after. Came IsMore after c) → IfSome a (λ stream. Came IsSo stream c)
-  came_past None b c front IsMore taken so h = tt
-  came_past (Some stream) None c front IsMore taken so h = elim taken [ ]
-  came_past (Some stream) (Some after) c front IsMore taken so h = came_behind stream front after c IsMore taken so h
 
 -- the line of a chunk that stands at the front is the one
 line_is : (limits : Limits) (given after rest : List ℕ) (m n : ℕ) → HasSize limits m given after → HasSize limits n given rest → (m ≡ n) × (after ≡ rest)

@@ -8,10 +8,10 @@ pub mod Lent
 pub mod Messages
 pub mod MoreBytes
 pub mod ReadOn
+pub mod ReadRequests
 pub mod ReadingSessions
 pub mod Refusals
 pub mod ServedSessions
 pub mod SessionSteps
 pub mod Slices
-pub mod Taken
 pub mod Written

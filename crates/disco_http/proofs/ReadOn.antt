@@ -1,23 +1,8 @@
 -- What came of a stream so far, and what is read on.
-use Rattle.std.proofs.Common.{◌≡◌, ℕ, ◌++◌, List, [], ◌∷◌, Option, Some, None, Result, Ok, Err, IfErr, IfSome, IsTrue, ap, ◌∙◌, sym, refl, subst, append-nil, arith, length, length-append}
+use Rattle.std.proofs.Common.{◌≡◌, ℕ, ◌++◌, List, [], ◌∷◌, Option, Some, None, IfSome, ap, ◌∙◌, sym, refl, subst, append-nil, arith, length, length-append}
 use Rattle.std.specs.Io.KnownBytes.{Consumes, IsAtEnd, Keeps, prepend_known}
 use Rattle.std.proofs.KnownBytes.{Consumes-trans}
-use Rattle.disco_values.specs.declared.fault.Fault.{Fault}
-use Rattle.disco_values.specs.declared.fault.Fault.TheVariants.{ReadFailed}
-use Rattle.disco_http.specs.Causes.{is_of_reply, is_of_request}
-use Rattle.disco_http.specs.Coming.{is_of_asked, is_of_bytes}
 use Rattle.disco_http.specs.Streams.{Came}
-
-pub of_reply : (f : Fault) → IsTrue (is_of_bytes f) → IsTrue (is_of_reply f)
-of_reply ReadFailed h = absurd (cc h)
-of_reply f h = h
-
-pub of_request : (f : Fault) → IsTrue (is_of_asked f) → IsTrue (is_of_request f)
-of_request ReadFailed h = absurd (cc h)
-of_request f h = h
-
-pub not_read : (f : Fault) → IsTrue (is_of_asked f) → f ≡ ReadFailed → ⊥
-not_read f h is = cc (subst (λ (x : Fault). IsTrue (is_of_asked x)) is h)
 
 pub none_came : (a b : Option (List ℕ)) → Keeps a b → Consumes a b []
 none_came None b h = tt
@@ -29,11 +14,6 @@ pub nothing : (xs ys came : List ℕ) → ys ≡ xs ++ came → ys ≡ xs → ca
 nothing xs ys [] e k = refl
 nothing xs ys (b ∷ came) e k = absurd (omega (arith, ap length (sym k ∙ e), length-append xs (b ∷ came)))
 
--- why it is refused, where the answer says so
-pub if_refused : {A : Type 0} (B : Type 0) (Q : Fault → Type 0) (r : Result A Fault) (f : Fault) → IfErr r (λ fault. (fault ≡ f) × (B → ⊥)) → ((B → ⊥) → Q f) → IfErr r Q
-if_refused B Q (Ok x) f h k = tt
-if_refused B Q (Err fault) f h k = subst Q (sym h.0) (k h.1)
-
 module _ (Old New : List ℕ → Type 0) where
   -- more came of it
   pub came_on : (came : List ℕ) (first a b : Option (List ℕ)) → ((given : List ℕ) → Old given → New (given ++ came)) → Consumes a b came → IfSome first (λ stream. Came Old stream a) → IfSome first (λ stream. Came New stream b)
@@ -41,16 +21,7 @@ module _ (Old New : List ℕ → Type 0) where
   came_on came (Some stream) a b more read h = (h.0 ++ came, Consumes-trans (Some stream) a b h.0 came h.1 read, more h.0 h.2)
 
 module _ (So : List ℕ → Type 0) (first : Option (List ℕ)) where
-  -- what holds of what came and whatever follows holds of the stream
-  pub of_stream : (a : Option (List ℕ)) (P : List ℕ → Type 0) → ((given more : List ℕ) → So given → P (given ++ more)) → IfSome first (λ stream. Came So stream a) → IfSome first P
-  of_stream a P all h = go first a h
-    where
-      go : (f a : Option (List ℕ)) → IfSome f (λ stream. Came So stream a) → IfSome f P
-      go None a h = tt
-      go (Some stream) None h = elim h.1 [ ]
-      go (Some stream) (Some left) h = subst P (sym h.1) (all h.0 left h.2)
-
-  -- and with what follows it
+  -- what holds of what came and whatever follows, and of what is unread with it, holds of the stream and its rest
   pub with_rest : (a : Option (List ℕ)) (v : List ℕ) (P : List ℕ → List ℕ → Type 0) → ((given more : List ℕ) → So given → P (given ++ more) (v ++ more)) → IfSome first (λ stream. Came So stream a)
       → IfSome first (λ stream. (rest : List ℕ) × P stream rest × (prepend_known v a ≡ Some rest))
   with_rest a v P all h = go first a h

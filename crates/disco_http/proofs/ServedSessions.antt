@@ -116,7 +116,7 @@ same_last : (most count : ℕ) → count < most → (most - count == 1) ≡ nat_
 same_last most count h = grind (arith, nat_tests, h)
 
 -- what a source still gives
-given_on : (stream given : List ℕ) (left : Option (List ℕ)) → Consumes (Some stream) left given → (more : List ℕ) × (left ≡ Some more) × (stream ≡ given ++ more)
+pub given_on : (stream given : List ℕ) (left : Option (List ℕ)) → Consumes (Some stream) left given → (more : List ℕ) × (left ≡ Some more) × (stream ≡ given ++ more)
 given_on stream given None h = elim h [ ]
 given_on stream given (Some more) h = (more, refl, h)
 
@@ -126,14 +126,14 @@ rest_is limits incoming closes true rest head h = h
 rest_is limits incoming true false rest head h = h
 rest_is limits incoming false false rest head h = subst (λ at. PhaseAt limits rest at (bytes_of incoming.unread)) head h
 
-none_more : (xs ys : List ℕ) → xs ≡ [] → ys ≡ [] → xs ++ ys ≡ []
+pub none_more : (xs ys : List ℕ) → xs ≡ [] → ys ≡ [] → xs ++ ys ≡ []
 none_more xs ys none empty = rw (none, empty) refl
 
-refused_on : {D : Type 0} (session : Session D) (f : fault.Fault) (rest more : List ℕ) → (IsTrue session.has_ended → more ≡ []) → IsRefused session f rest → Refused session.limits f (rest ++ more)
+pub refused_on : {D : Type 0} (session : Session D) (f : fault.Fault) (rest more : List ℕ) → (IsTrue session.has_ended → more ≡ []) → IsRefused session f rest → Refused session.limits f (rest ++ more)
 refused_on session f rest more none (inl all) = all more
 refused_on session f rest more none (inr at) = rw (none at.0, append-nil rest) at.1
 
-at_end_is : (left : Option (List ℕ)) (more : List ℕ) → left ≡ Some more → IsAtEnd left → more ≡ []
+pub at_end_is : (left : Option (List ℕ)) (more : List ℕ) → left ≡ Some more → IsAtEnd left → more ≡ []
 at_end_is left more is end = subst IsAtEnd is end
 
 -- the request that is answered last ends the connection, or would have gone on where its answer isn't out

@@ -17,7 +17,7 @@ use Rattle.disco_http.specs.declared.steps.Session.{Session}
 use Rattle.disco_http.specs.declared.steps.State.{State}
 use Rattle.disco_http.specs.declared.steps.State.TheVariants.{Waits, Looks, Writes, Over}
 use Rattle.disco_http.specs.declared.incoming.Phase.TheVariants as phase
-use Rattle.disco_http.specs.Coming.{PhaseAt, is_of_asked}
+use Rattle.disco_http.specs.Coming.{PhaseAt, StandsFor, is_of_asked}
 use Rattle.disco_http.specs.Exchanges.{LooksAt, behind}
 use Rattle.disco_http.specs.Served.{end_behind}
 use Rattle.disco_http.specs.Sessions.{Answered, Fronts, HasDone, Holds, IsGoing, Leaves, is_limit, text_of, unsent}
@@ -81,27 +81,29 @@ end_of text front rest body left is (inr all) fits far =
 pub one_text : (texts : List (List ℕ)) (out text : List ℕ) → out ++ [] ≡ concat texts → out ++ text ≡ concat (texts ++ text ∷ [])
 one_text texts out text put = ap (λ (xs : List ℕ). xs ++ text) (sym (append-nil out) ∙ put) ∙ ap (λ (xs : List ℕ). concat texts ++ xs) (sym (append-nil text)) ∙ sym (concat-append texts (text ∷ []))
 
--- a reply that goes out, and nothing of it is out
-pub going_put : {D : Type 0} (content : D → List ℕ) (state : State D) (r : ReplyView) (end : Option End) (texts : List (List ℕ)) (out : List ℕ) → IsGoing content r end state → out ++ [] ≡ concat texts → out ++ unsent content state ≡ concat (texts ++ reply_text r (is_some end) ∷ [])
-going_put content state r end texts out g put =
+-- one that looks stands for what follows, and has put all out
+pub looking : {D : Type 0} (content : D → List ℕ) (session : Session D) (given : List ℕ) (asks : List message.RequestView) (texts : List (List ℕ)) (out : List ℕ) → session.state ≡ Looks → (h : HasDone content session given asks texts out) → StandsFor session.limits session.incoming h.rest × (out ++ [] ≡ concat texts)
+looking content session given asks texts out looks h =
+    (subst (λ s. Holds content session.limits session.incoming s h.rest) looks h.holds, subst (λ s. out ++ unsent content s ≡ concat texts) looks h.put)
+
+-- a reply goes out, and nothing of it is out
+pub going_done : {D : Type 0} (content : D → List ℕ) (session : Session D) (given rest : List ℕ) (asks : List message.RequestView) (texts : List (List ℕ)) (out : List ℕ) (r : ReplyView) (end : Option End) → Fronts session.limits given asks rest → IsGoing content r end session.state → Leaves session.limits session.incoming rest end → out ++ [] ≡ concat texts → HasDone content session given asks (texts ++ reply_text r (is_some end) ∷ []) out
+going_done content session given rest asks texts out r end fronts g left put =
     let text = text_of content g.0 in
     let same : text ≡ reply_text r (is_some end) = ap (λ v. reply_text v (is_some g.0.end)) g.2 ∙ ap (λ e. reply_text r (is_some e)) g.3 in
     let zero : length text - g.0.left ≡ 0 = omega (arith, g.4) in
-    ap (λ s. out ++ unsent content s) g.1 ∙ ap (λ n. out ++ drop n text) zero ∙ ap (λ (xs : List ℕ). out ++ xs) same ∙ one_text texts out (reply_text r (is_some end)) put
-
-pub going_holds : {D : Type 0} (content : D → List ℕ) (limits : Limits) (incoming : Incoming) (state : State D) (r : ReplyView) (end : Option End) (rest : List ℕ) → IsGoing content r end state → Leaves limits incoming rest end → Holds content limits incoming state rest
-going_holds content limits incoming state r end rest g left =
-    subst (λ s. Holds content limits incoming s rest) (sym g.1) (subst (Leaves limits incoming rest) (sym g.3) left, omega (arith, g.4))
+    record {
+      rest = rest;
+      fronts = fronts;
+      holds = subst (λ s. Holds content session.limits session.incoming s rest) (sym g.1) (subst (Leaves session.limits session.incoming rest) (sym g.3) left, omega (arith, g.4));
+      put = ap (λ s. out ++ unsent content s) g.1 ∙ ap (λ n. out ++ drop n text) zero ∙ ap (λ (xs : List ℕ). out ++ xs) same ∙ one_text texts out (reply_text r (is_some end)) put;
+    }
 
 -- behind a request that was taken
-pub taken_leaves : (limits : Limits) (incoming : Incoming) (closes last : Bool) → incoming.phase ≡ phase.Head → Leaves limits incoming (bytes_of incoming.unread) (end_behind closes last)
-taken_leaves limits incoming closes true head = refl
-taken_leaves limits incoming true false head = refl
-taken_leaves limits incoming false false head = subst (λ at. PhaseAt limits (bytes_of incoming.unread) at (bytes_of incoming.unread)) (sym head) refl
-
-pub true_or_false : (b : Bool) → IsTrue b ⊎ IsFalse b
-true_or_false true = inl refl
-true_or_false false = inr refl
+pub taken_leaves : (limits : Limits) (incoming : Incoming) (closes last : Bool) (rest : List ℕ) → incoming.phase ≡ phase.Head → StandsFor limits incoming rest → Leaves limits incoming rest (end_behind closes last)
+taken_leaves limits incoming closes true rest head stands = subst (λ at. PhaseAt limits rest at (bytes_of incoming.unread)) head stands
+taken_leaves limits incoming true false rest head stands = subst (λ at. PhaseAt limits rest at (bytes_of incoming.unread)) head stands
+taken_leaves limits incoming false false rest head stands = stands
 
 not_so : (f g : fault.Fault) → f ≡ g → IsTrue (is_of_asked f) → IsFalse (is_of_asked g) → ⊥
 not_so f g is has lacks = cc (is, has, lacks)

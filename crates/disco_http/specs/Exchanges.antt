@@ -1,5 +1,5 @@
 -- Only what code keeps: nothing here is to be believed.
-use Rattle.std.specs.Prelude.{◌≡◌, ◌≢◌, ◌⊎◌, ℕ, ◌+◌, ◌-◌, ◌<◌, ◌==◌, true, false, List, [], ◌∷◌, ◌++◌, length, map, option_map, Option, Some, None, if◌then◌else◌, IsTrue, is_some, ⊤}
+use Rattle.std.specs.Prelude.{◌≡◌, ◌≢◌, ◌⊎◌, ℕ, ◌+◌, ◌-◌, ◌<◌, ◌==◌, true, false, List, [], ◌∷◌, ◌++◌, length, map, option_map, Option, Some, None, Result, MatchResult, Ok, Err, if◌then◌else◌, IsTrue, is_some, ⊤}
 use Rattle.std.specs.List.{concat}
 use Rattle.std.specs.Io.KnownBytes.{Appends, Consumes, prepend_known}
 use Rattle.disco_values.specs.declared.fault.Fault.TheVariants.{ReadFailed, WriteFailed}
@@ -8,7 +8,7 @@ use Rattle.disco_message.specs.declared.limits.Limits.{Limits}
 use Rattle.disco_message.specs.RequestView as message
 use Rattle.disco_message.specs.ReplyText.{ReplyView, reply_body, reply_text}
 use Rattle.disco_http.specs.Causes.{Raises}
-use Rattle.disco_http.specs.Coming.{most}
+use Rattle.disco_http.specs.Coming.{is_of_asked, most}
 use Rattle.disco_http.specs.Requests.{HasNone, Refused}
 use Rattle.disco_http.specs.Writes.{AppendsProperFront}
 use Rattle.disco_http.specs.declared.incoming.Incoming.{Incoming}
@@ -16,6 +16,7 @@ use Rattle.disco_http.specs.declared.incoming.Phase.TheVariants as phase
 use Rattle.disco_http.specs.declared.outgoing.Outgoing.{Outgoing}
 use Rattle.disco_http.specs.declared.session.End.{End}
 use Rattle.disco_http.specs.declared.session.End.TheVariants.{Closed, Fault}
+use Rattle.disco_http.specs.declared.source.Failed.{Failed}
 use Rattle.disco_http.specs.declared.steps.Session.{Session}
 use Rattle.disco_http.specs.declared.steps.State.{State}
 use Rattle.disco_http.specs.declared.steps.State.TheVariants.{Waits, Looks, Writes, Over}
@@ -82,9 +83,33 @@ pub record RefusesHere {D : Type 0} (content : D → List ℕ) (session : Sessio
   pub goes : IsGoing content (refused fault) (Some (Fault fault)) session.state
   pub done : HasDone content session given asks (texts ++ reply_text (refused fault) true ∷ []) out
 
--- it waits, or at the end of the input it is over
+-- it waits, or at the end of the input, between requests, it is over
 abbrev pub Rests : {D : Type 0} → Session D → Type 0
-Rests session = (session.state ≡ Waits) ⊎ ((session.state ≡ Over Closed) × IsTrue session.has_ended)
+Rests session = (session.state ≡ Waits) ⊎ ((session.state ≡ Over Closed) × IsTrue session.has_ended × (session.incoming.phase ≡ phase.Head))
+
+-- where a session is that was asked for its next request
+abbrev pub Stands : {D A : Type 0} → Session D → Result (Option A) fault.Fault → Type 0
+Stands session (Ok (Some a)) = (session.state ≡ Looks) × (session.incoming.phase ≡ phase.Head)
+Stands session (Ok None) = Rests session
+Stands session (Err f) = (session.state ≡ Looks) × IsTrue (is_of_asked f)
+
+-- the next request, for its caller to answer; none; or why what follows is refused
+abbrev pub Finds : {D : Type 0} → (D → List ℕ) → Session D → List ℕ → List message.RequestView → List (List ℕ) → List ℕ
+    → Result (Option message.RequestView) fault.Fault → Type 0
+Finds content session given asks texts out (Ok (Some a)) = HasDone content session given (asks ++ a ∷ []) texts out
+Finds content session given asks texts out (Ok None) = HasDone content session given asks texts out
+Finds content session given asks texts out (Err f) = (out ++ [] ≡ concat texts)
+    × ((rest : List ℕ) × Fronts session.limits given asks rest × IsRefused session f rest)
+
+-- no whole request has come behind these
+abbrev pub HasNoMore : {D : Type 0} → Session D → List ℕ → List message.RequestView → Type 0
+HasNoMore session given asks = (rest : List ℕ) × Fronts session.limits given asks rest × HasNone session.limits rest
+
+-- these bytes came, and a request was looked for; or a read failed
+abbrev pub Reads : {D : Type 0} → (D → List ℕ) → Session D → Session D → List ℕ → Result (Result (Option message.RequestView) fault.Fault) Failed → Type 0
+Reads content before session came result = (given : List ℕ) (asks : List message.RequestView) (texts : List (List ℕ)) (out : List ℕ)
+    → HasDone content before given asks texts out
+    → MatchResult result (Finds content session (given ++ came) asks texts out) (λ _. HasNoMore session (given ++ came) asks)
 
 -- what a look at what came does, where so many requests were answered before
 abbrev pub LooksAt : {D S : Type 0} → (D → List ℕ) → (S → message.RequestView → ReplyView → S → Type 0) → ℕ → Session D → S → S → List ℕ → List message.RequestView
@@ -94,13 +119,13 @@ LooksAt content answers count session old new given asks texts out = AnswersHere
     × (RefusesHere content session given asks texts out ⊎ (Rests session × HasDone content session given asks texts out)))
 
 -- these bytes came, and the session stands for them too
-abbrev pub GoesOn : {D S : Type 0} → (D → List ℕ) → Session D → Session D → S → S → List ℕ → Type 0
-GoesOn content before session old new came = (given : List ℕ) (asks : List message.RequestView) (texts : List (List ℕ)) (out : List ℕ)
-    → HasDone content before given asks texts out → (new ≡ old) × HasDone content session (given ++ came) asks texts out
+abbrev pub GoesOn : {D : Type 0} → (D → List ℕ) → Session D → Session D → List ℕ → Type 0
+GoesOn content before session came = (given : List ℕ) (asks : List message.RequestView) (texts : List (List ℕ)) (out : List ℕ)
+    → HasDone content before given asks texts out → HasDone content session (given ++ came) asks texts out
 
 -- a read failed, and no whole request had come
 abbrev pub BreaksOff : {D : Type 0} → Session D → List ℕ → List message.RequestView → Type 0
-BreaksOff session given asks = (session.state ≡ Over (Fault ReadFailed)) × ((rest : List ℕ) × Fronts session.limits given asks rest × HasNone session.limits rest)
+BreaksOff session given asks = (session.state ≡ Over (Fault ReadFailed)) × HasNoMore session given asks
 
 -- these bytes came, and were looked at; or a read failed
 abbrev pub Replies : {D S : Type 0} → (D → List ℕ) → (S → message.RequestView → ReplyView → S → Type 0) → Session D → Session D → S → S → List ℕ → Type 0

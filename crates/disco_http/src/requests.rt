@@ -1,16 +1,31 @@
 //! Requests that are read.
-ghost use Rattle.std.specs.Prelude.{◌≡◌, [], ℕ, List, IfOk, IfErr, IfNone, IfSome, IsErrOf, IsFalse, IsTrue, is_err, None, Ok, Some, OnOk};
-ghost use Rattle.disco_values.specs.declared.fault.Fault.TheVariants.{BadRequest, ReadFailed};
+ghost use Rattle.std.specs.Prelude.{◌≡◌, [], ℕ, List, IfOk, IfErr, IfNone, IfSome, IsErrOf, IsFalse, IsTrue, is_err, Some, OnOk};
+ghost use Rattle.disco_values.specs.declared.fault.Fault.TheVariants.{ReadFailed};
 ghost use Rattle.disco_http.specs.Causes.{Cause, is_of_request};
 
+use crate::incoming::Incoming;
 use crate::reader::Reader;
-use crate::source::Source;
-use disco_message::Request;
+use crate::session::next_request;
+use crate::source::{Failed, Source};
+use crate::steps::Session;
+use disco_message::{Document, Request};
 use disco_values::Fault;
 use std::alloc::Global;
+use std::mem;
+
+/// The document of no reply.
+#[derive(Drop)]
+struct Nothing;
+
+impl Document for Nothing {
+    ghost content = { λ _. [] };
+
+    fn bytes(&self) -> &[u8] {
+        b""
+    }
+}
 
 impl<R: Source> Reader<R> {
-    ghost use Rattle.disco_http.specs.Coming.{IsBetween};
     ghost use Rattle.disco_http.specs.Requests.{HasNone, TakesRequest, Refused};
     ghost use Rattle.disco_http.specs.Streams.{ahead, reader_limits, source_of, is_spent, Came};
 
@@ -39,40 +54,15 @@ impl<R: Source> Reader<R> {
         ensures none_failed { OnOk result (R.failed (source_of self.new) ≡ R.failed (source_of self.old)) }
         ensures spent { is_spent self.new ≡ is_err result }
     {
-        let mut told = self.incoming.stage();
-        self.source.expect(told);
-        self.spent = true;
-        loop {
-            let found = self.incoming.advance(alloc, &self.limits, &mut self.room)?;
-            if let Some(request) = found {
-                self.spent = false;
-                return Ok(Some(request));
-            }
-            let stage = self.incoming.stage();
-            if stage != told {
-                self.source.expect(stage);
-                told = stage;
-            }
-            if !self.more()? {
-                return self.end();
-            }
+        // The session has what the reader has unread, and gives it back.
+        let incoming = mem::replace(&mut self.incoming, Incoming::none(alloc));
+        let mut session: Session<Nothing> = Session::over(self.limits, incoming);
+        let read = next_request(alloc, &mut session, &mut self.source, &mut self.room);
+        mem::swap(&mut session.incoming, &mut self.incoming);
+        self.spent = !matches!(read, Ok(Ok(_)));
+        match read {
+            Ok(found) => found,
+            Err(Failed) => Err(Fault::ReadFailed),
         }
-    }
-
-    /// What is told at the end of the input: no request, where nothing came of one.
-    fn end(&mut self) -> Result<Option<Request>, Fault>
-        ensures none { result ≡ Ok None → IsBetween self.old.incoming }
-        ensures refused { IfErr result (λ fault. (fault ≡ BadRequest) × (IsBetween self.old.incoming → ⊥)) }
-        ensures some { IfOk result (λ found. found ≡ None) }
-        ensures spent { self.new.spent ≡ is_err result }
-        ensures incoming { self.new.incoming ≡ self.old.incoming }
-        ensures limits { self.new.limits ≡ self.old.limits }
-        ensures source { self.new.source ≡ self.old.source }
-    {
-        self.spent = !self.incoming.is_between();
-        if self.spent {
-            return Err(Fault::BadRequest);
-        }
-        Ok(None)
     }
 }

@@ -1,5 +1,5 @@
 //! One connection, from its first request to its end.
-ghost use Rattle.std.specs.Prelude.{◌≡◌, ◌+◌, ◌++◌, ◌≤◌, ◌<◌, [], ℕ, List, Option, IfSome, IsFalse, IsTrue, None, OnErr, OnOk, Some, vec_len, length};
+ghost use Rattle.std.specs.Prelude.{◌≡◌, ◌+◌, ◌++◌, ◌≤◌, ◌<◌, [], ℕ, List, Option, IfOk, IfSome, IsFalse, IsTrue, None, OnErr, OnOk, Some, vec_len, length};
 ghost use Rattle.std.specs.List.{concat};
 ghost use Rattle.std.specs.Vec.{vec_capacity};
 ghost use Rattle.std.specs.Io.KnownBytes.{Consumes, IsAtEnd};
@@ -7,7 +7,7 @@ ghost use Rattle.disco_values.specs.declared.fault.Fault.TheVariants.{ReadFailed
 ghost use Rattle.disco_message.specs.RequestView as message;
 ghost use Rattle.disco_http.specs.Causes.{Counts, Raises};
 ghost use Rattle.disco_http.specs.Streams.{ahead, is_spent, reader_limits, source_of};
-ghost use Rattle.disco_http.specs.Exchanges.{Exchanged, IsPut, PutsOut, Replies, SoFar, StopsReading, to_come};
+ghost use Rattle.disco_http.specs.Exchanges.{Exchanged, GoesOn, IsPut, PutsOut, Reads, Replies, SoFar, Stands, StopsReading, to_come};
 ghost use Rattle.disco_http.specs.Served.{end_behind, left_by, AnswersAll};
 ghost use Rattle.disco_http.specs.Sessions.{HasDone};
 ghost use Rattle.disco_http.specs.declared.steps.State.TheVariants as state;
@@ -23,7 +23,7 @@ use crate::service::Service;
 use crate::source::{Failed, Sink, Source};
 use crate::steps::{Session, State};
 use crate::writer::Writer;
-use disco_message::Document;
+use disco_message::{Document, Request};
 use disco_values::Fault;
 use std::alloc::Global;
 use std::mem;
@@ -72,8 +72,7 @@ fn read<R: Source, D: Document + Drop>(
     requires room { length (bytes_of session.old.incoming.unread) < vec_len session.old.incoming.unread.buffer }
     requires size { vec_len session.old.incoming.unread.buffer ≡ session.old.limits.head }
     ensures came { OnOk result ((came : List ℕ) × Consumes (R.remaining source.old) (R.remaining source.new) came
-        × ((given : List ℕ) (asks : List message.RequestView) (texts : List (List ℕ)) (out : List ℕ)
-        → HasDone D.content session.old given asks texts out → HasDone D.content session.new (given ++ came) asks texts out)) }
+        × GoesOn D.content session.old session.new came) }
     ensures looks { OnOk result (session.new.state ≡ state.Looks) }
     ensures less { OnOk result (to_come session.new < to_come session.old) }
     ensures ended { IsTrue session.new.has_ended → IsAtEnd (R.remaining source.new) }
@@ -89,7 +88,50 @@ fn read<R: Source, D: Document + Drop>(
     Ok(())
 }
 
-/// Looks at what came, and reads on where the session waits, until a reply goes out or it is over.
+/// Takes the next request, and reads on where the session waits for bytes. With none it is over.
+///
+/// # Errors
+///
+/// `Failed` where a read fails. Inside, why what follows is refused.
+pub(crate) fn next_request<R: Source, D: Document + Drop>(
+    alloc: Global,
+    session: &mut Session<D>,
+    source: &mut R,
+    room: &mut Room,
+) -> Result<Result<Option<Request>, Fault>, Failed>
+    requires looks { session.old.state ≡ state.Looks }
+    requires ended { IsTrue session.old.has_ended → IsAtEnd (R.remaining source.old) }
+    requires size { vec_len session.old.incoming.unread.buffer ≡ session.old.limits.head }
+    requires places { vec_len room.old.spans ≡ session.old.limits.fields }
+    ensures came { (came : List ℕ) × Consumes (R.remaining source.old) (R.remaining source.new) came
+        × Reads D.content session.old session.new came result }
+    ensures stands { IfOk result (λ found. Stands session.new found) }
+    ensures stops { OnOk result (session.new.state ≡ state.Waits → ⊥) }
+    ensures ended { IsTrue session.new.has_ended → IsAtEnd (R.remaining source.new) }
+    ensures cause { Counts (R.failed source.old) (R.failed source.new) result }
+    ensures limits { session.new.limits ≡ session.old.limits }
+    ensures requests { session.new.requests ≡ session.old.requests }
+    ensures size { vec_len session.new.incoming.unread.buffer ≡ vec_len session.old.incoming.unread.buffer }
+    ensures places { vec_len room.new.spans ≡ vec_len room.old.spans }
+{
+    let mut told = session.stage();
+    source.expect(told);
+    'reads: loop {
+        let found = session.take_request(alloc, room);
+        if !session.waits() {
+            return Ok(found);
+        }
+        drop(found);
+        let stage = session.stage();
+        if stage != told {
+            source.expect(stage);
+            told = stage;
+        }
+        read(session, source)?;
+    }
+}
+
+/// Reads until a reply goes out, or the session is over.
 fn next_reply<R: Source, S: Service>(
     alloc: Global,
     session: &mut Session<S::Body>,
@@ -113,22 +155,9 @@ fn next_reply<R: Source, S: Service>(
     ensures places { vec_len room.new.spans ≡ vec_len room.old.spans }
     ensures capacity { vec_capacity text.old ≤ vec_capacity text.new }
 {
-    let mut told = session.stage();
-    source.expect(told);
-    'reads: loop {
-        session.look(alloc, room, text, service);
-        if !session.waits() {
-            return;
-        }
-        let stage = session.stage();
-        if stage != told {
-            source.expect(stage);
-            told = stage;
-        }
-        if read(session, source).is_err() {
-            session.fail(Fault::ReadFailed);
-            return;
-        }
+    match next_request(alloc, session, source, room) {
+        Ok(found) => session.reply(room, text, service, found),
+        Err(Failed) => session.fail(Fault::ReadFailed),
     }
 }
 

@@ -10,7 +10,7 @@ use crate::service::Service;
 use crate::session::End;
 use crate::source::Stage;
 use crate::writer::SMALL_BODY;
-use disco_message::{Document, HEAD_ROOM, Limits, Reply};
+use disco_message::{Document, HEAD_ROOM, Limits, Reply, Request};
 use disco_values::Fault;
 use std::alloc::{AllocError, Global};
 
@@ -98,7 +98,7 @@ impl<D: Document + Drop> Session<D> {
     ghost use Rattle.disco_message.specs.RequestView as message;
     ghost use Rattle.disco_values.specs.declared.fault.Fault.TheVariants.{BadRequest};
     ghost use Rattle.disco_http.specs.Coming.{IsBetween, most};
-    ghost use Rattle.disco_http.specs.Exchanges.{LooksAt, Pauses, end_of};
+    ghost use Rattle.disco_http.specs.Exchanges.{Finds, LooksAt, Pauses, Stands, end_of};
     ghost use Rattle.disco_http.specs.Served.{refused};
     ghost use Rattle.disco_http.specs.Sessions.{Answered, HasDone, IsGoing, LendsRoom, lent, next_of, unsent, with_lent};
     ghost use Rattle.disco_http.specs.Unread.{bytes_of};
@@ -116,7 +116,8 @@ impl<D: Document + Drop> Session<D> {
     /// A connection of which this came, and was not looked at.
     pub(crate) fn over(limits: Limits, incoming: Incoming) -> Session<D>
         requires size { vec_len incoming.unread.buffer ≤ limits.head }
-        ensures done { incoming.phase ≡ phase.Head → HasDone D.content result (bytes_of incoming.unread) [] [] [] }
+        requires between { incoming.phase ≡ phase.Head }
+        ensures done { HasDone D.content result (bytes_of incoming.unread) [] [] [] }
         ensures looks { result.state ≡ state.Looks }
         ensures none { result.requests ≡ 0 }
         ensures goes { IsFalse result.has_ended }
@@ -263,55 +264,64 @@ impl<D: Document + Drop> Session<D> {
         self.state = State::Over(End::Fault(fault));
     }
 
-    /// Waits for bytes. At the end of the input it is over, or refuses what came of a request.
-    fn wait(&mut self, text: &mut Vec<u8>)
-        requires { 4352 ≤ vec_capacity text.old }
-        ensures waits { IsFalse self.old.has_ended → self.new.state ≡ state.Waits }
-        ensures over { IsTrue self.old.has_ended → (IsBetween self.old.incoming × (self.new.state ≡ state.Over End.Closed))
-            ⊎ ((IsBetween self.old.incoming → ⊥) × IsGoing D.content (refused BadRequest) (Some (End.Fault BadRequest)) self.new.state) }
-        ensures pauses { Pauses D.content self.new.limits text.new.items self.old.requests self.new.requests self.new.state }
-        ensures incoming { self.new.incoming ≡ self.old.incoming }
-        ensures limits { self.new.limits ≡ self.old.limits }
-        ensures ended { self.new.has_ended ≡ self.old.has_ended }
-        ensures requests { self.new.requests ≡ self.old.requests }
-        ensures capacity { vec_capacity text.old ≤ vec_capacity text.new }
-    {
-        if !self.has_ended {
-            self.state = State::Waits;
-        } else if self.incoming.is_between() {
-            self.state = State::Over(End::Closed);
-        } else {
-            self.state = State::Writes(refuse(text, Fault::BadRequest));
-        }
-    }
-
-    /// Looks at what came: the next whole request is answered by the service, and what can be none is
-    /// refused.
-    pub(crate) fn look<S: Service<Body = D>>(
+    /// Takes the next request, if it is whole. With none it waits for bytes, or at the end of the input,
+    /// between requests, is over.
+    pub(crate) fn take_request(
         &mut self,
         alloc: Global,
         room: &mut Room,
-        text: &mut Vec<u8>,
-        service: &mut S,
-    )
+    ) -> Result<Option<Request>, Fault>
         requires looks { self.old.state ≡ state.Looks }
         requires places { vec_len room.old.spans ≡ self.old.limits.fields }
-        requires capacity { 4352 ≤ vec_capacity text.old }
-        ensures looked { (given : List ℕ) (asks : List message.RequestView) (texts : List (List ℕ)) (out : List ℕ) → HasDone D.content self.old given asks texts out
-            → LooksAt D.content S.answers self.old.requests self.new service.old service.new given asks texts out }
-        ensures pauses { Pauses D.content self.new.limits text.new.items self.old.requests self.new.requests self.new.state }
+        ensures found { (given : List ℕ) (asks : List message.RequestView) (texts : List (List ℕ)) (out : List ℕ) → HasDone D.content self.old given asks texts out
+            → Finds D.content self.new given asks texts out result }
+        ensures stands { Stands self.new result }
         ensures small { self.new.state ≡ state.Waits → length (bytes_of self.new.incoming.unread) < self.new.limits.head }
         ensures least { self.new.state ≡ state.Waits → most self.new.limits self.new.incoming.phase (bytes_of self.new.incoming.unread)
             ≤ most self.old.limits self.old.incoming.phase (bytes_of self.old.incoming.unread) }
         ensures goes { self.new.state ≡ state.Waits → IsFalse self.new.has_ended }
         ensures limits { self.new.limits ≡ self.old.limits }
         ensures ended { self.new.has_ended ≡ self.old.has_ended }
+        ensures requests { self.new.requests ≡ self.old.requests }
         ensures size { vec_len self.new.incoming.unread.buffer ≡ vec_len self.old.incoming.unread.buffer }
+        ensures places { vec_len room.new.spans ≡ vec_len room.old.spans }
+    {
+        if let Some(request) = self.incoming.advance(alloc, &self.limits, room)? {
+            return Ok(Some(request));
+        }
+        if !self.has_ended {
+            self.state = State::Waits;
+            return Ok(None);
+        }
+        if !self.incoming.is_between() {
+            return Err(Fault::BadRequest);
+        }
+        self.state = State::Over(End::Closed);
+        Ok(None)
+    }
+
+    /// Answers the request that was taken by the service, or refuses what can be none.
+    pub(crate) fn reply<S: Service<Body = D>>(
+        &mut self,
+        room: &mut Room,
+        text: &mut Vec<u8>,
+        service: &mut S,
+        found: Result<Option<Request>, Fault>,
+    )
+        requires stands { Stands self.old found }
+        requires capacity { 4352 ≤ vec_capacity text.old }
+        ensures replied { (given : List ℕ) (asks : List message.RequestView) (texts : List (List ℕ)) (out : List ℕ) → Finds D.content self.old given asks texts out found
+            → LooksAt D.content S.answers self.old.requests self.new service.old service.new given asks texts out }
+        ensures pauses { Pauses D.content self.new.limits text.new.items self.old.requests self.new.requests self.new.state }
+        ensures waits { self.new.state ≡ state.Waits → self.old.state ≡ state.Waits }
+        ensures incoming { self.new.incoming ≡ self.old.incoming }
+        ensures limits { self.new.limits ≡ self.old.limits }
+        ensures ended { self.new.has_ended ≡ self.old.has_ended }
         ensures places { vec_len room.new.spans ≡ vec_len room.old.spans }
         ensures capacity { vec_capacity text.old ≤ vec_capacity text.new }
         ensures counted { (self.new.requests ≡ self.old.requests) ⊎ (self.new.requests ≡ min (self.old.requests + 1) (2 ^ 64 - 1)) }
     {
-        match self.incoming.advance(alloc, &self.limits, room) {
+        match found {
             Ok(Some(request)) => {
                 self.state = State::Writes(answer(
                     &self.limits,
@@ -322,7 +332,7 @@ impl<D: Document + Drop> Session<D> {
                     request,
                 ));
             }
-            Ok(None) => self.wait(text),
+            Ok(None) => {}
             Err(fault) => self.state = State::Writes(refuse(text, fault)),
         }
     }
@@ -362,7 +372,8 @@ impl<D: Document + Drop> Session<D> {
             self.state = State::Writes(refuse(&mut buffers.text, Fault::OutOfMemory));
             return;
         }
-        self.look(alloc, &mut buffers.room, &mut buffers.text, service);
+        let found = self.take_request(alloc, &mut buffers.room);
+        self.reply(&mut buffers.room, &mut buffers.text, service, found);
         self.spare(alloc);
     }
 

@@ -1,9 +1,6 @@
-use Rattle.std.proofs.Common.{◌≡◌, [], refl, subst, sym, ◌∙◌, ap}
-use Rattle.disco_http.specs.declared.incoming.Incoming.{Incoming}
-use Rattle.disco_http.specs.declared.incoming.Phase.TheVariants as phase
+use Rattle.std.proofs.Common.{◌≡◌, [], refl, sym, ◌∙◌}
 use Rattle.disco_http.specs.Sessions.{HasDone}
 use Rattle.disco_http.specs.Streams.{ahead, unread}
-use Rattle.disco_http.specs.Unread.{bytes_of}
 use Rattle.disco_http.proofs.ServedSessions.{begun, ends_as, for_each}
 use Rattle.disco_http.proofs.session.serve.Goals as goal
 
@@ -16,9 +13,7 @@ returns-clause-answers g c =
     let contents = g.W.Sink.contents c.args.writer.now.sink in
     let now = c.args.service.now in
     let session = c.over-session.result in
-    let is : c.replace-incoming.result ≡ reader.incoming = c.replace-incoming.ensures.value in
-    let head : c.replace-incoming.result.phase ≡ phase.Head = ap (λ (i : Incoming). i.phase) is ∙ reader.between c.requires.0 in
-    let done : HasDone content session (unread reader) [] [] [] = subst (λ (i : Incoming). HasDone content session (bytes_of i.unread) [] [] []) is (c.over-session.ensures.done head) in
+    let done : HasDone content session (unread reader) [] [] [] = rw c.replace-incoming.ensures.value at c.over-session.ensures.done in
     let over = c.answer_all-end.new.session in
     let limits : reader.limits ≡ over.limits = sym (c.answer_all-end.ensures.limits ∙ c.over-session.ensures.limits) in
     for_each first _ _ (λ stream h. rw c.spend.ensures.sink (ends_as g.S.Service.answers stream now c.answer_all-end.new.service contents _ _ over.limits reader.limits over.incoming c.swap.new.y over.requests over.requests c.answer_all-end.result limits c.swap.ensures.y_after refl (c.answer_all-end.ensures.answers stream now contents h)))

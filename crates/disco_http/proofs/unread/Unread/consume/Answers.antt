@@ -1,6 +1,5 @@
 use Rattle.std.proofs.Common.{◌≤◌, ◌-◌, arith}
-use Rattle.disco_http.proofs.Slices.{bytes_len}
-use Rattle.disco_http.proofs.Taken.{drop_part}
+use Rattle.disco_http.proofs.Slices.{bytes_len, drop_part}
 use Rattle.disco_http.proofs.unread.Unread.consume.Goals as goal
 
 pub returns-clause-rest : goal.returns-clause-rest
