@@ -117,11 +117,10 @@ pub(crate) fn next_request<R: Source, D: Document + Drop>(
     let mut told = session.stage();
     source.expect(told);
     'reads: loop {
-        let found = session.take_request(alloc, room);
-        if !session.waits() {
-            return Ok(found);
+        match session.take_request(alloc, room) {
+            Ok(None) if session.waits() => {}
+            found => return Ok(found),
         }
-        drop(found);
         let stage = session.stage();
         if stage != told {
             source.expect(stage);
