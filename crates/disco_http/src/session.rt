@@ -1,5 +1,5 @@
 //! One connection, from its first request to its end.
-ghost use Rattle.std.specs.Prelude.{◌≡◌, ◌+◌, ◌++◌, ◌≤◌, ◌<◌, [], ℕ, List, Option, IfOk, IfSome, IsFalse, IsTrue, None, OnErr, OnOk, Some, vec_len, length};
+ghost use Rattle.std.specs.Prelude.{◌≡◌, ◌+◌, ◌≤◌, ◌<◌, [], ℕ, List, Option, IfOk, IfSome, IsFalse, IsTrue, None, OnErr, OnOk, Some, vec_len, length};
 ghost use Rattle.std.specs.List.{concat};
 ghost use Rattle.std.specs.Vec.{vec_capacity};
 ghost use Rattle.std.specs.Io.KnownBytes.{Consumes, IsAtEnd};

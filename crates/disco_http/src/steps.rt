@@ -94,13 +94,11 @@ pub struct Session<D> {
 }
 
 impl<D: Document + Drop> Session<D> {
-    ghost use Rattle.std.specs.Prelude.{◌≡◌, ◌↔◌, ◌⊎◌, ◌+◌, ◌-◌, ◌^◌, ◌≤◌, ◌<◌, ◌++◌, [], ℕ, List, IfOk, IsFalse, IsTrue, None, OnOk, Some, length, min, take};
+    ghost use Rattle.std.specs.Prelude.{◌≡◌, ◌↔◌, ◌⊎◌, ◌+◌, ◌-◌, ◌^◌, ◌≤◌, ◌<◌, ◌++◌, [], ℕ, List, IsFalse, IsTrue, None, OnOk, Some, length, min, take};
     ghost use Rattle.disco_message.specs.RequestView as message;
-    ghost use Rattle.disco_values.specs.declared.fault.Fault.TheVariants.{BadRequest};
-    ghost use Rattle.disco_http.specs.Coming.{IsBetween, most};
+    ghost use Rattle.disco_http.specs.Coming.{most};
     ghost use Rattle.disco_http.specs.Exchanges.{Finds, LooksAt, Pauses, Stands, end_of};
-    ghost use Rattle.disco_http.specs.Served.{refused};
-    ghost use Rattle.disco_http.specs.Sessions.{Answered, HasDone, IsGoing, LendsRoom, lent, next_of, unsent, with_lent};
+    ghost use Rattle.disco_http.specs.Sessions.{Answered, HasDone, LendsRoom, lent, next_of, unsent, with_lent};
     ghost use Rattle.disco_http.specs.Unread.{bytes_of};
     ghost use Rattle.disco_http.specs.declared.incoming.Phase.TheVariants as phase;
     ghost use Rattle.disco_http.specs.declared.steps.State.TheVariants as state;
@@ -273,8 +271,8 @@ impl<D: Document + Drop> Session<D> {
     ) -> Result<Option<Request>, Fault>
         requires looks { self.old.state ≡ state.Looks }
         requires places { vec_len room.old.spans ≡ self.old.limits.fields }
-        ensures found { (given : List ℕ) (asks : List message.RequestView) (texts : List (List ℕ)) (out : List ℕ) → HasDone D.content self.old given asks texts out
-            → Finds D.content self.new given asks texts out result }
+        ensures found { (given : List ℕ) (asks : List message.RequestView) (texts : List (List ℕ)) (out : List ℕ)
+            → HasDone D.content self.old given asks texts out → Finds D.content self.new given asks texts out result }
         ensures stands { Stands self.new result }
         ensures small { self.new.state ≡ state.Waits → length (bytes_of self.new.incoming.unread) < self.new.limits.head }
         ensures least { self.new.state ≡ state.Waits → most self.new.limits self.new.incoming.phase (bytes_of self.new.incoming.unread)
@@ -300,7 +298,8 @@ impl<D: Document + Drop> Session<D> {
         Ok(None)
     }
 
-    /// Answers the request that was taken by the service, or refuses what can be none.
+    /// The service answers the request that was found, and what can be none is refused. With none the
+    /// session stays as it is.
     pub(crate) fn reply<S: Service<Body = D>>(
         &mut self,
         room: &mut Room,
@@ -310,7 +309,8 @@ impl<D: Document + Drop> Session<D> {
     )
         requires stands { Stands self.old found }
         requires capacity { 4352 ≤ vec_capacity text.old }
-        ensures replied { (given : List ℕ) (asks : List message.RequestView) (texts : List (List ℕ)) (out : List ℕ) → Finds D.content self.old given asks texts out found
+        ensures replied { (given : List ℕ) (asks : List message.RequestView) (texts : List (List ℕ)) (out : List ℕ)
+            → Finds D.content self.old given asks texts out found
             → LooksAt D.content S.answers self.old.requests self.new service.old service.new given asks texts out }
         ensures pauses { Pauses D.content self.new.limits text.new.items self.old.requests self.new.requests self.new.state }
         ensures waits { self.new.state ≡ state.Waits → self.old.state ≡ state.Waits }
