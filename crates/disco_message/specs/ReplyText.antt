@@ -1,7 +1,6 @@
 -- The bytes of a reply (RFC 9112, sections 2 to 6).
-use Rattle.std.specs.Prelude.{ℕ, Bool, true, false, List, [], ◌++◌, Option, Some, None, option_map, unwrap_or, if◌then◌else◌, ◌==◌, length, codes}
+use Rattle.std.specs.Prelude.{ℕ, Bool, true, false, List, [], ◌++◌, Option, Some, None, option_map, unwrap_or, if◌then◌else◌, ◌==◌, length, codes, decimal}
 use Rattle.std.specs.Option.{option_map_or}
-use Rattle.std.specs.Fmt.{decimal}
 use Rattle.disco_values.specs.declared.cert.Cert.{Cert}
 use Rattle.disco_message.specs.declared.reply.Reply.{Reply}
 use Rattle.disco_message.specs.declared.status_line.Allow.{Allow}
