@@ -1,5 +1,5 @@
 //! Reads the key and the data centre of an instance from its members.
-ghost use Rattle.std.specs.Prelude.{◌≡◌, IfOk, codes, option_map, unwrap_or};
+ghost use Rattle.std.specs.Prelude.{◌≡◌, IfOk, option_map};
 ghost use Rattle.std.specs.Option.{option_copied};
 ghost use Rattle.serde_json.specs.View.{view};
 ghost use Rattle.disco_instance.specs.Instance.{Gives, data_center_at, id_at, key_at};
@@ -9,9 +9,6 @@ use crate::members::{non_empty_member, text_member};
 use disco_values::{Fault, Field, Key, Text, upper_text};
 use serde_json::Value;
 use std::alloc::{AllocError, Global};
-
-/// The class of a data centre that names none.
-const DEFAULT_CLASS: &str = "com.netflix.appinfo.InstanceInfo$DefaultDataCenterInfo";
 
 /// The id, or the name of the host where there is no id.
 fn id_member(value: &Value) -> Option<&str>
@@ -46,16 +43,6 @@ pub(crate) fn key_from_value(
     })
 }
 
-/// The class of a data centre, where one is given. The default one takes no memory.
-fn class_text(alloc: Global, class: Option<&str>) -> Result<Text, AllocError>
-    ensures { IfOk result (λ t. t ≡ unwrap_or (option_copied class.entry) (codes "com.netflix.appinfo.InstanceInfo$DefaultDataCenterInfo")) }
-{
-    match class {
-        Some(class) if class != DEFAULT_CLASS => Text::new(alloc, class),
-        _ => Ok(Text::from_static(DEFAULT_CLASS)),
-    }
-}
-
 pub(crate) fn data_center_member(alloc: Global, value: &Value) -> Result<DataCenter, AllocError>
     ensures { IfOk result (λ c. c ≡ data_center_at (view value.now)) }
 {
@@ -64,7 +51,10 @@ pub(crate) fn data_center_member(alloc: Global, value: &Value) -> Result<DataCen
         None => (None, None),
     };
     Ok(DataCenter {
-        class: class_text(alloc, class)?,
+        class: Text::new(
+            alloc,
+            class.unwrap_or("com.netflix.appinfo.InstanceInfo$DefaultDataCenterInfo"),
+        )?,
         name: Text::new(alloc, name.unwrap_or("MyOwn"))?,
     })
 }

@@ -7,6 +7,9 @@ use crate::inline_text::InlineText;
 use std::alloc::{AllocError, Global};
 use std::sync::Arc;
 
+/// The class that data centres have by default.
+pub(crate) const DEFAULT_CLASS: &str = "com.netflix.appinfo.InstanceInfo$DefaultDataCenterInfo";
+
 /// How the bytes of a text are stored: inline, owned, shared or in the program.
 #[derive(Debug, Drop)]
 pub(crate) enum Storage {
@@ -16,8 +19,8 @@ pub(crate) enum Storage {
     Heap(String),
     /// In memory that it shares with its copies.
     Shared(Arc<String, Global>),
-    /// In the program.
-    Static(&'static str),
+    /// In the program: [`DEFAULT_CLASS`], which most records have.
+    DefaultClass,
 }
 
 impl Storage {
@@ -28,7 +31,7 @@ impl Storage {
             Storage::Inline(text) => text.as_str(),
             Storage::Heap(text) => text.as_str(),
             Storage::Shared(text) => text.as_str(),
-            Storage::Static(text) => text,
+            Storage::DefaultClass => DEFAULT_CLASS,
         }
     }
 
@@ -40,7 +43,7 @@ impl Storage {
             Storage::Inline(text) => Ok(Storage::Inline(text)),
             Storage::Heap(text) => Ok(Storage::Shared(Arc::new(alloc, text)?)),
             Storage::Shared(text) => Ok(Storage::Shared(text)),
-            Storage::Static(text) => Ok(Storage::Static(text)),
+            Storage::DefaultClass => Ok(Storage::DefaultClass),
         }
     }
 }
@@ -65,7 +68,7 @@ impl Clone for Storage {
             Storage::Inline(text) => Ok(Storage::Inline(text.copy())),
             Storage::Heap(text) => Storage::Heap(text.clone()?).shared(*text.allocator()),
             Storage::Shared(text) => Ok(Storage::Shared(Arc::try_clone(text)?)),
-            Storage::Static(text) => Ok(Storage::Static(text)),
+            Storage::DefaultClass => Ok(Storage::DefaultClass),
         }
     }
 }

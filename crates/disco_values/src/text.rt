@@ -1,5 +1,5 @@
 //! A text that contracts see as the list of its bytes.
-ghost use Rattle.std.specs.Prelude.{◌≡◌, ◌↔◌, ◌≤◌, ◌<◌, [], IfOk, IfErr, IsTrue, length, not, string_bytes};
+ghost use Rattle.std.specs.Prelude.{◌≡◌, ◌↔◌, ◌≤◌, ◌<◌, [], IfOk, IfErr, IsTrue, codes, length, not, string_bytes};
 ghost use Rattle.std.specs.Char.{is_ascii_lowercase};
 ghost use Rattle.std.specs.Cmp.Lexicographic.{slice_cmp};
 ghost use Rattle.std.specs.List.{list_all};
@@ -11,7 +11,7 @@ ghost use Rattle.disco_values.specs.declared.fault.Fault.TheVariants.{OutOfMemor
 use crate::fault::Fault;
 use crate::front::{front_of, is_whole};
 use crate::inline_text::{InlineText, MOST_INLINE};
-use crate::storage::{Storage, unshared};
+use crate::storage::{DEFAULT_CLASS, Storage, unshared};
 use std::alloc::{AllocError, Global};
 use std::cmp::Ordering;
 use std::marker::Model;
@@ -60,6 +60,17 @@ fn in_memory(text: String) -> Text
     }
 }
 
+/// The class that data centres have by default. It takes no memory.
+fn default_class() -> Text
+    ensures { result ≡ codes "com.netflix.appinfo.InstanceInfo$DefaultDataCenterInfo" }
+{
+    let bytes = DEFAULT_CLASS.as_bytes();
+    Text {
+        front: front_of(bytes, bytes.len()),
+        storage: Storage::DefaultClass,
+    }
+}
+
 /// The order of two texts with equal fronts.
 #[inline(never)]
 fn order_behind(one: &Text, other: &Text) -> Ordering
@@ -89,7 +100,8 @@ fn order(one: &Text, other: &Text) -> Ordering
 }
 
 impl Text {
-    /// The text of a `&str`. A short one takes no memory, and copies of a longer one share theirs.
+    /// The text of a `&str`. A short one and the default class of a data centre take no memory, and
+    /// copies of any other share theirs.
     ///
     /// # Errors
     ///
@@ -99,6 +111,9 @@ impl Text {
     {
         if text.len() <= MOST_INLINE {
             return Ok(inline(text));
+        }
+        if text == DEFAULT_CLASS {
+            return Ok(default_class());
         }
         Ok(in_memory(String::from_str(alloc, text)?).shared(alloc)?)
     }
@@ -126,20 +141,6 @@ impl Text {
             return inline(text.as_str());
         }
         in_memory(text)
-    }
-
-    /// A text of the program. Neither it nor a copy of it takes memory.
-    pub fn from_static(text: &'static str) -> Text
-        ensures { result ≡ text.now }
-    {
-        if text.len() <= MOST_INLINE {
-            return inline(text);
-        }
-        let bytes = text.as_bytes();
-        Text {
-            front: front_of(bytes, bytes.len()),
-            storage: Storage::Static(text),
-        }
     }
 
     /// The empty text. Takes no memory.
@@ -173,7 +174,7 @@ impl Text {
             Storage::Inline(text) => String::from_str(alloc, text.as_str()),
             Storage::Heap(text) => Ok(text),
             Storage::Shared(text) => unshared(text, alloc),
-            Storage::Static(text) => String::from_str(alloc, text),
+            Storage::DefaultClass => String::from_str(alloc, DEFAULT_CLASS),
         }
     }
 
