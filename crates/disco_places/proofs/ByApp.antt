@@ -14,27 +14,7 @@ use Rattle.disco_values.specs.Key.{key_cmp, same_key}
 use Rattle.disco_values.specs.declared.key.Key.{Key}
 use Rattle.disco_history.proofs.Keys.{keys_total, exact_keys}
 use Rattle.disco_places.specs.KeyMaps.{ById, by_key, of_app, of_apps, text_cmp}
-use Rattle.disco_places.proofs.Stored.{Updated, at_text, text_is, text-sym, texts_total}
-
-abbrev Text : Type 0
-Text = List ℕ
-
-both : (a b : Bool) → T a → T b → T (a && b)
-both true b p q = q
-both false b p q = p
-
-first : (a b : Bool) → T (a && b) → T a
-first true b h = tt
-first false b h = h
-
-second : (a b : Bool) → T (a && b) → T b
-second true b h = h
-second false b h = absurd h
-
-is_less : (o : Ordering) → T (is_lt o) → o ≡ Less
-is_less Less h = refl
-is_less Equal h = absurd h
-is_less Greater h = absurd h
+use Rattle.disco_places.proofs.Stored.{Text, Updated, at_text, both, first, is_less, second, text_is, text-sym, texts_total}
 
 both_equal : (o p : Ordering) → is_eq (ordering_then o p) ≡ (is_eq o && is_eq p)
 both_equal Less p = refl

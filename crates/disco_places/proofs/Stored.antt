@@ -48,7 +48,7 @@ get_stored es q = get-from_entries texts_total es q ∙ find_lookup q es
 abbrev pub Updated : {X : Type 0} → List (Text × X) → List (Text × X) → Text → Option X → Type 0
 Updated es fs k w = (q : Text) → at_text fs q ≡ cond (is_at (text_cmp k) q) w (at_text es q)
 
-both : (a b : Bool) → T a → T b → T (a && b)
+pub both : (a b : Bool) → T a → T b → T (a && b)
 both true b p q = q
 both false b p q = p
 
@@ -60,15 +60,15 @@ pub in_order : {X : Type 0} (es : List (Text × X)) → IsStrictlySortedBy text_
 in_order [] h = tt
 in_order (e ∷ es) h = both _ _ (all_below e.0 es (sorted_head text_cmp e.0 (keys_of es) h)) (in_order es (sorted_tail text_cmp e.0 (keys_of es) h))
 
-first : (a b : Bool) → T (a && b) → T a
+pub first : (a b : Bool) → T (a && b) → T a
 first true b h = tt
 first false b h = h
 
-second : (a b : Bool) → T (a && b) → T b
+pub second : (a b : Bool) → T (a && b) → T b
 second true b h = h
 second false b h = absurd h
 
-is_less : (o : Ordering) → T (is_lt o) → o ≡ Less
+pub is_less : (o : Ordering) → T (is_lt o) → o ≡ Less
 is_less Less h = refl
 is_less Equal h = absurd h
 is_less Greater h = absurd h
