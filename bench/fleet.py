@@ -3,6 +3,7 @@
 import asyncio
 import heapq
 import multiprocessing
+import os
 import resource
 import select
 import socket
@@ -56,11 +57,12 @@ class Tally:
         self.wrong = 0
         self.ended = 0
 
-    def line(self, name, before, resident):
+    def line(self, name, before, resident, taken):
         waits = sorted(self.waits) or [0.0]
         print(
             "%s: %d requests, %d without a reply, %d answered otherwise, %d connections that the server ended,"
-            " p50 %.1f ms, p99 %.1f ms, longest %.0f ms, memory %.1f MB before and %.1f MB with them"
+            " p50 %.1f ms, p99 %.1f ms, longest %.0f ms, memory %.1f MB before and %.1f MB with them,"
+            " %.1f seconds of processors taken by the host"
             % (
                 name,
                 len(self.waits),
@@ -72,6 +74,7 @@ class Tally:
                 waits[-1] * 1000,
                 before / 1000,
                 resident / 1000,
+                taken,
             ),
             flush=True,
         )
@@ -200,6 +203,12 @@ def resident(server):
         return next(int(line.split()[1]) for line in lines if line.startswith("VmRSS:"))
 
 
+def stolen():
+    """Seconds of processors that the host of this machine gave to others since it began."""
+    with open("/proc/stat", encoding="ascii") as lines:
+        return int(lines.readline().split()[8]) / os.sysconf("SC_CLK_TCK")
+
+
 async def again(until, todo):
     """Does it again and again, whatever comes of it."""
     while time.monotonic() < until:
@@ -282,9 +291,9 @@ def register_all():
 def run_fleet(name, server, clients, period, seconds, registered, harmful):
     if registered:
         register_all()
-    before = resident(server)
+    before, had = resident(server), stolen()
     tally = Tally()
-    others = multiprocessing.Process(target=asyncio.run, args=(do_harm(seconds),)) if harmful else None
+    others = multiprocessing.Process(target=lambda: asyncio.run(do_harm(seconds))) if harmful else None
     if others:
         others.start()
     fleet = Fleet(clients, period, tally)
@@ -293,7 +302,7 @@ def run_fleet(name, server, clients, period, seconds, registered, harmful):
     fleet.end()
     if others:
         others.join()
-    tally.line(name, before, with_them)
+    tally.line(name, before, with_them, stolen() - had)
 
 
 def with_server(program, workers, todo):

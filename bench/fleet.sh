@@ -7,4 +7,5 @@
 set -eu
 root=$(CDPATH='' cd -- "$(dirname -- "$0")/.." && pwd)
 . "$root/bench/on_program.sh"
+NETWORK=ethernet
 on_program fleet.py "$@"
