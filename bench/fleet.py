@@ -26,7 +26,11 @@ VISITORS = 200
 # The instances of the document that is read slowly.
 INSTANCES = 10_000
 # How many clients, each how many seconds they ask, and whether there are instances and those who do harm.
-CASES = ((10_000, 20, False, False), (1_000, 3, False, False), (1_000, 3, True, False), (1_000, 3, True, True))
+CASES = tuple(
+    (clients, period, registered, harmful)
+    for registered, harmful in ((False, False), (True, False), (True, True))
+    for clients, period in ((10_000, 20), (1_000, 3))
+)
 # What one read gives.
 CAME = bytearray(1 << 18)
 
