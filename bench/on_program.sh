@@ -3,8 +3,7 @@
 # Builds the program, and runs the Python script of that name in bench/ on it, in a folder that goes at
 # the end, with the words that follow. It is given the program itself and not `discovery`, which looks
 # for newer sources each time. Where the variable NETWORK is `ethernet`, it runs on a host of its own whose
-# loopback has an Ethernet's segments, 1,500 bytes. With the usual 64 KiB the host buffers 3 MB for each
-# connection that is read slowly, which it does over no network.
+# loopback has an Ethernet's segments, 1,500 bytes in place of 64 KiB.
 on_program() {
     script=$1
     shift

@@ -9,6 +9,7 @@ use crate::deadline::Deadline;
 use crate::held::Held;
 use crate::poller::Poller;
 use crate::room::Room;
+use crate::send_buffer::bound_send_buffer;
 use crate::slots::Slots;
 use crate::timeouts::{Phase, Timeouts};
 use disco_http::{Service, Session};
@@ -308,7 +309,10 @@ impl<'a, D: Document + Drop, K: Drop> EventLoop<'a, D, K> {
         stream: TcpStream,
         number: u64,
     ) -> Option<Box<Connection<D, K>>> {
-        if stream.set_nonblocking(true).is_err() || stream.set_nodelay(true).is_err() {
+        let is_set = stream.set_nonblocking(true).is_ok()
+            && stream.set_nodelay(true).is_ok()
+            && bound_send_buffer(stream.as_raw_fd());
+        if !is_set {
             return None;
         }
         let key = self.slots.lock(rt).add()?;

@@ -13,6 +13,7 @@ mod held;
 mod listener;
 mod poller;
 mod room;
+mod send_buffer;
 mod slot;
 mod slots;
 mod timeouts;

@@ -1,9 +1,14 @@
 //! Accepts that fail.
+use crate::bare_server::Nothing;
 use crate::client::visit;
-use disco_connections::{Accepted, Acceptor, accept, listen};
+use disco_connections::{Accepted, Acceptor, EventLoop, Refusal, Timeouts, accept, listen};
+use disco_message::Limits;
 use disco_values::Fault;
+use std::alloc::Global;
 use std::io;
 use std::net::{Net, OpenListener, SocketAddr, TcpListener, TcpStream};
+use std::rt::Clock;
+use std::sync::Wait;
 use std::sync::atomic::{AtomicU64, Ordering};
 
 /// The host's numbers for: no descriptor; and no listener.
@@ -51,12 +56,26 @@ fn third<R: Net<Stream = TcpStream>>(
     Ok((accepted, acceptor.outcome()))
 }
 
-/// Behind a failure that passes a connection is taken, and one that doesn't shuts the acceptor.
-pub(crate) fn are_told_apart<R: Net<Stream = TcpStream>>(rt: &R) -> io::Result<bool> {
+/// What an event loop comes to whose acceptor is shut by the host.
+fn behind_shut<R: Net + Clock + Wait>(rt: &R, alloc: Global) -> io::Result<Result<(), Fault>> {
+    let listener = listen(rt, 0)?;
+    let (limits, timeouts) = (Limits::of_server(), Timeouts::of_server());
+    let event_loop = EventLoop::<Nothing, ()>::new(rt, alloc, &listener, limits, timeouts, 1, 0)?;
+    event_loop.poller.lock(rt).acceptor.refuse(Refusal::ByHost);
+    Ok(event_loop.into_outcome())
+}
+
+/// Behind a failure that passes a connection is taken, and one that doesn't shuts the acceptor and is
+/// what the event loop comes to.
+pub(crate) fn are_told_apart<R: Net<Stream = TcpStream> + Clock + Wait>(
+    rt: &R,
+    alloc: Global,
+) -> io::Result<bool> {
     let passes = matches!(third(rt, NO_DESCRIPTOR)?, (Accepted::Taken(_, 1), Ok(())));
     let lasts = matches!(
         third(rt, NO_LISTENER)?,
         (Accepted::Refused, Err(Fault::ReadFailed)),
     );
-    Ok(passes && lasts)
+    let told = matches!(behind_shut(rt, alloc)?, Err(Fault::ReadFailed));
+    Ok(passes && lasts && told)
 }

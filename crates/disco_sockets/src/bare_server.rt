@@ -13,7 +13,7 @@ pub(crate) const WORKERS: usize = 4;
 
 /// The document of no reply.
 #[derive(Clone, Copy, Debug)]
-struct Nothing;
+pub(crate) struct Nothing;
 
 impl Document for Nothing {
     ghost use Rattle.std.specs.Prelude.{[]};

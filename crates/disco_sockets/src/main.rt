@@ -2,7 +2,7 @@
 //! it turns by hand. Tries what the program's commands do and write. Then it tries the connections of a
 //! server: more clients than workers, clients that send slowly or nothing, and accepts that fail. The
 //! four workers of that server answer each request with 204, and wait for shorter times than those of
-//! `serve`.
+//! `serve`. Last it tries a client that doesn't read a long reply.
 //!
 //! It prints the name of each trial with its result, and ends with status 1 where one fails.
 #![tactic(auto)]
@@ -23,6 +23,7 @@ mod slow;
 mod timed;
 mod trials;
 mod turning;
+mod unread;
 
 use crowds::Crowd;
 use dial::Dial;
@@ -94,8 +95,13 @@ where
     let silence = is_told(rt, "a silent connection of a free server", silence);
     let many = crowds::run(rt, alloc, Crowd::Many);
     let many = is_told(rt, "one connection more than may be open", many);
-    let accepts = is_told(rt, "accepts that fail", accepts::are_told_apart(rt));
-    beats && halves && drips && silence && many && accepts
+    let accepts = is_told(rt, "accepts that fail", accepts::are_told_apart(rt, alloc));
+    let unread = is_told(
+        rt,
+        "a long reply that isn't read",
+        unread::is_bounded(rt, alloc),
+    );
+    beats && halves && drips && silence && many && accepts && unread
 }
 
 fn main(rt: HostRuntime) -> ExitCode {
