@@ -6,6 +6,7 @@ use std::alloc::Global;
 use std::io;
 use std::net::{Ipv4Addr, Net, SocketAddr, TcpListener, TcpStream};
 use std::rt::Clock;
+use std::time::Instant;
 
 /// Registers an instance, and asks for the connection's end.
 const REGISTRATION: &[u8] =
@@ -19,6 +20,14 @@ const TOLD: &[u8] =
 const WORDS: &[&str] = &[
     "follow", "--vip", "v", "--json", "--every", "1", "--times", "1002", "--port",
 ];
+
+/// The words that have the program refresh twice, with a long pause between them, before a port.
+const PAUSED: &[&str] = &[
+    "follow", "--vip", "v", "--json", "--every", "2000", "--times", "2", "--port",
+];
+
+/// How many milliseconds that pause takes at least.
+const PAUSE_MILLIS: u128 = 2_000;
 
 /// Words, and a port behind them.
 pub(crate) fn words_on(alloc: Global, words: &[&str], port: u16) -> io::Result<Vec<String>> {
@@ -38,20 +47,33 @@ pub(crate) fn is_told_why(status: u8, out: &[u8], errors: &[u8], why: &str) -> b
         && errors.ends_with(b"\ndiscovery: fault 20\n")
 }
 
-/// Follows what a server on a port has. Whether the instance and its vip are written, once and alone.
+/// Follows what a server has, as the words and a port say. Whether the instance and its vip are written,
+/// once and alone.
 fn is_followed<R: Net<Stream = TcpStream> + Clock>(
     rt: &R,
     alloc: Global,
+    words: &[&str],
     port: u16,
 ) -> io::Result<bool> {
-    let words = words_on(alloc, WORDS, port)?;
+    let words = words_on(alloc, words, port)?;
     let (mut out, mut errors) = (Counted::new(Vec::new(alloc)), Counted::new(Vec::new(alloc)));
     let status = follow(rt, alloc, &mut out, &mut errors, words.as_slice());
     Ok(status == 0 && out.inner.as_slice() == TOLD && errors.inner.is_empty())
 }
 
-/// Registers an instance over one connection, and follows the registry over two others. Where the
-/// program makes one alone, the server awaits another one.
+/// Follows with a long pause. Whether it is made.
+fn is_paused<R: Net<Stream = TcpStream> + Clock>(
+    rt: &R,
+    alloc: Global,
+    port: u16,
+) -> io::Result<bool> {
+    let begun = Instant::now(rt)?;
+    let followed = is_followed(rt, alloc, PAUSED, port)?;
+    Ok(followed && begun.elapsed(rt)?.as_millis() >= PAUSE_MILLIS)
+}
+
+/// Registers an instance over one connection, and follows the registry over two others, and with a pause
+/// over a fourth. Where the program makes one alone in place of two, the server awaits another one.
 pub(crate) fn register_and_follow<R: Net<Stream = TcpStream> + Clock>(
     rt: &R,
     alloc: Global,
@@ -60,11 +82,12 @@ pub(crate) fn register_and_follow<R: Net<Stream = TcpStream> + Clock>(
     let stream = visit(rt, server)?;
     send(&stream, REGISTRATION)?;
     let registered = hears(alloc, &stream, 204);
-    let followed = is_followed(rt, alloc, server.port())?;
+    let followed = is_followed(rt, alloc, WORDS, server.port())?;
     if !followed {
         let _ = visit(rt, server);
     }
-    Ok(registered && followed)
+    let paused = is_paused(rt, alloc, server.port())?;
+    Ok(registered && followed && paused)
 }
 
 /// Where nobody listens the program says so and ends with 1.

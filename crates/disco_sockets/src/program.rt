@@ -47,8 +47,8 @@ fn address(port: u16) -> SocketAddr {
 /// The words that have the program serve one connection, before a port.
 const ONCE: &[&str] = &["serve", "--connections", "1", "--port"];
 
-/// The same for three connections in the run 5.
-const THRICE: &[&str] = &["serve", "--run", "5", "--connections", "3", "--port"];
+/// The same for four connections in the run 5.
+const IN_RUN_5: &[&str] = &["serve", "--run", "5", "--connections", "4", "--port"];
 
 /// The same for four connections.
 const FOUR_TIMES: &[&str] = &["serve", "--connections", "4", "--port"];
@@ -58,7 +58,7 @@ const FOUR_TIMES: &[&str] = &["serve", "--connections", "4", "--port"];
 pub(crate) enum Guest<'a> {
     /// Asks once, over one connection.
     Asks,
-    /// Registers over one connection, and follows over two others.
+    /// Registers over one connection, and follows over three others.
     Follows,
     /// Turns the clock by which the program serves, over four connections.
     Turns(&'a Dial),
@@ -69,7 +69,7 @@ impl Guest<'_> {
     fn words(self) -> &'static [&'static str] {
         match self {
             Guest::Asks => ONCE,
-            Guest::Follows => THRICE,
+            Guest::Follows => IN_RUN_5,
             Guest::Turns(_) => FOUR_TIMES,
         }
     }
