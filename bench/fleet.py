@@ -31,6 +31,11 @@ CASES = tuple(
     for registered, harmful in ((False, False), (True, False), (True, True))
     for clients, period in ((10_000, 20), (1_000, 3))
 )
+# How often a second it is looked what the host took, how many seconds of processors are at most a tick of
+# its clock, and how many looks in turn that found no more make the next moment calm.
+LOOKS = 5
+TICK = 0.015
+CALM = 15
 # What one read gives.
 CAME = bytearray(1 << 18)
 
@@ -52,33 +57,69 @@ def registration(number):
     return text_of("POST", "/apps/APP%d" % app, BODY % (number, number, app))
 
 
+class Host:
+    """What the host of this machine takes of its processors, look by look."""
+
+    def __init__(self):
+        self.taken = {}
+
+    def look(self, now):
+        self.taken.setdefault(int(now * LOOKS), stolen())
+
+    def calm(self):
+        """How many looks in turn, up to each, found at most a tick taken."""
+        found = {}
+        for look, taken in self.taken.items():
+            before = self.taken.get(look - 1)
+            calm = before is not None and taken - before < TICK
+            found[look] = found.get(look - 1, 0) + 1 if calm else 0
+        return found
+
+
+def percentile(waits, hundredths):
+    """In milliseconds, of seconds in their order."""
+    return waits[len(waits) * hundredths // 100] * 1000
+
+
 class Tally:
     """What came of all requests."""
 
     def __init__(self):
-        self.waits = []
+        self.spans = []
+        self.host = Host()
         self.unanswered = 0
         self.wrong = 0
         self.ended = 0
 
+    def in_calm(self):
+        """The waits of requests that were asked and answered in calm."""
+        calm = self.host.calm()
+        for asked, answered in self.spans:
+            last = int(answered * LOOKS) + 1
+            if calm.get(last, 0) >= last - int(asked * LOOKS) + CALM:
+                yield answered - asked
+
     def line(self, name, before, resident, taken):
-        waits = sorted(self.waits) or [0.0]
+        waits = sorted(answered - asked for asked, answered in self.spans) or [0.0]
+        calm = sorted(self.in_calm()) or [0.0]
         print(
             "%s: %d requests, %d without a reply, %d answered otherwise, %d connections that the server ended,"
             " p50 %.1f ms, p99 %.1f ms, longest %.0f ms, memory %.1f MB before and %.1f MB with them,"
-            " %.1f seconds of processors taken by the host"
+            " %.1f seconds of processors taken by the host, and of %d requests while it took next to nothing p99 %.1f ms"
             % (
                 name,
-                len(self.waits),
+                len(self.spans),
                 self.unanswered,
                 self.wrong,
                 self.ended,
-                waits[len(waits) // 2] * 1000,
-                waits[int(len(waits) * 0.99)] * 1000,
+                percentile(waits, 50),
+                percentile(waits, 99),
                 waits[-1] * 1000,
                 before / 1000,
                 resident / 1000,
                 taken,
+                len(calm),
+                percentile(calm, 99),
             ),
             flush=True,
         )
@@ -177,12 +218,13 @@ class Fleet:
         if status == 0:
             self.lose(client)
         elif status is not None:
-            self.tally.waits.append(time.monotonic() - client.asked)
+            self.tally.spans.append((client.asked, time.monotonic()))
             self.tally.wrong += status not in (200, 204)
             self.plan(client)
 
     def run(self, until):
         while (now := time.monotonic()) < until:
+            self.tally.host.look(now)
             first = min(self.due[0][0], until) if self.due else until
             for line, _ in self.poll.poll(max(0, first - now), 256):
                 if line in self.lines:
