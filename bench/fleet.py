@@ -18,8 +18,9 @@ APPS = 100
 DELTA = 10
 # How long a client waits for a reply, in seconds.
 PATIENCE = 60
-# A connection ends behind so many requests.
+# A connection ends behind so many requests, and where it was silent for so many seconds.
 REQUESTS = 1_000
+SILENCE = 75
 # Those who do harm, of each kind, and those who come and go.
 HARMFUL = 1_000
 VISITORS = 200
@@ -133,6 +134,7 @@ class Client:
         self.line = None
         self.made = 0
         self.asked = None
+        self.answered = 0.0
         self.came = b""
         self.left = None
         self.turn = number
@@ -194,7 +196,7 @@ class Fleet:
         if client.asked is not None:
             self.tally.unanswered += 1
             self.plan(client)
-        elif client.made < REQUESTS:
+        elif client.made < REQUESTS and time.monotonic() - client.answered < SILENCE:
             self.tally.ended += 1
         del self.lines[client.line.fileno()]
         client.close()
@@ -218,7 +220,8 @@ class Fleet:
         if status == 0:
             self.lose(client)
         elif status is not None:
-            self.tally.spans.append((client.asked, time.monotonic()))
+            client.answered = time.monotonic()
+            self.tally.spans.append((client.asked, client.answered))
             self.tally.wrong += status not in (200, 204)
             self.plan(client)
 
