@@ -1,5 +1,5 @@
 -- The steps of a session.
-use Rattle.std.proofs.Common.{◌≡◌, ◌≢◌, ◌⊎◌, ℕ, ◌+◌, ◌-◌, ◌≤◌, ◌++◌, List, None, Some, [], ◌∷◌, ap, ◌∙◌, sym, refl, subst, append_assoc, append-nil, arith, Bool, true, false, IsTrue, IsFalse, Option, is_some, drop, inl, inr, length, length-append, length-drop, nat_le, take}
+use Rattle.std.proofs.Common.{◌≡◌, ◌≢◌, ◌⊎◌, ℕ, ◌+◌, ◌-◌, ◌≤◌, ◌<◌, ◌++◌, List, None, Some, [], ◌∷◌, ap, ◌∙◌, sym, refl, subst, append_assoc, append-nil, arith, Bool, true, false, IsTrue, IsFalse, Option, is_some, drop, inl, inr, length, length-append, length-drop, nat_le, take}
 use Rattle.std.specs.List.{concat}
 use Rattle.std.proofs.lemmas.List.{drop-drop, take-append-drop, take_all}
 use Rattle.std.proofs.lemmas.List.Folds.{concat-append}
@@ -66,6 +66,11 @@ nothing_left xs =
     let size : length xs - 0 ≡ length xs = omega arith in
     ap (λ n. drop n xs) size ∙ ap (drop (length xs)) (sym (append-nil xs)) ∙ drop-append_seam xs []
 
+-- what has all of a body or nothing is no longer than it
+size_of : (rest body : List ℕ) → (rest ≡ []) ⊎ (rest ≡ body) → (length rest ≡ 0) ⊎ (length rest ≡ length body)
+size_of rest body (inl none) = inl (ap length none)
+size_of rest body (inr all) = inr (ap length all)
+
 -- the end of a text whose last part is a body
 pub end_of : (text front rest body : List ℕ) (left : ℕ) → text ≡ front ++ rest → (rest ≡ []) ⊎ (rest ≡ body) → left ≤ length text → length front ≤ length text - left → drop (length text - left) text ≡ drop (length body - left) body ++ []
 end_of text front rest body left is (inl none) fits far =
@@ -76,6 +81,12 @@ end_of text front rest body left is (inr all) fits far =
     let whole : text ≡ front ++ body = is ∙ ap (λ (xs : List ℕ). front ++ xs) all in
     let at : length text - left ≡ length front + (length body - left) = omega (arith, ap length whole, length-append front body, fits, far) in
     ap (λ n. drop n text) at ∙ ap (drop (length front + (length body - left))) whole ∙ drop-append-add front body (length body - left) ∙ sym (append-nil (drop (length body - left) body))
+
+-- of a body some is left, where some of the text is that ends with it
+pub some_of : (text front rest body : List ℕ) (left : ℕ) → text ≡ front ++ rest → (rest ≡ []) ⊎ (rest ≡ body) → length front ≤ length text - left → 0 < length (drop (length text - left) text) → 0 < length (drop (length body - left) body)
+some_of text front rest body left is fits far some =
+    let size : length text ≡ length front + length rest = ap length is ∙ length-append front rest in
+    omega (arith, size, size_of rest body fits, far, some, length-drop (length text - left) text, length-drop (length body - left) body)
 
 -- one text more
 pub one_text : (texts : List (List ℕ)) (out text : List ℕ) → out ++ [] ≡ concat texts → out ++ text ≡ concat (texts ++ text ∷ [])

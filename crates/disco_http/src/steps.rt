@@ -244,6 +244,7 @@ impl<D: Document + Drop> Session<D> {
     pub fn end_input(&mut self)
         ensures done { (given : List ℕ) (asks : List message.RequestView) (texts : List (List ℕ)) (out : List ℕ)
             → HasDone D.content self.old given asks texts out → HasDone D.content self.new given asks texts out }
+        ensures ended { self.old.state ≡ state.Waits → (self.new.state ≡ state.Looks) × IsTrue self.new.has_ended }
     {
         if let State::Waits = self.state {
             self.has_ended = true;
@@ -361,6 +362,7 @@ impl<D: Document + Drop> Session<D> {
         service: &mut S,
     )
         ensures answered { self.old.state ≡ state.Looks → Answered D.content S.answers self.old self.new service.old service.new }
+        ensures stops { self.old.state ≡ state.Looks → self.new.state ≡ state.Looks → ⊥ }
         ensures counted { (self.new.requests ≡ self.old.requests) ⊎ (self.new.requests ≡ min (self.old.requests + 1) (2 ^ 64 - 1)) }
         ensures idle { self.old.state ≡ state.Looks → self.new.state ≡ state.Waits → bytes_of self.new.incoming.unread ≡ [] → vec_capacity self.new.incoming.unread.buffer ≡ 0 }
         ensures other { (self.old.state ≡ state.Looks → ⊥) → (self.new ≡ self.old) × (service.new ≡ service.old) }
@@ -381,6 +383,7 @@ impl<D: Document + Drop> Session<D> {
     pub fn text<'a>(&'a self, buffers: &'a mut Buffers) -> &'a [u8]
         ensures front { (given : List ℕ) (asks : List message.RequestView) (texts : List (List ℕ)) (out : List ℕ) → HasDone D.content self.now given asks texts out
             → (rest : List ℕ) × (unsent D.content self.now.state ≡ result.now ++ rest) }
+        ensures some { 0 < length (unsent D.content self.now.state) → 0 < length result.now }
     {
         let State::Writes(outgoing) = &self.state else {
             return b"";
