@@ -5,16 +5,16 @@ use Rattle.disco_http.specs.Causes.{Raises}
 use Rattle.disco_http.specs.Writes.{AppendsProperFront}
 use Rattle.disco_values.specs.declared.fault.Fault.{Fault}
 use Rattle.disco_values.specs.declared.fault.Fault.TheVariants.{ReadFailed}
-use Rattle.disco_options.specs.Faults.{Says, SaysAny, StandsBefore, TellsCause, report_line}
+use Rattle.disco_options.specs.Faults.{Says, SaysBehind, StandsBefore, TellsCause, report_line}
 
 none_before : (fault : Fault) (i j : ℕ) → StandsBefore fault [] i j
 none_before ReadFailed i j = inl refl
 none_before fault i j = refl
 
 -- nothing stands in front
-pub says_any : (fault : Fault) (a b : Option (List ℕ)) (i j : ℕ) → Says fault a b i j → SaysAny a b i j
-says_any fault None b i j h = (fault, [], none_before fault i j, h)
-says_any fault (Some x) b i j h = (fault, [], none_before fault i j, subst (λ xs. Says fault (Some xs) b i j) (sym (append-nil x)) h)
+pub says_alone : (fault : Fault) (a b : Option (List ℕ)) (i j : ℕ) → Says fault a b i j → SaysBehind fault a b i j
+says_alone fault None b i j h = ([], none_before fault i j, h)
+says_alone fault (Some x) b i j h = ([], none_before fault i j, subst (λ xs. Says fault (Some xs) b i j) (sym (append-nil x)) h)
 
 -- one failure behind another, where counts go up to 2^64 - 1
 raised_then : (i j k : ℕ) → k < 2 ^ 64 → (j ≡ i) ⊎ Raises i j → Raises j k → Raises i k
@@ -36,10 +36,10 @@ cause_on text i j k most (inr (rest, line, inr r)) on = inr (rest, line, inr (ra
 
 -- the cause of a failed read stands in front, which was written before it
 pub says_behind : (text : List ℕ) (a b c : Option (List ℕ)) (i j k : ℕ) → k < 2 ^ 64 → Appends a b text → TellsCause text i j → (j ≡ i) ⊎ Raises i j
-    → (k ≡ j) ⊎ Raises j k → Says ReadFailed b c j k → SaysAny a c i k
-says_behind text None b c i j k most h cause up on says = (ReadFailed, text, cause_on text i j k most cause on, inl tt)
+    → (k ≡ j) ⊎ Raises j k → Says ReadFailed b c j k → SaysBehind ReadFailed a c i k
+says_behind text None b c i j k most h cause up on says = (text, cause_on text i j k most cause on, inl tt)
 says_behind text (Some x) None c i j k most h cause up on says = elim h [ ]
 says_behind text (Some x) (Some y) c i j k most h cause up on (inl whole) =
-    (ReadFailed, text, cause_on text i j k most cause on, inl (subst (λ ys. Appends (Some ys) c (report_line ReadFailed)) h whole))
+    (text, cause_on text i j k most cause on, inl (subst (λ ys. Appends (Some ys) c (report_line ReadFailed)) h whole))
 says_behind text (Some x) (Some y) c i j k most h cause up on (inr (front, raised)) =
-    (ReadFailed, text, cause_on text i j k most cause on, inr (subst (λ ys. AppendsProperFront (Some ys) c (report_line ReadFailed)) h front, raised_then i j k most up raised))
+    (text, cause_on text i j k most cause on, inr (subst (λ ys. AppendsProperFront (Some ys) c (report_line ReadFailed)) h front, raised_then i j k most up raised))

@@ -34,9 +34,13 @@ abbrev pub StandsBefore : Fault → List ℕ → ℕ → ℕ → Type 0
 StandsBefore ReadFailed text before now = TellsCause text before now
 StandsBefore fault text before now = text ≡ []
 
--- the line of some fault is written, or a front of it, where a write failed, with what stands in front of it
+-- the line of a fault is written, or a front of it, where a write failed, with what stands in front of it
+abbrev pub SaysBehind : Fault → Option (List ℕ) → Option (List ℕ) → ℕ → ℕ → Type 0
+SaysBehind fault old new before now = (text : List ℕ) × StandsBefore fault text before now × Says fault (append_known old text) new before now
+
+-- so is that of some fault
 abbrev pub SaysAny : Option (List ℕ) → Option (List ℕ) → ℕ → ℕ → Type 0
-SaysAny old new before now = (fault : Fault) × (text : List ℕ) × StandsBefore fault text before now × Says fault (append_known old text) new before now
+SaysAny old new before now = (fault : Fault) × SaysBehind fault old new before now
 
 -- the status for words that give no settings: 0 for help, 1 for want of memory, 2 for a mistake
 abbrev pub status_of_kind : ErrorKind → ℕ

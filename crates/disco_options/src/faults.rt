@@ -4,10 +4,10 @@ ghost use Rattle.std.specs.Io.KnownBytes.{Appends};
 ghost use Rattle.std.specs.IoError.{error_kind};
 ghost use Rattle.clap.specs.Words.{HasKind, Kinds, kind_of};
 ghost use Rattle.disco_options.specs.Ending.{EndsBy};
-ghost use Rattle.disco_options.specs.Faults.{IsCauseLine, Says, SaysAny, TellsCause, report_line, status_of_kind, status_without_words};
+ghost use Rattle.disco_options.specs.Faults.{IsCauseLine, Says, SaysAny, SaysBehind, TellsCause, report_line, status_of_kind, status_without_words};
 ghost use Rattle.disco_http.specs.Causes.{Raises};
 ghost use Rattle.disco_http.specs.Writes.{WritesBytes};
-ghost use Rattle.disco_values.specs.declared.fault.Fault.TheVariants.{OutOfMemory, WriteFailed};
+ghost use Rattle.disco_values.specs.declared.fault.Fault.TheVariants.{OutOfMemory, ReadFailed, WriteFailed};
 
 use clap::Error;
 use clap::error::ErrorKind;
@@ -110,6 +110,7 @@ pub fn report_address<A: Display, E: Sink>(
     errors: &mut E,
 ) -> u8
     ensures status { result ≡ 1 }
+    ensures says { SaysBehind ReadFailed (E.contents errors.old) (E.contents errors.new) (E.failed errors.old) (E.failed errors.new) }
     ensures told { SaysAny (E.contents errors.old) (E.contents errors.new) (E.failed errors.old) (E.failed errors.new) }
 {
     explain(alloc, what, address, error, errors);

@@ -1,1 +1,2 @@
 mod Restarts
+mod WantOfMemory

@@ -9,7 +9,7 @@ ghost use Rattle.disco_options.specs.declared.subcommand.Subcommand.TheVariants.
 ghost use Rattle.disco_press.specs.Openings.{Opens};
 ghost use Rattle.disco_http.specs.Causes.{Raises};
 ghost use Rattle.disco_prog.specs.Replay.{IsFailed, IsReplayed};
-ghost use Rattle.disco_prog.specs.Serving.{SaysListening};
+ghost use Rattle.disco_prog.specs.Serving.{SaysListening, SaysWhy};
 
 use crate::fleets::fleet;
 use crate::replay_command::replay;
@@ -51,9 +51,11 @@ where
         (λ fault. Says fault (E.contents errors.old) (E.contents errors.new) (E.failed errors.old) (E.failed errors.new))
         W.contents out.old out.new }
 
-    // `serve` with status 0 has said where it listens.
+    // `serve` with status 0 has said where it listens, and with 1 why it doesn't serve, or no longer.
     ensures listening { verb_of (map string_bytes words.now) ≡ Serve → faults_of Serve (map string_bytes words.now) ≡ [] → result ≡ 0
         → SaysListening (map string_bytes words.now) (W.contents out.old) (W.contents out.new) }
+    ensures stopped { verb_of (map string_bytes words.now) ≡ Serve → faults_of Serve (map string_bytes words.now) ≡ [] → result ≡ 1
+        → SaysWhy (E.contents errors.old) (E.contents errors.new) (E.failed errors.old) (E.failed errors.new) }
 
     // `follow` with status 0 has told all that was asked for.
     ensures followed { verb_of (map string_bytes words.now) ≡ Follow → faults_of Follow (map string_bytes words.now) ≡ [] → result ≡ 0

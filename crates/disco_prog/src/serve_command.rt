@@ -1,11 +1,11 @@
 //! The command `serve`.
-ghost use Rattle.std.specs.Prelude.{◌≡◌, [], IfOk, OnOk, map, string_bytes};
+ghost use Rattle.std.specs.Prelude.{◌≡◌, [], IfErr, IfOk, OnOk, map, string_bytes};
 ghost use Rattle.std.specs.Io.KnownBytes.{Appends};
 ghost use Rattle.clap.specs.Words.{found_of, rows_of};
 ghost use Rattle.disco_options.specs.Ending.{EndsBy};
 ghost use Rattle.disco_options.specs.Options.{faults_of};
 ghost use Rattle.disco_press.specs.Openings.{Opens};
-ghost use Rattle.disco_prog.specs.Serving.{IsServicePlan, SaysListening, Tells, listening_line};
+ghost use Rattle.disco_prog.specs.Serving.{IsServicePlan, IsServingFault, SaysListening, SaysWhy, Tells, listening_line};
 
 use crate::service::Service;
 use clap::ArgMatches;
@@ -40,7 +40,8 @@ fn service_from(matches: &ArgMatches<'_>, run: u64) -> Service
 
 /// Writes that it listens, in one write where the host takes it whole. Gives the output back.
 fn say<'o, W: Sink>(alloc: Global, port: u16, out: &'o mut W) -> Result<&'o mut W, Fault>
-    ensures { IfOk result (λ said. Tells W.contents out.entry said (listening_line port)) }
+    ensures said { IfOk result (λ said. Tells W.contents out.entry said (listening_line port)) }
+    ensures failed { IfErr result IsServingFault }
 {
     let line = format!(in alloc; "listening 127.0.0.1:{port}\n")?;
     write_all(out, line.as_bytes())?;
@@ -64,7 +65,8 @@ fn serve_in<'s, 'o, E, J: Naming + Send + Sync + 's, R, C: Clock + Copy + Send +
 ) -> Result<&'o mut W, Fault>
 where
     R: Net<Listener = TcpListener, Stream = TcpStream> + Threads + Wait + rt::Clock + Sync + 's,
-    ensures { IfOk result (λ said. Tells W.contents out.entry said (listening_line service.entry.now.port)) }
+    ensures said { IfOk result (λ said. Tells W.contents out.entry said (listening_line service.entry.now.port)) }
+    ensures failed { IfErr result IsServingFault }
 {
     let port = service.port;
     start_timers(scope, rt, desk, clock, stop)?;
@@ -99,6 +101,7 @@ fn run<J: Naming + Send + Sync, R, C: Clock + Copy + Send, W: Sink>(
 where
     R: Net<Listener = TcpListener, Stream = TcpStream> + Threads + Wait + rt::Clock + Sync,
     ensures said { OnOk result (Appends (W.contents out.old) (W.contents out.new) (listening_line service.now.port)) }
+    ensures failed { IfErr result IsServingFault }
 {
     let stop = AtomicBool::new(false);
     let stop = &stop;
@@ -131,6 +134,7 @@ where
     R: Net<Listener = TcpListener, Stream = TcpStream> + Threads + Wait + rt::Clock + Sync,
     requires opening { Opens J.list J.name J.parts opening }
     ensures said { OnOk result (Appends (W.contents out.old) (W.contents out.new) (listening_line service.now.port)) }
+    ensures failed { IfErr result IsServingFault }
 {
     let (mut desk, seats) = open::<J, R>(rt, alloc, &service.settings, service.workers, opening)?;
     // The desk takes later what is lacking of it.
@@ -164,6 +168,8 @@ where
     // Words with no fault are `serve` with options: 0 says that the line which these ask for was written.
     ensures listening { faults_of Subcommand.Serve (map string_bytes words.now) ≡ [] → result ≡ 0
         → SaysListening (map string_bytes words.now) (W.contents out.old) (W.contents out.new) }
+    ensures failed { faults_of Subcommand.Serve (map string_bytes words.now) ≡ [] → result ≡ 1
+        → SaysWhy (E.contents errors.old) (E.contents errors.new) (E.failed errors.old) (E.failed errors.new) }
 {
     let clock = SystemClock::started(rt);
     serve_by::<J, R, SystemClock<&R>, W, E>(rt, alloc, clock, opening, out, errors, words)
@@ -186,6 +192,8 @@ where
     ensures ends { EndsBy E.contents E.failed (faults_of Subcommand.Serve (map string_bytes words.now)) result out.old out.new errors.old errors.new }
     ensures listening { faults_of Subcommand.Serve (map string_bytes words.now) ≡ [] → result ≡ 0
         → SaysListening (map string_bytes words.now) (W.contents out.old) (W.contents out.new) }
+    ensures failed { faults_of Subcommand.Serve (map string_bytes words.now) ≡ [] → result ≡ 1
+        → SaysWhy (E.contents errors.old) (E.contents errors.new) (E.failed errors.old) (E.failed errors.new) }
 {
     let matches = match read_words(alloc, Subcommand::Serve, words) {
         Ok(matches) => matches,

@@ -1,16 +1,8 @@
-use Rattle.std.proofs.Common.{◌≡◌, [], inl, inr, refl, sym, ap, subst, ◌∙◌}
-use Rattle.clap.specs.Words.{HasKind, IsAmong, Kinds}
-use Rattle.clap.specs.declared.error.Error.{Error}
-use Rattle.clap.specs.Words.{kind_of}
-use Rattle.disco_options.specs.Faults.{status_of_kind}
+use Rattle.std.proofs.Common.{inl, inr, refl, sym, ◌∙◌}
 use Rattle.disco_values.specs.declared.fault.Fault.TheVariants.{OutOfMemory}
 use Rattle.disco_lines.proofs.Whole.{none_bad}
+use Rattle.disco_prog.proofs.WantOfMemory.{no_memory}
 use Rattle.disco_prog.proofs.replay_command.replay.Goals as goal
-
--- words with no fault fail for want of memory alone
-no_memory : (kinds : Kinds) (e : Error) → kinds ≡ [] → HasKind kinds e → status_of_kind (kind_of e) ≡ 1
-no_memory kinds e none (inl memory) = ap status_of_kind memory
-no_memory kinds e none (inr among) = absurd (subst (IsAmong (kind_of e)) none among)
 
 pub returns-in-Ok-answer_input-clause-bad_line : goal.returns-in-Ok-answer_input-clause-bad_line
 returns-in-Ok-answer_input-clause-bad_line g c = λ none input bad e line. absurd (none_bad _ _ c.in-Ok-answer_input.ensures.answered.1.read input bad e line)
