@@ -19,12 +19,24 @@ const APPS: &str =
 const DELTA: &str =
     r#"{"applications":{"application":{"name":"ORDERS","instance":{"instanceId":"2","actionType":"DELETED"}},"apps__hashcode":"UP_1_","versions__delta":2}}"#;
 
-/// How many of the vips' instances are up, one vip after another.
+/// How many of a vip's instances are up.
+fn say_up(alloc: Global, copy: &Copy, vip: &str, out: &mut String) -> Result<(), Fault> {
+    let up = copy.up(alloc, vip)?.len() as u64;
+    say(out, "up", up)
+}
+
+/// The same of one vip after another.
 fn tell_up(alloc: Global, copy: &Copy, out: &mut String) -> Result<(), Fault> {
-    for vip in ["orders", "Orders", "order", "x,orders", ""] {
-        say(out, "up", copy.up(alloc, vip)?.len() as u64)?;
-    }
-    Ok(())
+    say_up(alloc, copy, "orders", out)?;
+    say_up(alloc, copy, "Orders", out)?;
+    say_up(alloc, copy, "order", out)?;
+    say_up(alloc, copy, "x,orders", out)?;
+    say_up(alloc, copy, "", out)
+}
+
+fn say_hash(alloc: Global, copy: &Copy, out: &mut String) -> Result<(), Fault> {
+    let hash = copy.hash(alloc)?;
+    say_text(out, "hash", hash.as_str())
 }
 
 fn overlay(alloc: Global, copy: &mut Copy) -> Result<Overlaid, Fault> {
@@ -33,7 +45,7 @@ fn overlay(alloc: Global, copy: &mut Copy) -> Result<Overlaid, Fault> {
 
 fn tell_copy(alloc: Global, copy: &mut Copy, out: &mut String) -> Result<(), Fault> {
     copy.full(read_document(alloc, APPS.as_bytes())?)?;
-    say_text(out, "hash", copy.hash(alloc)?.as_str())?;
+    say_hash(alloc, copy, out)?;
     say(out, "records", copy.records().len() as u64)?;
     tell_up(alloc, copy, out)?;
     say(out, "is its hash", copy.hash_is("DOWN_1_UP_1_") as u64)?;
@@ -137,10 +149,14 @@ fn tell_certified(alloc: Global, out: &mut String) -> Result<(), Fault> {
     tell_client(&mut client, out)
 }
 
+fn tell_copies(alloc: Global, out: &mut String) -> Result<(), Fault> {
+    let mut copy = Copy::new(alloc);
+    tell_copy(alloc, &mut copy, out)
+}
+
 /// What a copy and two clients hold.
 pub(crate) fn tell(alloc: Global, out: &mut String) -> Result<(), Fault> {
-    let mut copy = Copy::new(alloc);
-    tell_copy(alloc, &mut copy, out)?;
+    tell_copies(alloc, out)?;
     tell_plain(alloc, out)?;
     tell_certified(alloc, out)
 }

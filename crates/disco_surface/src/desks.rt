@@ -1,19 +1,35 @@
 //! A desk and its seats, by code that is generic in their name.
 use crate::given::{apps, compact_apps, key, registration, say};
 use crate::hubs::tell_expired;
-use disco_instance::{Fault, Form};
+use disco_cache::DocKey;
+use disco_instance::{Fault, Form, Key};
 use disco_press::{Desk, Looked, Naming, Seat};
 use disco_registry::Op;
 use std::alloc::Global;
 use std::sync::Wait;
 
-/// The version that a look finds.
-fn tell_look<J: Naming>(seat: &mut Seat<J>, out: &mut String) -> Result<(), Fault> {
-    match seat.look(&apps()) {
-        Looked::Doc(doc) => say(out, "look", doc.version),
-        Looked::Miss => say(out, "miss", 0),
-        Looked::Shut => say(out, "shut", 0),
+/// What a look finds, by its name and its version.
+fn found(looked: Looked) -> (&'static str, u64) {
+    match looked {
+        Looked::Doc(doc) => ("look", doc.version),
+        Looked::Miss => ("miss", 0),
+        Looked::Shut => ("shut", 0),
     }
+}
+
+fn tell_look<J: Naming>(seat: &mut Seat<J>, out: &mut String) -> Result<(), Fault> {
+    let (name, version) = found(seat.look(&apps()));
+    say(out, name, version)
+}
+
+/// The version of the document of a key.
+fn load<J: Naming>(desk: &mut Desk<J>, key: DocKey) -> Result<u64, Fault> {
+    Ok(desk.load(&key)?.version)
+}
+
+/// Whether a document was copied.
+fn copy<J: Naming>(desk: &mut Desk<J>) -> Result<u64, Fault> {
+    Ok(desk.copy_one()?.is_some() as u64)
 }
 
 fn write<J: Naming>(desk: &mut Desk<J>, op: Op, now: u64) -> Result<(), Fault> {
@@ -31,6 +47,20 @@ fn write_as<J: Naming>(
     Ok(())
 }
 
+/// A round is copied at version 1.
+fn tell_copied<J: Naming>(
+    alloc: Global,
+    desk: &mut Desk<J>,
+    out: &mut String,
+) -> Result<(), Fault> {
+    write(desk, registration(alloc, "1")?, 1)?;
+    say(out, "load", load(desk, apps())?)?;
+    say(out, "load", load(desk, compact_apps())?)?;
+    say(out, "round", desk.begin()? as u64)?;
+    say(out, "copied", copy(desk)?)?;
+    say(out, "copied", copy(desk)?)
+}
+
 /// The step back that a look may take: a round was copied at version 1, and published behind version 2.
 fn tell_step_back<J: Naming, R: Wait>(
     rt: &R,
@@ -39,29 +69,34 @@ fn tell_step_back<J: Naming, R: Wait>(
     seat: &mut Seat<J>,
     out: &mut String,
 ) -> Result<(), Fault> {
-    write(desk, registration(alloc, "1")?, 1)?;
-    say(out, "load", desk.load(&apps())?.version)?;
-    say(out, "load", desk.load(&compact_apps())?.version)?;
-    say(out, "round", desk.begin()? as u64)?;
-    say(out, "copied", desk.copy_one()?.is_some() as u64)?;
-    say(out, "copied", desk.copy_one()?.is_some() as u64)?;
+    tell_copied(alloc, desk, out)?;
     write_as(desk, seat, registration(alloc, "2")?, 2)?;
     tell_look(seat, out)?;
-    say(out, "load", desk.load(&apps())?.version)?;
+    say(out, "load", load(desk, apps())?)?;
     say(out, "published", desk.publish(rt)? as u64)?;
     tell_look(seat, out)?;
     seat.learn(desk);
     say(out, "changes", seat.changes())
 }
 
-fn tell_instance<J: Naming>(
-    alloc: Global,
-    desk: &mut Desk<J>,
-    out: &mut String,
-) -> Result<(), Fault> {
+/// The version of the document of an instance.
+fn instance<J: Naming>(desk: &Desk<J>, key: &Key) -> Result<u64, Fault> {
+    Ok(desk.instance(key, Form::Full)?.version)
+}
+
+/// The version of the document of the instance of an id.
+fn by_id<J: Naming>(desk: &Desk<J>, id: &str) -> Result<u64, Fault> {
+    Ok(desk.by_id(id, Form::Full)?.version)
+}
+
+fn tell_one<J: Naming>(desk: &Desk<J>, key: &Key, out: &mut String) -> Result<(), Fault> {
+    say(out, "one", instance(desk, key)?)?;
+    say(out, "by id", by_id(desk, key.id.as_str())?)
+}
+
+fn tell_instance<J: Naming>(alloc: Global, desk: &Desk<J>, out: &mut String) -> Result<(), Fault> {
     let key = key(alloc, "2")?;
-    say(out, "one", desk.instance(&key, Form::Full)?.version)?;
-    say(out, "by id", desk.by_id("2", Form::Full)?.version)
+    tell_one(desk, &key, out)
 }
 
 fn tell_time<J: Naming>(desk: &mut Desk<J>, out: &mut String) -> Result<(), Fault> {
@@ -71,6 +106,27 @@ fn tell_time<J: Naming>(desk: &mut Desk<J>, out: &mut String) -> Result<(), Faul
     say(out, "base", desk.clean(1_000_000))
 }
 
+/// How many leases have run out.
+fn due<J: Naming>(desk: &Desk<J>) -> Result<u64, Fault> {
+    Ok(desk.due(1_000_000)?.len() as u64)
+}
+
+fn push(alloc: Global, keys: &mut Vec<Key>, id: &str) -> Result<(), Fault> {
+    Ok(keys.push(key(alloc, id)?)?)
+}
+
+fn tell_cancelled<J: Naming>(
+    alloc: Global,
+    desk: &mut Desk<J>,
+    keys: &mut Vec<Key>,
+    out: &mut String,
+) -> Result<(), Fault> {
+    push(alloc, keys, "2")?;
+    push(alloc, keys, "3")?;
+    tell_expired(desk.cancel_overdue(keys, 1_000_000), out)?;
+    say(out, "overdue", keys.len() as u64)
+}
+
 /// An instance whose lease runs out.
 fn tell_overdue<J: Naming>(
     alloc: Global,
@@ -78,12 +134,9 @@ fn tell_overdue<J: Naming>(
     out: &mut String,
 ) -> Result<(), Fault> {
     write(desk, registration(alloc, "3")?, 4)?;
-    say(out, "due", desk.due(1_000_000)?.len() as u64)?;
+    say(out, "due", due(desk)?)?;
     let mut keys = Vec::new(alloc);
-    keys.push(key(alloc, "2")?)?;
-    keys.push(key(alloc, "3")?)?;
-    tell_expired(desk.cancel_overdue(&mut keys, 1_000_000), out)?;
-    say(out, "overdue", keys.len() as u64)
+    tell_cancelled(alloc, desk, &mut keys, out)
 }
 
 /// A reserve that is given up twice.

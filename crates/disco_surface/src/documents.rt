@@ -25,6 +25,14 @@ fn tell_text(text: &[u8], out: &mut String) -> Result<(), Fault> {
     }
 }
 
+/// A document, where there is one.
+fn tell_written(written: Option<Vec<u8>>, out: &mut String) -> Result<(), Fault> {
+    match written {
+        Some(text) => tell_text(text.as_slice(), out),
+        None => Ok(()),
+    }
+}
+
 /// The document of all apps of an empty registry, in both forms.
 fn tell_apps(
     alloc: Global,
@@ -41,13 +49,10 @@ fn tell_apps(
     requires texts { texts.now ≡ none_kept }
 {
     let query = Query::Apps;
-    if let Some(full) = write_full(alloc, &query, registry, vips, queue, counts, texts)? {
-        tell_text(full.as_slice(), out)?;
-    }
-    if let Some(compact) = write_compact(alloc, &query, registry, vips, queue, counts, texts)? {
-        tell_text(compact.as_slice(), out)?;
-    }
-    Ok(())
+    let full = write_full(alloc, &query, registry, vips, queue, counts, texts)?;
+    tell_written(full, out)?;
+    let compact = write_compact(alloc, &query, registry, vips, queue, counts, texts)?;
+    tell_written(compact, out)
 }
 
 fn tell_empty(alloc: Global, out: &mut String) -> Result<(), Fault> {
@@ -71,12 +76,21 @@ fn tell_sizes(alloc: Global, mention: &Mention, out: &mut String) -> Result<(), 
     say(out, "compact", text_compact(alloc, mention)?.len() as u64)
 }
 
+/// The same of the projection of an instance.
+fn tell_projected(alloc: Global, rec: &Record, out: &mut String) -> Result<(), Fault> {
+    let projected = mention(project(alloc, rec)?);
+    tell_sizes(alloc, &projected, out)
+}
+
 /// The same of an instance and of its projection.
+fn tell_both(alloc: Global, put: &Mention, out: &mut String) -> Result<(), Fault> {
+    tell_sizes(alloc, put, out)?;
+    tell_projected(alloc, &put.rec, out)
+}
+
 fn tell_forms(alloc: Global, out: &mut String) -> Result<(), Fault> {
     let put = mention(record(alloc, "1")?);
-    tell_sizes(alloc, &put, out)?;
-    let projected = mention(project(alloc, &put.rec)?);
-    tell_sizes(alloc, &projected, out)
+    tell_both(alloc, &put, out)
 }
 
 /// A text that is kept by its key.
@@ -135,23 +149,54 @@ fn invalidate(alloc: Global, cache: &mut DocCache) -> Result<(), Fault> {
     Ok(())
 }
 
+/// How many keys there are, and whether the least comes first.
+fn tell_keys(alloc: Global, cache: &DocCache, out: &mut String) -> Result<(), Fault> {
+    let keys = cache.keys(alloc)?;
+    let least = keys.first().is_some_and(|key| is_vip(key, "a"));
+    say(out, "keys", keys.len() as u64)?;
+    say(out, "least first", least as u64)
+}
+
+/// Whether a key is that of a vip's document.
+fn is_vip(key: &DocKey, name: &str) -> bool {
+    match &key.query {
+        Query::Vip(vip) => vip.as_str() == name,
+        _ => false,
+    }
+}
+
 /// Documents are kept by key, two of them where there is room for two, until a change names them.
 fn tell_kept(alloc: Global, cache: &mut DocCache, out: &mut String) -> Result<(), Fault> {
     say(out, "kept", keep(alloc, cache, "c")?)?;
     say(out, "kept", keep(alloc, cache, "a")?)?;
     say(out, "kept", keep(alloc, cache, "d")?)?;
-    say(out, "keys", cache.keys(alloc)?.len() as u64)?;
+    tell_keys(alloc, cache, out)?;
     invalidate(alloc, cache)?;
     say(out, "named", has(alloc, cache, "a")?)?;
     say(out, "other", has(alloc, cache, "c")?)
 }
 
+fn put(alloc: Global, edition: &mut Edition) -> Result<u64, Fault> {
+    edition.put(document(alloc, apps())?)?;
+    Ok(edition.len() as u64)
+}
+
 /// Documents by key, of which one is taken out again.
 fn tell_edition(alloc: Global, edition: &mut Edition, out: &mut String) -> Result<(), Fault> {
-    edition.put(document(alloc, apps())?)?;
-    say(out, "in the edition", edition.len() as u64)?;
+    say(out, "in the edition", put(alloc, edition)?)?;
     edition.remove(&apps());
-    say(out, "then", edition.get(&apps()).is_some() as u64)
+    let there = edition.get(&apps()).is_some();
+    say(out, "then", there as u64)
+}
+
+fn tell_cache(alloc: Global, out: &mut String) -> Result<(), Fault> {
+    let mut cache = DocCache::new(alloc, 2);
+    tell_kept(alloc, &mut cache, out)
+}
+
+fn tell_editions(alloc: Global, out: &mut String) -> Result<(), Fault> {
+    let mut edition = Edition::new(alloc);
+    tell_edition(alloc, &mut edition, out)
 }
 
 /// What is written and kept.
@@ -159,8 +204,6 @@ pub(crate) fn tell(alloc: Global, out: &mut String) -> Result<(), Fault> {
     tell_empty(alloc, out)?;
     tell_forms(alloc, out)?;
     tell_texts(alloc, out)?;
-    let mut cache = DocCache::new(alloc, 2);
-    tell_kept(alloc, &mut cache, out)?;
-    let mut edition = Edition::new(alloc);
-    tell_edition(alloc, &mut edition, out)
+    tell_cache(alloc, out)?;
+    tell_editions(alloc, out)
 }

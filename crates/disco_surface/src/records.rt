@@ -168,15 +168,25 @@ fn center_name(alloc: Global, rec: &Record) -> Result<String, Fault> {
     Ok(center.name.into_string(alloc)?)
 }
 
+fn tell_center(alloc: Global, rec: &Record, out: &mut String) -> Result<(), Fault> {
+    let name = center_name(alloc, rec)?;
+    say_text(out, "in", name.as_str())
+}
+
+/// How many entries the metadata of a record has.
+fn entry_count(rec: &Record) -> Result<u64, Fault> {
+    Ok(rec.details.metadata.copy()?.into_vec().len() as u64)
+}
+
+fn tell_parts_of(alloc: Global, rec: &Record, out: &mut String) -> Result<(), Fault> {
+    say(out, "seconds", lasts(rec)?)?;
+    tell_center(alloc, rec, out)?;
+    say(out, "entries", entry_count(rec)?)
+}
+
 fn tell_parts(alloc: Global, out: &mut String) -> Result<(), Fault> {
     let rec = record(alloc, "1")?;
-    say(out, "seconds", lasts(&rec)?)?;
-    say_text(out, "in", center_name(alloc, &rec)?.as_str())?;
-    say(
-        out,
-        "entries",
-        rec.details.metadata.copy()?.into_vec().len() as u64,
-    )
+    tell_parts_of(alloc, &rec, out)
 }
 
 /// Metadata of a name that is given twice.
@@ -188,11 +198,17 @@ fn twice(alloc: Global) -> Result<Entries, Fault> {
     Ok(Entries::from_pairs(alloc, pairs)?)
 }
 
+/// A name and its text, which is taken out of its storage.
+fn tell_entry(alloc: Global, entry: (Text, Text), out: &mut String) -> Result<(), Fault> {
+    let (name, text) = entry;
+    let text = text.into_string(alloc)?;
+    say_text(out, name.as_str(), text.as_str())
+}
+
 /// Metadata that is taken apart.
 fn tell_entries(alloc: Global, entries: Entries, out: &mut String) -> Result<(), Fault> {
-    for (name, text) in entries.into_vec() {
-        let text = text.into_string(alloc)?;
-        say_text(out, name.as_str(), text.as_str())?;
+    for entry in entries.into_vec() {
+        tell_entry(alloc, entry, out)?;
     }
     Ok(())
 }
@@ -212,9 +228,12 @@ fn made(alloc: Global) -> Result<Wire, Fault> {
     })
 }
 
-fn tell_documents(alloc: Global, out: &mut String) -> Result<(), Fault> {
+fn tell_read_document(alloc: Global, out: &mut String) -> Result<(), Fault> {
     let read = read_document(alloc, DOCUMENT.as_bytes())?;
-    tell_document(&read, out)?;
+    tell_document(&read, out)
+}
+
+fn tell_made(alloc: Global, out: &mut String) -> Result<(), Fault> {
     let made = made(alloc)?;
     tell_document(&made, out)
 }
@@ -251,10 +270,15 @@ const CERT: Cert = Cert {
     version: 2,
 };
 
-fn tell_texts(alloc: Global, out: &mut String) -> Result<(), Fault> {
+fn byte_count(alloc: Global) -> Result<u64, Fault> {
     let bytes = Bytes::from_vec(b"{}".to_vec(alloc)?).into_vec();
-    say(out, "bytes", bytes.len() as u64)?;
-    say_text(out, "upper", upper(alloc, "orders")?.as_str())
+    Ok(bytes.len() as u64)
+}
+
+fn tell_texts(alloc: Global, out: &mut String) -> Result<(), Fault> {
+    say(out, "bytes", byte_count(alloc)?)?;
+    let upper = upper(alloc, "orders")?;
+    say_text(out, "upper", upper.as_str())
 }
 
 /// What is read, and what it is made of.
@@ -266,7 +290,8 @@ pub(crate) fn tell(alloc: Global, out: &mut String) -> Result<(), Fault> {
     tell_cert(CERT, out)?;
     tell_texts(alloc, out)?;
     tell_entries(alloc, twice(alloc)?, out)?;
-    tell_documents(alloc, out)?;
+    tell_read_document(alloc, out)?;
+    tell_made(alloc, out)?;
     tell_registration(alloc, out)?;
     tell_value(alloc, out)?;
     tell_parts(alloc, out)

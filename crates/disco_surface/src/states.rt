@@ -58,12 +58,18 @@ fn tell_changes(alloc: Global, out: &mut String) -> Result<(), Fault> {
     tell_last(alloc, changes.as_slice(), "2", out)
 }
 
-/// The text of counts, by the two calls that give it.
-fn tell_text(alloc: Global, counts: &Counts, out: &mut String) -> Result<(), Fault> {
+/// How many bytes the text of counts has.
+fn size(alloc: Global, counts: &Counts) -> Result<u64, Fault> {
     let mut text = Vec::with_capacity(alloc, 160)?;
     counts.text_into(&mut text);
-    say(out, "bytes", text.len() as u64)?;
-    say_text(out, "counts", counts.text(alloc)?.as_str())
+    Ok(text.len() as u64)
+}
+
+/// The text of counts, by the two calls that give it.
+fn tell_text(alloc: Global, counts: &Counts, out: &mut String) -> Result<(), Fault> {
+    say(out, "bytes", size(alloc, counts)?)?;
+    let text = counts.text(alloc)?;
+    say_text(out, "counts", text.as_str())
 }
 
 fn tell_counts(alloc: Global, out: &mut String) -> Result<(), Fault> {
@@ -74,9 +80,12 @@ fn tell_counts(alloc: Global, out: &mut String) -> Result<(), Fault> {
     tell_text(alloc, &counts, out)
 }
 
-fn say_secure(alloc: Global, vips: &VipIndex, out: &mut String) -> Result<(), Fault> {
-    let keys = vips.under_secure(alloc, "b")?;
-    say(out, "under secure vip b", keys.len() as u64)
+fn under(alloc: Global, vips: &VipIndex) -> Result<u64, Fault> {
+    Ok(vips.under(alloc, "b")?.len() as u64)
+}
+
+fn under_secure(alloc: Global, vips: &VipIndex) -> Result<u64, Fault> {
+    Ok(vips.under_secure(alloc, "b")?.len() as u64)
 }
 
 fn tell_vips_of(
@@ -87,10 +96,10 @@ fn tell_vips_of(
 ) -> Result<(), Fault> {
     vips.ready(rec)?;
     vips.add(rec);
-    say(out, "under vip b", vips.under(alloc, "b")?.len() as u64)?;
-    say_secure(alloc, vips, out)?;
+    say(out, "under vip b", under(alloc, vips)?)?;
+    say(out, "under secure vip b", under_secure(alloc, vips)?)?;
     vips.take(rec);
-    say(out, "then", vips.under(alloc, "b")?.len() as u64)
+    say(out, "then", under(alloc, vips)?)
 }
 
 fn tell_vips(alloc: Global, out: &mut String) -> Result<(), Fault> {
@@ -101,20 +110,32 @@ fn tell_vips(alloc: Global, out: &mut String) -> Result<(), Fault> {
 
 /// A queue of one change.
 fn queue(alloc: Global) -> Result<ChangedQueue, Fault> {
-    let mut queue = ChangedQueue::new(alloc, 2);
     let change = put(alloc, "1")?;
+    let mut queue = ChangedQueue::new(alloc, 2);
     queue.ready(change.key())?;
     queue.push(change, 1000);
     Ok(queue)
 }
 
-fn tell_queue(alloc: Global, out: &mut String) -> Result<(), Fault> {
-    let mut queue = queue(alloc)?;
+fn last_changes(alloc: Global, queue: &ChangedQueue) -> Result<u64, Fault> {
+    Ok(queue.last_changes(alloc)?.len() as u64)
+}
+
+fn tell_queue_of(alloc: Global, queue: &mut ChangedQueue, out: &mut String) -> Result<(), Fault> {
     say(out, "changes in the queue", queue.len() as u64)?;
     say(out, "version of the queue", queue.version())?;
-    say(out, "last changes", queue.last_changes(alloc)?.len() as u64)?;
+    say(out, "last changes", last_changes(alloc, queue)?)?;
     say(out, "dropped", queue.clean(5000, 1000) as u64)?;
     say(out, "base of the queue", queue.base())
+}
+
+fn tell_queue(alloc: Global, out: &mut String) -> Result<(), Fault> {
+    let mut queue = queue(alloc)?;
+    tell_queue_of(alloc, &mut queue, out)
+}
+
+fn due(alloc: Global, leases: &LeaseBook) -> Result<u64, Fault> {
+    Ok(leases.due(alloc, 1_000_000, 1)?.len() as u64)
 }
 
 fn tell_leases_of(
@@ -128,7 +149,7 @@ fn tell_leases_of(
     leases.renew(key, 10)?;
     leases.touch(key, 20)?;
     say(out, "renewals", leases.close_minute(1))?;
-    say(out, "due", leases.due(alloc, 1_000_000, 1)?.len() as u64)?;
+    say(out, "due", due(alloc, leases)?)?;
     say(out, "overdue", leases.is_overdue(key, 1_000_000) as u64)?;
     leases.cancel(key)?;
     say(
@@ -170,6 +191,18 @@ fn since(registry: &Registry, key: &Key) -> u64 {
     }
 }
 
+/// Whether an instance that never came isn't held.
+fn not_held(alloc: Global, registry: &Registry) -> Result<u64, Fault> {
+    let other = key(alloc, "3")?;
+    Ok(registry.get(&other).is_none() as u64)
+}
+
+/// Does an operation, and gives the version.
+fn apply(alloc: Global, registry: &mut Registry, number: u64) -> Result<u64, Fault> {
+    let _ = registry.apply(operation(alloc, number)?, 2000)?;
+    Ok(registry.version())
+}
+
 fn tell_registry_of(
     alloc: Global,
     key: &Key,
@@ -178,10 +211,10 @@ fn tell_registry_of(
 ) -> Result<(), Fault> {
     say(out, "registered", register(alloc, registry)? as u64)?;
     say(out, "since", since(registry, key))?;
+    say(out, "not held", not_held(alloc, registry)?)?;
     say(out, "by id", registry.by_id("1").is_some() as u64)?;
     for number in 0..5 {
-        let _ = registry.apply(operation(alloc, number)?, 2000)?;
-        say(out, "version", registry.version())?;
+        say(out, "version", apply(alloc, registry, number)?)?;
     }
     say(out, "held", registry.len() as u64)
 }

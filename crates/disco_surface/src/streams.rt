@@ -4,8 +4,8 @@ ghost use Rattle.disco_http.specs.Streams.{is_spent};
 
 use crate::given::{say, say_text};
 use disco_http::{
-    Counted, Document, End, Failed, Limits, Reader, Reply, Request, Served, Service, Sink, Source,
-    StatusCode, Writer, serve, write_reply,
+    Counted, Document, End, Failed, Limits, Reader, ReceivedReply, Reply, Request, Served, Service,
+    Sink, Source, StatusCode, Writer, serve, write_reply,
 };
 use disco_instance::Fault;
 use std::alloc::Global;
@@ -120,7 +120,21 @@ fn limits() -> Limits {
     }
 }
 
-/// The method of a request that is read, and how many bytes its body has.
+/// The method of a request, and how many bytes its body has.
+fn tell_whole(request: &Request, out: &mut String) -> Result<(), Fault> {
+    say_text(out, "method", request.method().as_str())?;
+    say(out, "bytes", request.body().len() as u64)
+}
+
+/// The same of a request that was read.
+fn tell_read(read: Option<Request>, out: &mut String) -> Result<(), Fault> {
+    match read {
+        Some(request) => tell_whole(&request, out),
+        None => say(out, "bytes", 0),
+    }
+}
+
+/// The same of the next request.
 fn tell_request(
     alloc: Global,
     reader: &mut Reader<Drops<'_>>,
@@ -128,21 +142,19 @@ fn tell_request(
 ) -> Result<(), Fault>
     requires { IsFalse (is_spent reader.old) }
 {
-    match reader.read_request(alloc)? {
-        Some(request) => {
-            say_text(out, "method", request.method().as_str())?;
-            say(out, "bytes", request.body().len() as u64)
-        }
-        None => say(out, "bytes", 0),
-    }
+    tell_read(reader.read_request(alloc)?, out)
+}
+
+fn tell_received(reply: &ReceivedReply, out: &mut String) -> Result<(), Fault> {
+    say(out, "status", reply.head.status() as u64)?;
+    say(out, "bytes", reply.body.len() as u64)
 }
 
 /// The status of a reply that is read.
 fn tell_reply(alloc: Global, out: &mut String) -> Result<(), Fault> {
     let mut reader = Reader::new(alloc, Counted::new(REPLY), Limits::of_client())?;
-    let read = reader.read_reply(alloc)?;
-    say(out, "status", read.head.status() as u64)?;
-    say(out, "bytes", read.body.len() as u64)
+    let read = reader.read_reply(alloc);
+    tell_received(&read?, out)
 }
 
 /// Whether a writer is spent behind a last reply.
@@ -152,20 +164,37 @@ fn tell_written(alloc: Global, out: &mut String) -> Result<(), Fault> {
     say(out, "spent", writer.is_spent() as u64)
 }
 
+fn tell_end(served: &Served, out: &mut String) -> Result<(), Fault> {
+    let Served { requests, end } = served;
+    say(out, "requests", *requests)?;
+    say_text(out, "end", end_name(end))
+}
+
 /// A connection that is served.
-fn tell_served(alloc: Global, out: &mut String) -> Result<(), Fault> {
-    let mut reader = Reader::new(alloc, Drops { rest: REQUEST }, Limits::of_server())?;
+fn tell_served(alloc: Global, reader: &mut Reader<Drops<'_>>, out: &mut String) -> Result<(), Fault>
+    requires { IsFalse (is_spent reader.old) }
+{
     let mut writer = Writer::new(alloc, Scale { bytes: 0 })?;
-    let Served { requests, end } = serve(alloc, &mut reader, &mut writer, &mut Clerk);
-    say(out, "requests", requests)?;
-    say_text(out, "end", end_name(&end))
+    let served = serve(alloc, reader, &mut writer, &mut Clerk);
+    tell_end(&served, out)
+}
+
+/// The same of its first byte on.
+fn tell_connection(alloc: Global, out: &mut String) -> Result<(), Fault> {
+    let mut reader = Reader::new(alloc, Drops { rest: REQUEST }, Limits::of_server())?;
+    tell_served(alloc, &mut reader, out)
+}
+
+/// A request that is read.
+fn tell_first(alloc: Global, out: &mut String) -> Result<(), Fault> {
+    let mut reader = Reader::new(alloc, Drops { rest: REQUEST }, limits())?;
+    tell_request(alloc, &mut reader, out)
 }
 
 /// What is read, written and served.
 pub(crate) fn tell(alloc: Global, out: &mut String) -> Result<(), Fault> {
-    let mut reader = Reader::new(alloc, Drops { rest: REQUEST }, limits())?;
-    tell_request(alloc, &mut reader, out)?;
+    tell_first(alloc, out)?;
     tell_reply(alloc, out)?;
     tell_written(alloc, out)?;
-    tell_served(alloc, out)
+    tell_connection(alloc, out)
 }

@@ -1,4 +1,4 @@
-use Rattle.disco_surface.proofs.tell_all.Given as goal
+use Rattle.disco_surface.proofs.tell_by.Given as goal
 
 abbrev pub ghosts-tell_desk-J-Naming : goal.ghosts-tell_desk-J-Naming
 ghosts-tell_desk-J-Naming g a = record { list = a.opening.marks.name }
