@@ -1,5 +1,4 @@
 //! Arguments of trials: settings, instances, and keys of documents.
-use disco_hub::Hub;
 use disco_instance::Record;
 use disco_options::settings_of;
 use disco_registry::Op;
@@ -22,12 +21,6 @@ pub(crate) fn defaults(alloc: Global) -> Result<Settings, Fault> {
         Ok(settings) => Ok(settings),
         Err(_) => Err(Fault::OutOfMemory),
     }
-}
-
-/// An empty hub.
-pub(crate) fn empty_hub(alloc: Global) -> Result<Hub, Fault> {
-    let settings = defaults(alloc)?;
-    Ok(Hub::new(alloc, &settings))
 }
 
 /// The record of the instance of an id, of app A.

@@ -1,6 +1,6 @@
 //! Tries what no contract and no row of files says: streams that fail, more instances than a file of
-//! lines should have, calls that no event reaches, a host whose time jumps, and looks from several
-//! threads beside a desk that publishes.
+//! lines should have, a host whose time jumps, and looks from several threads beside a desk that
+//! publishes.
 //!
 //! It prints the result of each trial, and ends with status 1 where one fails.
 //!
@@ -9,16 +9,12 @@
 //! writes, loads and publishes where `busy` is 1.
 #![tactic(auto)]
 
-mod cache;
-mod calls;
-mod client;
 mod clocks;
 mod given;
 mod looking;
 mod press;
 mod program;
 mod publishing;
-mod rounds;
 mod seats;
 mod serving;
 mod timing;
@@ -35,46 +31,6 @@ use std::rt::{Clock, Env};
 use std::sync::Wait;
 use std::thread::Threads;
 use timing::Timing;
-
-fn try_registry<R: Print>(rt: &R, alloc: Global) -> io::Result<bool> {
-    let pushed = String::from_str(alloc, calls::HASH_CODE)?;
-    let shown = client::wanted(alloc)?;
-    let all = [
-        compared(
-            rt,
-            "the last change of a key",
-            &calls::WANTED,
-            calls::find(alloc),
-        )?,
-        compared(rt, "a hash code in room", &pushed, calls::push(alloc))?,
-        compared(rt, "the copy of a sample", &shown, client::show(alloc))?,
-    ];
-    Ok(all.iter().all(|well| *well))
-}
-
-fn try_hub<R: Print>(rt: &R, alloc: Global) -> io::Result<bool> {
-    let all = [
-        compared(
-            rt,
-            "documents kept by key",
-            &cache::WANTED_KEPT,
-            cache::keep(alloc),
-        )?,
-        compared(
-            rt,
-            "the change to come",
-            &cache::WANTED_TO_COME,
-            cache::prepare(alloc),
-        )?,
-        compared(
-            rt,
-            "a round left early",
-            &rounds::WANTED,
-            rounds::ask(alloc),
-        )?,
-    ];
-    Ok(all.iter().all(|well| *well))
-}
 
 fn try_streams<R: Print>(rt: &R, alloc: Global) -> io::Result<bool> {
     let (reads, writes) = (program::READS.len(), program::WRITES.len());
@@ -107,19 +63,10 @@ fn try_streams<R: Print>(rt: &R, alloc: Global) -> io::Result<bool> {
     Ok(all.iter().all(|well| *well))
 }
 
-fn try_calls<R: Print>(rt: &R, alloc: Global) -> io::Result<bool> {
-    let all = [
-        try_registry(rt, alloc)?,
-        try_hub(rt, alloc)?,
-        try_streams(rt, alloc)?,
-    ];
-    Ok(all.iter().all(|well| *well))
-}
-
 /// Tries all that takes one thread, and tells what came of the trial of two.
 fn tell_all<R: Print>(rt: &R, alloc: Global, threads: Result<Seen, Fault>) -> io::Result<bool> {
     let all = [
-        try_calls(rt, alloc)?,
+        try_streams(rt, alloc)?,
         compared(
             rt,
             "a host's time that jumps",

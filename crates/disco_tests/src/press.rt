@@ -45,11 +45,25 @@ fn found(looked: Looked) -> u64 {
     }
 }
 
+/// Registers an instance.
+fn register<J: Naming>(alloc: Global, desk: &mut Desk<J>) -> Result<(), Fault> {
+    let _ = desk.write(registration(alloc, "1")?, 1)?;
+    Ok(())
+}
+
 /// Registers an instance, and loads the document of all apps.
 fn fill<J: Naming>(alloc: Global, desk: &mut Desk<J>) -> Result<(), Fault> {
-    desk.write(registration(alloc, "1")?, 1)?;
+    register(alloc, desk)?;
     let _ = desk.load(&apps())?;
     Ok(())
+}
+
+/// The version of the document of all apps that a seat finds once it has learnt from the desk.
+fn learnt<J: Naming, R: Wait>(rt: &R, desk: &Mutex<Desk<J>>, seat: &mut Seat<J>) -> u64 {
+    let mut guard = desk.lock(rt);
+    seat.learn(&mut *guard);
+    MutexGuard::unlock(guard);
+    found(seat.look(&apps()))
 }
 
 /// As [`fill`], under the lock; then publishes a round.
@@ -69,10 +83,7 @@ fn publish_one<J: Naming, R: Wait>(
 fn see<J: Naming, R: Wait>(rt: &R, desk: &Mutex<Desk<J>>, mut seat: Seat<J>) -> (u64, Seat<J>) {
     let mut seen = 1000;
     for _ in rt.forever() {
-        let mut guard = desk.lock(rt);
-        seat.learn(&mut *guard);
-        MutexGuard::unlock(guard);
-        seen = found(seat.look(&apps()));
+        seen = learnt(rt, desk, &mut seat);
         if seen != 1000 {
             break;
         }

@@ -6,10 +6,28 @@ use std::alloc::Global;
 use std::sync::atomic::{AtomicU64, Ordering};
 use std::sync::{Mutex, MutexGuard, Wait};
 
+/// Registers the instance of the app of a number.
+fn register<J: Naming>(alloc: Global, desk: &mut Desk<J>, number: u64) -> Result<(), Fault> {
+    let _ = desk.write(registration_of(alloc, number)?, 0)?;
+    Ok(())
+}
+
+/// Loads the document of that app.
+fn load<J: Naming>(alloc: Global, desk: &mut Desk<J>, number: u64) -> Result<(), Fault> {
+    let key = app(alloc, number)?;
+    let _ = desk.load(&key)?;
+    Ok(())
+}
+
+/// Whether a document was copied.
+fn copy<J: Naming>(desk: &mut Desk<J>) -> Result<bool, Fault> {
+    Ok(desk.copy_one()?.is_some())
+}
+
 /// Copies all that is left of the open round, and publishes.
 fn publish<J: Naming, R: Wait>(rt: &R, desk: &mut Desk<J>) -> Result<(), Fault> {
     for _ in 0..u64::MAX {
-        if desk.copy_one()?.is_none() {
+        if !copy(desk)? {
             break;
         }
     }
@@ -24,8 +42,8 @@ fn change<J: Naming, R: Wait>(
     desk: &mut Desk<J>,
     number: u64,
 ) -> Result<(), Fault> {
-    desk.write(registration_of(alloc, number)?, 0)?;
-    let _ = desk.load(&app(alloc, number)?)?;
+    register(alloc, desk, number)?;
+    load(alloc, desk, number)?;
     desk.begin()?;
     publish(rt, desk)
 }
@@ -51,8 +69,8 @@ fn fill<J: Naming, R: Wait>(
     apps: u64,
 ) -> Result<(), Fault> {
     for number in 0..apps {
-        desk.write(registration_of(alloc, number)?, 0)?;
-        let _ = desk.load(&app(alloc, number)?)?;
+        register(alloc, desk, number)?;
+        load(alloc, desk, number)?;
     }
     desk.begin()?;
     publish(rt, desk)

@@ -1,4 +1,7 @@
 //! Connections of which one read or one write fails, each in turn.
+ghost use Rattle.std.specs.Prelude.{IsFalse};
+ghost use Rattle.disco_http.specs.Streams.{is_spent};
+
 use disco_http::{Counted, End, Reader, Served, Service, Writer, serve};
 use disco_message::{Document, Limits, Reply, Request, StatusCode};
 use disco_values::Fault;
@@ -118,21 +121,33 @@ impl Service for Clerk {
     }
 }
 
-/// Serves a connection. None where it isn't spent then, or where the clerk counted otherwise.
+/// Serves the connection of a reader. None where it isn't spent then, or where the clerk counted
+/// otherwise.
+fn converse_by(
+    alloc: Global,
+    reader: &mut Reader<Counted<Halting<'_, '_>>>,
+    paper: &mut Paper,
+) -> Result<Option<Served>, AllocError>
+    requires { IsFalse (is_spent reader.old) }
+{
+    let mut writer = Writer::new(alloc, Counted::new(Stopping { paper }))?;
+    let mut clerk = Clerk { answered: 0 };
+    let served = serve(alloc, reader, &mut writer, &mut clerk);
+    if reader.is_spent() && writer.is_spent() && served.requests == clerk.answered {
+        Ok(Some(served))
+    } else {
+        Ok(None)
+    }
+}
+
+/// As [`converse_by`], of a new reader.
 fn converse(
     alloc: Global,
     line: &mut Line<'_>,
     paper: &mut Paper,
 ) -> Result<Option<Served>, AllocError> {
     let mut reader = Reader::new(alloc, Counted::new(Halting { line }), Limits::of_server())?;
-    let mut writer = Writer::new(alloc, Counted::new(Stopping { paper }))?;
-    let mut clerk = Clerk { answered: 0 };
-    let served = serve(alloc, &mut reader, &mut writer, &mut clerk);
-    if reader.is_spent() && writer.is_spent() && served.requests == clerk.answered {
-        Ok(Some(served))
-    } else {
-        Ok(None)
-    }
+    converse_by(alloc, &mut reader, paper)
 }
 
 /// How a connection has to end.
