@@ -55,13 +55,23 @@ fn client_of(alloc: Global, document: &'static str) -> Result<Client<Always>, Fa
 /// and of one without a copy.
 pub(crate) const SAID: &str = "fleet 1 UP_1_\nclient 0 yes\nclient 1 no\nclient 2 no\n";
 
-/// What a fleet of these three says.
-pub(crate) fn say(alloc: Global) -> Result<String, Fault> {
+fn registry(alloc: Global) -> Result<Copy, Fault> {
     let mut registry = Copy::new(alloc);
     registry.full(read_document(alloc, ONE.as_bytes())?)?;
+    Ok(registry)
+}
+
+fn clients(alloc: Global) -> Result<Vec<Client<Always>>, Fault> {
     let mut clients = Vec::new(alloc);
     clients.push(client_of(alloc, ONE)?)?;
     clients.push(client_of(alloc, OTHER)?)?;
     clients.push(client(alloc, ONE))?;
+    Ok(clients)
+}
+
+/// What a fleet of these three says.
+pub(crate) fn say(alloc: Global) -> Result<String, Fault> {
+    let registry = registry(alloc)?;
+    let clients = clients(alloc)?;
     lines_of(alloc, &registry, clients.as_slice())
 }

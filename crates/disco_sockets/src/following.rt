@@ -90,18 +90,22 @@ pub(crate) fn register_and_follow<R: Net<Stream = TcpStream> + Clock>(
     Ok(registered && followed && paused)
 }
 
+/// A port that nobody listens on.
+fn free_port<R: Net<Listener = TcpListener, Stream = TcpStream>>(rt: &R) -> io::Result<u16> {
+    let listener = TcpListener::bind(rt, SocketAddr::from((Ipv4Addr::LOCALHOST, 0)))?;
+    Ok(listener.local_addr()?.port())
+}
+
 /// Where nobody listens the program says so and ends with 1.
 pub(crate) fn is_refused<R: Net<Listener = TcpListener, Stream = TcpStream> + Clock>(
     rt: &R,
     alloc: Global,
 ) -> io::Result<bool> {
-    let listener = TcpListener::bind(rt, SocketAddr::from((Ipv4Addr::LOCALHOST, 0)))?;
-    let port = listener.local_addr()?.port();
-    drop(listener);
+    let port = free_port(rt)?;
     let words = words_on(alloc, WORDS, port)?;
+    let why = format!(in alloc; "discovery: no connection to 127.0.0.1:{port}: ")?;
     let (mut out, mut errors) = (Counted::new(Vec::new(alloc)), Counted::new(Vec::new(alloc)));
     let status = follow(rt, alloc, &mut out, &mut errors, words.as_slice());
-    let why = format!(in alloc; "discovery: no connection to 127.0.0.1:{port}: ")?;
     let (out, errors) = (out.inner.as_slice(), errors.inner.as_slice());
     Ok(is_told_why(status, out, errors, why.as_str()))
 }

@@ -186,18 +186,18 @@ where
 }
 
 /// On a port that another listens on, the program says so and ends with 1.
-pub(crate) fn is_refused<J: Naming + Send + Sync, R>(
+fn is_refused_on<J: Naming + Send + Sync, R>(
     rt: &R,
     alloc: Global,
     opening: Opening,
+    port: u16,
 ) -> io::Result<bool>
 where
     R: Net<Listener = TcpListener, Stream = TcpStream> + Threads + Wait + Clock + Sync,
     requires opening { Opens J.list J.name J.parts opening }
 {
-    let listener = TcpListener::bind(rt, address(0))?;
-    let port = listener.local_addr()?.port();
     let words = words_on(alloc, ONCE, port)?;
+    let why = format!(in alloc; "discovery: no listening on 127.0.0.1:{port}: ")?;
     let (mut input, mut out) = (Counted::new(io::empty()), Counted::new(Vec::new(alloc)));
     let mut errors = Counted::new(Vec::new(alloc));
     let status = run::<J, R, _, _, _>(
@@ -209,7 +209,21 @@ where
         &mut errors,
         words.as_slice(),
     );
-    let why = format!(in alloc; "discovery: no listening on 127.0.0.1:{port}: ")?;
     let (out, errors) = (out.inner.as_slice(), errors.inner.as_slice());
     Ok(is_told_why(status, out, errors, why.as_str()))
+}
+
+/// The same of a port that is listened on meanwhile.
+pub(crate) fn is_refused<J: Naming + Send + Sync, R>(
+    rt: &R,
+    alloc: Global,
+    opening: Opening,
+) -> io::Result<bool>
+where
+    R: Net<Listener = TcpListener, Stream = TcpStream> + Threads + Wait + Clock + Sync,
+    requires opening { Opens J.list J.name J.parts opening }
+{
+    let listener = TcpListener::bind(rt, address(0))?;
+    let port = listener.local_addr()?.port();
+    is_refused_on::<J, R>(rt, alloc, opening, port)
 }

@@ -118,20 +118,30 @@ fn is_answered_in_time<R: Net<Stream = TcpStream> + rt::Clock>(
     Ok(hears(alloc, &stream, 204) && begun.elapsed(rt)?.as_millis() <= MOST_MILLIS)
 }
 
+/// A connection that sends these bytes and no more lets others in, and is closed, no earlier than after
+/// so many milliseconds.
+fn is_kept_out<R: Net<Listener = TcpListener, Stream = TcpStream> + Threads + rt::Clock + Sync>(
+    rt: &R,
+    alloc: Global,
+    server: SocketAddr,
+    bytes: &[u8],
+    least: u128,
+) -> io::Result<bool> {
+    let start = Instant::now(rt)?;
+    let begun = visit(rt, server)?;
+    send(&begun, bytes)?;
+    let well = is_let_in(rt, alloc, server, bytes)? && is_at_end(&begun);
+    Ok(well && start.elapsed(rt)?.as_millis() >= least)
+}
+
 /// Clients that send a head or a body byte by byte keep no other one out, and one whose head or body
 /// doesn't come to its end in time is closed. A body has more time than a head.
 pub(crate) fn are_kept_out<
     R: Net<Listener = TcpListener, Stream = TcpStream> + Threads + rt::Clock + Sync,
 >(rt: &R, alloc: Global, server: SocketAddr) -> io::Result<bool> {
-    let mut well = true;
-    for (bytes, least) in [(HALF, 0), (HEAD, BODY_MILLIS)] {
-        let start = Instant::now(rt)?;
-        let begun = visit(rt, server)?;
-        send(&begun, bytes)?;
-        well = is_let_in(rt, alloc, server, bytes)? && is_at_end(&begun) && well;
-        well = start.elapsed(rt)?.as_millis() >= least && well;
-    }
-    Ok(well)
+    let head = is_kept_out(rt, alloc, server, HALF, 0)?;
+    let body = is_kept_out(rt, alloc, server, HEAD, BODY_MILLIS)?;
+    Ok(head && body)
 }
 
 /// A connection that is silent for a while is served on, and ends when it is silent for longer than it
@@ -150,6 +160,43 @@ pub(crate) fn is_kept<R: Net<Stream = TcpStream> + rt::Clock>(
     Ok(answered && ends && begun.elapsed(rt)?.as_millis() >= u128::from(SILENT_MILLIS))
 }
 
+/// Whether each of these hears an answer.
+fn all_hear<R: rt::Clock>(rt: &R, alloc: Global, streams: &[TcpStream]) -> bool {
+    let mut well = true;
+    for stream in streams {
+        well = hears(alloc, stream, 204) && well;
+        sleep(rt, Duration::from_millis(DRIP_MILLIS));
+    }
+    well
+}
+
+/// Whether each of these is answered, one behind another.
+fn all_beat<R: rt::Clock>(rt: &R, alloc: Global, streams: &[TcpStream]) -> bool {
+    let mut well = true;
+    for stream in streams {
+        well = send(stream, BEAT).is_ok() && hears(alloc, stream, 204) && well;
+        sleep(rt, Duration::from_millis(DRIP_MILLIS));
+    }
+    well
+}
+
+/// Whether the first of these, which is then the one that is silent longest, ends for a new one, and the
+/// others are served on.
+fn first_gives_way<R: Net<Stream = TcpStream> + rt::Clock>(
+    rt: &R,
+    alloc: Global,
+    server: SocketAddr,
+    streams: &[TcpStream],
+) -> io::Result<bool> {
+    let [first, rest @ ..] = streams else {
+        return Ok(false);
+    };
+    let served = all_beat(rt, alloc, streams);
+    let another = visit(rt, server)?;
+    let let_in = send(&another, BEAT).is_ok() && hears(alloc, &another, 204);
+    Ok(served && let_in && all_beat(rt, alloc, rest) && is_at_end(first))
+}
+
 /// Where as many connections as there may be wait for requests, the one that is silent longest ends for
 /// a new one, and the others are served on.
 pub(crate) fn gives_way<R: Net<Stream = TcpStream> + rt::Clock>(
@@ -158,23 +205,8 @@ pub(crate) fn gives_way<R: Net<Stream = TcpStream> + rt::Clock>(
     server: SocketAddr,
     most: usize,
 ) -> io::Result<bool> {
-    let mut well = true;
     let streams = visits(rt, alloc, server, most, BEAT)?;
-    for stream in &streams {
-        well = hears(alloc, stream, 204) && well;
-        sleep(rt, Duration::from_millis(DRIP_MILLIS));
-    }
-    for stream in &streams {
-        well = send(stream, BEAT).is_ok() && hears(alloc, stream, 204) && well;
-        sleep(rt, Duration::from_millis(DRIP_MILLIS));
-    }
-    let another = visit(rt, server)?;
-    well = send(&another, BEAT).is_ok() && hears(alloc, &another, 204) && well;
-    let [first, rest @ ..] = streams.as_slice() else {
-        return Ok(false);
-    };
-    for stream in rest {
-        well = send(stream, BEAT).is_ok() && hears(alloc, stream, 204) && well;
-    }
-    Ok(is_at_end(first) && well)
+    let heard = all_hear(rt, alloc, streams.as_slice());
+    let well = first_gives_way(rt, alloc, server, streams.as_slice())?;
+    Ok(heard && well)
 }

@@ -99,13 +99,19 @@ pub(crate) fn many_requests<R: Net<Stream = TcpStream>>(
     Ok(is_at_end(&stream))
 }
 
+/// Whether a document of this version or a later one was found.
+fn is_since(looked: Looked, version: u64) -> bool {
+    match looked {
+        Looked::Doc(doc) => doc.version >= version,
+        Looked::Miss | Looked::Shut => false,
+    }
+}
+
 /// Whether a seat sees the document of all apps at last, at this version or a later one.
 fn sees<J: Naming, R: rt::Clock>(rt: &R, seat: &mut Seat<J>, version: u64) -> bool {
     let key = apps();
     for _ in 0..LOOKS {
-        if let Looked::Doc(doc) = seat.look(&key)
-            && doc.version >= version
-        {
+        if is_since(seat.look(&key), version) {
             return true;
         }
         nap(rt);

@@ -1,11 +1,14 @@
 //! A client of the command `serve` that turns the clock by which the program serves.
+ghost use Rattle.std.specs.Prelude.{◌≡◌, ◌⊎◌};
+ghost use Rattle.disco_values.specs.declared.query.Query.TheVariants.{Apps, Delta};
+
 use crate::client::{BEAT, hears, send, visit};
 use crate::dial::{Dial, START};
 use crate::trials::REGISTRATION;
 use disco_http::{Counted, Reader, Writer};
 use disco_message::Limits;
 use disco_reconcile::{Fetch, HttpFetch};
-use disco_values::{DocKey, Form, Query};
+use disco_values::{Cert, DocKey, Form, Query};
 use std::alloc::{AllocError, Global};
 use std::io;
 use std::net::{Net, SocketAddr, TcpStream};
@@ -66,6 +69,17 @@ fn register(alloc: Global, stream: &TcpStream) -> io::Result<bool> {
     Ok(hears(alloc, stream, 204))
 }
 
+/// The certificate of the full document of a query, where it has one.
+fn cert_of(fetches: &mut Fetches<'_>, query: Query) -> Option<Cert>
+    requires { (query ≡ Apps) ⊎ (query ≡ Delta) }
+{
+    let form = Form::Full;
+    match fetches.fetch(&DocKey { query, form }) {
+        Ok(fetched) => fetched.cert,
+        Err(_) => None,
+    }
+}
+
 /// Makes one more of so many changes. Whether all apps are then shown as they were before it. The run
 /// is the moment of the start.
 fn is_published(
@@ -74,29 +88,17 @@ fn is_published(
     fetches: &mut Fetches<'_>,
     changes: u64,
 ) -> io::Result<bool> {
-    let key = DocKey {
-        query: Query::Apps,
-        form: Form::Full,
-    };
     let registered = register(alloc, stream)?;
-    let Ok(fetched) = fetches.fetch(&key) else {
-        return Ok(false);
-    };
-    let shown = matches!(fetched.cert, Some(cert) if cert.run == START && cert.version < changes);
+    let cert = cert_of(fetches, Query::Apps);
+    let shown = cert.is_some_and(|cert| cert.run == START && cert.version < changes);
     Ok(registered && shown)
 }
 
 /// Makes one more change. Whether a delta then starts behind the first one.
 fn is_forgotten(alloc: Global, stream: &TcpStream, fetches: &mut Fetches<'_>) -> io::Result<bool> {
-    let key = DocKey {
-        query: Query::Delta,
-        form: Form::Full,
-    };
     let registered = register(alloc, stream)?;
-    let Ok(fetched) = fetches.fetch(&key) else {
-        return Ok(false);
-    };
-    Ok(registered && matches!(fetched.cert, Some(cert) if cert.base > 0))
+    let cert = cert_of(fetches, Query::Delta);
+    Ok(registered && cert.is_some_and(|cert| cert.base > 0))
 }
 
 /// Renews the instance twice, as often as it does in a minute. Whether it is gone.
@@ -125,6 +127,36 @@ fn has_come(
     }
 }
 
+/// Looks over a connection, and turns the clock on, over and over until that has come. Whether it has.
+fn sees_by<R: Clock>(
+    rt: &R,
+    alloc: Global,
+    stream: &TcpStream,
+    fetches: &mut Fetches<'_>,
+    dial: &Dial,
+    awaited: Awaited,
+) -> io::Result<bool> {
+    for look in 1..LOOKS {
+        if has_come(alloc, stream, fetches, awaited, look)? {
+            return Ok(true);
+        }
+        dial.turn_on(awaited.step());
+        sleep(rt, Duration::from_millis(NAP_MILLIS));
+    }
+    Ok(false)
+}
+
+fn sees_over<R: Clock>(
+    rt: &R,
+    alloc: Global,
+    stream: &TcpStream,
+    dial: &Dial,
+    awaited: Awaited,
+) -> io::Result<bool> {
+    let mut fetches = fetches(alloc, stream)?;
+    sees_by(rt, alloc, stream, &mut fetches, dial, awaited)
+}
+
 /// Turns the clock on over and over until that has come. Whether it has.
 fn sees<R: Net<Stream = TcpStream> + Clock>(
     rt: &R,
@@ -134,15 +166,7 @@ fn sees<R: Net<Stream = TcpStream> + Clock>(
     awaited: Awaited,
 ) -> io::Result<bool> {
     let stream = visit(rt, server)?;
-    let mut fetches = fetches(alloc, &stream)?;
-    for look in 1..LOOKS {
-        if has_come(alloc, &stream, &mut fetches, awaited, look)? {
-            return Ok(true);
-        }
-        dial.turn_on(awaited.step());
-        sleep(rt, Duration::from_millis(NAP_MILLIS));
-    }
-    Ok(false)
+    sees_over(rt, alloc, &stream, dial, awaited)
 }
 
 /// Whether a body that is too long for a server is refused before it comes.

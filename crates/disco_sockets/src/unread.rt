@@ -6,7 +6,7 @@ use disco_message::{Document, Limits, Reply, Request, StatusCode};
 use std::alloc::Global;
 use std::io;
 use std::io::Read;
-use std::net::{Net, TcpListener, TcpStream};
+use std::net::{Net, SocketAddr, TcpListener, TcpStream};
 use std::rt::Clock;
 use std::sync::Wait;
 
@@ -99,20 +99,44 @@ fn count(mut stream: &TcpStream) -> io::Result<usize> {
     Ok(all)
 }
 
-/// How many bytes the host takes of a reply with this document, which isn't read. None where it takes all.
+/// How many bytes the host takes of a reply with this document, which the client of this connection
+/// doesn't read. None where it takes all.
+fn taken_by<'p, R: Wait + Clock>(
+    rt: &R,
+    alloc: Global,
+    event_loop: &EventLoop<'_, Page<'p>, ()>,
+    stream: &TcpStream,
+    bytes: &'p [u8],
+) -> io::Result<Option<usize>> {
+    send(stream, LAST_APPS)?;
+    if !fill(rt, alloc, event_loop, bytes)? {
+        return Ok(None);
+    }
+    Ok(Some(count(stream)?))
+}
+
+/// The same of a new connection.
+fn taken_over<'p, R: Net<Stream = TcpStream> + Wait + Clock>(
+    rt: &R,
+    alloc: Global,
+    event_loop: &EventLoop<'_, Page<'p>, ()>,
+    server: SocketAddr,
+    bytes: &'p [u8],
+) -> io::Result<Option<usize>> {
+    let stream = visit(rt, server)?;
+    taken_by(rt, alloc, event_loop, &stream, bytes)
+}
+
+/// The same of a new server.
 fn taken_of<R>(rt: &R, alloc: Global, bytes: &[u8]) -> io::Result<Option<usize>>
 where
     R: Net<Listener = TcpListener, Stream = TcpStream> + Wait + Clock,
 {
     let listener = listen(rt, 0)?;
+    let server = listener.local_addr()?;
     let (limits, timeouts) = (Limits::of_server(), Timeouts::of_server());
     let event_loop = EventLoop::new(rt, alloc, &listener, limits, timeouts, 1, 1)?;
-    let stream = visit(rt, listener.local_addr()?)?;
-    send(&stream, LAST_APPS)?;
-    if !fill(rt, alloc, &event_loop, bytes)? {
-        return Ok(None);
-    }
-    Ok(Some(count(&stream)?))
+    taken_over(rt, alloc, &event_loop, server, bytes)
 }
 
 /// Whether the host takes some of a long reply that isn't read, and not much.
